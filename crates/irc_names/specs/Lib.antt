@@ -1,0 +1,2 @@
+pub mod CaseMapping
+pub mod Nick
