@@ -1,0 +1,10 @@
+pub mod First
+pub mod Tokens
+pub mod Params
+pub mod Segments
+pub mod Pieces
+pub mod Grammar
+pub mod Again
+pub mod Making
+pub mod Limit
+pub mod ReadOn

@@ -1,0 +1,13 @@
+use Rattle.std.proofs.Common.{◌≡◌, ◌-◌, ◌≤◌, ◌++◌, length}
+use Rattle.irc_line.specs.Lines.{segments_of, is_too_long, line_limit}
+use Rattle.irc_line.proofs.Limit.{is_over}
+use Rattle.irc_line.proofs.splitter.runs_over.Given as goal
+
+abbrev pub invariant-loop-room : goal.invariant-loop-room
+invariant-loop-room l = record {
+  reach : l.room ≤ line_limit;
+  same : is_over (line_limit - l.room) (segments_of l.left) ≡ is_too_long (l.fn.rest ++ l.fn.piece);
+}
+
+abbrev pub decreases-loop-room : goal.decreases-loop-room
+decreases-loop-room l = length l.left

@@ -1,0 +1,37 @@
+//! Laws of the definitions that the contracts cite.
+
+ghost use Rattle.std.specs.Prelude.{◌≡◌, ◌↔◌, IsTrue, ◌+◌, ◌++◌, ℕ, List, Some};
+ghost use Rattle.std.specs.List.{concat};
+ghost use Rattle.irc_line.specs.Line.{Parts};
+ghost use Rattle.irc_line.specs.Grammar.{Spells};
+ghost use Rattle.irc_line.specs.Reading.{line_of};
+ghost use Rattle.irc_line.specs.Writing.{is_writable, text_of};
+ghost use Rattle.irc_line.specs.Lines.{lines_of, rest_of, skipped_of, start, fed, fed_all, lines_all};
+
+/// It makes no difference how a stream is cut into pieces: they give the lines of all its bytes, and
+/// leave what one piece would leave.
+pub fn any_cutting()
+    ensures lines { (pieces : List (List ℕ)) → lines_all start pieces ≡ lines_of (concat pieces) }
+    ensures left { (pieces : List (List ℕ)) → fed_all start pieces ≡ fed start (concat pieces) }
+{}
+
+/// What bytes hold, from two parts of them.
+pub fn two_pieces()
+    ensures lines { (a b : List ℕ) → lines_of (a ++ b) ≡ lines_of a ++ lines_of (rest_of a ++ b) }
+    ensures left { (a b : List ℕ) → rest_of (a ++ b) ≡ rest_of (rest_of a ++ b) }
+    ensures skipped { (a b : List ℕ) → skipped_of (a ++ b) ≡ skipped_of a + skipped_of (rest_of a ++ b) }
+{}
+
+/// What a text is read as is what it spells by the grammar, and it spells no other line.
+pub fn the_grammar()
+    ensures sound { (line : Parts) (text : List ℕ) → line_of text ≡ Some line → Spells line text }
+    ensures complete { (line : Parts) (text : List ℕ) → Spells line text → line_of text ≡ Some line }
+    ensures one { (line other : Parts) (text : List ℕ) → Spells line text → Spells other text → line ≡ other }
+{}
+
+/// Parts can be written and read back exactly where the test says so; and where it says no, there is no
+/// text at all that is read as them.
+pub fn what_is_written()
+    ensures again { (line : Parts) → IsTrue (is_writable line) ↔ (line_of (text_of line) ≡ Some line) }
+    ensures any_text { (line : Parts) (text : List ℕ) → line_of text ≡ Some line → IsTrue (is_writable line) }
+{}

@@ -1,0 +1,13 @@
+//! Lines of IRC: one line by its grammar, read, made and written, and a stream of bytes cut into lines.
+#![tactic(auto)]
+
+pub mod laws;
+mod line;
+mod scan;
+mod splitter;
+mod tags;
+mod writing;
+
+pub use line::{Line, MakeError};
+pub use splitter::{FeedError, LINE_LIMIT, Splitter};
+pub use std::alloc::AllocError as OutOfMemory;

@@ -1,0 +1,264 @@
+//! One line.
+
+ghost use Rattle.std.specs.Prelude.{◌≡◌, ◌≤◌, ◌↔◌, ◌++◌, ℕ, List, Some, IsTrue, false, drop, length, map, slice_get, option_map, IfOk, IfSome, IfNone, OnOk, OnErr, IsErrOf};
+ghost use Rattle.std.specs.List.{flat_map};
+ghost use Rattle.irc_line.specs.Line.{Parts, nick_of, has_command};
+ghost use Rattle.irc_line.specs.Grammar.{Spells};
+ghost use Rattle.irc_line.specs.Reading.{body, line_of};
+ghost use Rattle.irc_line.specs.Tags.{time_of};
+ghost use Rattle.irc_line.specs.Writing.{param_text, text_of, written, is_writable, untagged_line, retagged, is_part};
+
+use crate::OutOfMemory;
+use crate::scan::{
+    count_params, is_a_command, is_clean, nick, nth_param, split_marked, split_token, trim,
+};
+use crate::tags::{is_time, tag_value};
+use crate::writing::{
+    are_all_params, is_a_part, params_room, part_room, push_all, push_marked, push_params,
+};
+use std::alloc::{Allocator, Global};
+use std::marker::Model;
+use thiserror::Error;
+
+/// A line: its tags, its source, its command and its parameters, as in
+/// `@time=2020-01-02T03:04:05.678Z :bob!b@h PRIVMSG #c :hi all`.
+///
+/// It is a copy of the line's text in one allocation, in which the parts are found on demand.
+#[derive(Clone, Drop)]
+pub struct Line<A: Allocator = Global> {
+    text: Vec<u8, A>,
+    // where the command stands
+    command_at: usize,
+}
+
+impl<A: Allocator> Model for Line<A> {
+    ghost use Rattle.std.specs.Prelude.{◌≡◌, ◌≤◌, IsTrue, length, drop};
+    ghost use Rattle.irc_line.specs.Line.{Parts};
+    ghost use Rattle.irc_line.specs.Reading.{parts_of, is_line, body};
+
+    ghost Value = { Parts };
+
+    ghost view = { λ l. parts_of l.text.items };
+
+    ghost invariant = { λ l. IsTrue (is_line l.text.items) × (l.command_at ≤ length l.text.items) × (drop l.command_at l.text.items ≡ body l.text.items) };
+}
+
+/// Why parts are no line.
+#[derive(Clone, Copy, Debug, PartialEq, Eq, Error)]
+pub enum MakeError {
+    /// There is no text that is read as these parts: a part that holds a space, a NUL, a CR or an LF
+    /// where none may stand, an empty tag part or source, a command that is none, or a parameter
+    /// before the last that is no word.
+    #[error("not a line")]
+    NotALine,
+    /// An allocation was refused.
+    #[error("out of memory")]
+    OutOfMemory,
+}
+
+impl From<OutOfMemory> for MakeError {
+    ghost use Rattle.irc_line.specs.declared.line.MakeError.TheVariants.{OutOfMemory as the_memory_error};
+
+    ghost from_gives = { λ _ e. e ≡ the_memory_error };
+
+    fn from(_e: OutOfMemory) -> MakeError {
+        MakeError::OutOfMemory
+    }
+}
+
+/// Where the command begins.
+fn body_place(text: &[u8]) -> usize
+    ensures within { result ≤ length text.now }
+    ensures at { drop result text.now ≡ body text.now }
+{
+    let (_, rest) = split_marked(b'@', trim(text));
+    let (_, rest) = split_marked(b':', rest);
+    text.len() - rest.len()
+}
+
+impl<A: Allocator> Line<A> {
+    fn parse(alloc: A, text: &[u8]) -> Result<Option<Line<A>>, OutOfMemory>
+    where
+        A: Drop,
+        ensures { IfOk result (λ line. line ≡ line_of text.now) }
+    {
+        let command_at = body_place(text);
+        let (command, _) = split_token(&text[command_at..]);
+        if !is_clean(text) || !is_a_command(command) {
+            return Ok(None);
+        }
+        let text = Vec::from_slice(alloc, text)?;
+        Ok(Some(Line { text, command_at }))
+    }
+
+    /// The line that the text is, without its ending; `None` where the text is outside the grammar
+    /// (RFC 2812, section 2.3.1; IRCv3 message-tags). One allocation, of the text's length.
+    pub fn read(alloc: A, text: &[u8]) -> Result<Option<Line<A>>, OutOfMemory>
+    where
+        A: Drop,
+        ensures value { IfOk result (λ line. line ≡ line_of text.now) }
+        // What is read is what the text spells.
+        ensures found { IfOk result (λ line. IfSome line (λ l. Spells l text.now)) }
+        // Nothing is read only where the text spells no line.
+        ensures none { IfOk result (λ line. IfNone line ((l : Parts) → Spells l text.now → ⊥)) }
+    {
+        Line::<A>::parse(alloc, text)
+    }
+
+    /// A line of these parts, without tags, as in `:a PRIVMSG #c :hi all`. `NotALine` comes exactly where
+    /// no text is read as these parts, and before memory is asked for.
+    pub fn make(
+        alloc: A,
+        source: Option<&[u8]>,
+        command: &[u8],
+        params: &[&[u8]],
+    ) -> Result<Line<A>, MakeError>
+    where
+        A: Drop,
+        ensures made { IfOk result (λ line. line ≡ untagged_line (option_map (λ s. s.now) source.entry) command.now (map (λ p. p.now) params.now)) }
+        ensures not_a_line { IsErrOf result MakeError.NotALine ↔ (is_writable (untagged_line (option_map (λ s. s.now) source.entry) command.now (map (λ p. p.now) params.now)) ≡ false) }
+    {
+        if !is_a_part(source) || !is_a_command(command) || !are_all_params(params) {
+            return Err(MakeError::NotALine);
+        }
+        let room = part_room(source)
+            .saturating_add(command.len())
+            .saturating_add(params_room(params));
+        let mut text = Vec::with_capacity(alloc, room)?;
+        push_marked(b':', source, &mut text)?;
+        text.extend_from_slice(command)?;
+        push_all(params, &mut text)?;
+        let command_at = body_place(&text);
+        Ok(Line { text, command_at })
+    }
+
+    /// What stands behind the `@`.
+    pub fn tags(&self) -> Option<&[u8]>
+        ensures { option_map (λ part. part.now) result ≡ self.now.tags }
+    {
+        split_marked(b'@', trim(&self.text)).0
+    }
+
+    /// What stands behind the first `:`, as `bob!b@h`.
+    pub fn source(&self) -> Option<&[u8]>
+        ensures { option_map (λ part. part.now) result ≡ self.now.source }
+    {
+        let (_, rest) = split_marked(b'@', trim(&self.text));
+        split_marked(b':', rest).0
+    }
+
+    /// The nick of the source: what stands before its first `!`, else before its first `@`, else all of it.
+    pub fn source_nick(&self) -> Option<&[u8]>
+        ensures { option_map (λ part. part.now) result ≡ option_map nick_of self.now.source }
+    {
+        Some(nick(self.source()?))
+    }
+
+    /// The command, in the letters in which it came.
+    pub fn command(&self) -> &[u8]
+        ensures { result.now ≡ self.now.command }
+    {
+        split_token(&self.text[self.command_at..]).0
+    }
+
+    /// Whether this is the command, without regard to the case of ASCII letters.
+    pub fn is(&self, command: &[u8]) -> bool
+        ensures { result ≡ has_command self.now command.now }
+    {
+        self.command().eq_ignore_ascii_case(command)
+    }
+
+    /// The parameter at this place, counted from 0, a last one without its colon; `None` from
+    /// `param_count` on.
+    pub fn param(&self, place: usize) -> Option<&[u8]>
+        ensures { option_map (λ param. param.now) result ≡ slice_get self.now.params place }
+    {
+        nth_param(split_token(&self.text[self.command_at..]).1, place)
+    }
+
+    /// How many parameters the line has. RFC 2812 allows fifteen; here there is no limit.
+    pub fn param_count(&self) -> usize
+        ensures { result ≡ length self.now.params }
+    {
+        count_params(split_token(&self.text[self.command_at..]).1)
+    }
+
+    /// The value of the first `time=` among the tags, where it has the form `2020-01-02T03:04:05.678Z`
+    /// (IRCv3 server-time); that the numbers name a moment is not asked.
+    pub fn time_tag(&self) -> Option<&[u8]>
+        ensures { option_map (λ value. value.now) result ≡ time_of self.now }
+    {
+        let value = tag_value(b"time=", self.tags()?)?;
+        if is_time(value) { Some(value) } else { None }
+    }
+
+    /// Adds the command and the parameters.
+    fn write_body<B: Allocator>(&self, out: &mut Vec<u8, B>) -> Result<(), OutOfMemory>
+        ensures ok { OnOk result (out.new.items ≡ out.old.items ++ (self.now.command ++ flat_map param_text self.now.params)) }
+        ensures err { OnErr result ((more : List ℕ) × (out.new.items ≡ out.old.items ++ more)) }
+    {
+        let (command, params) = split_token(&self.text[self.command_at..]);
+        out.extend_from_slice(command)?;
+        push_params(params, out)?;
+        Ok(())
+    }
+
+    fn write_parts<B: Allocator>(&self, out: &mut Vec<u8, B>) -> Result<(), OutOfMemory>
+        ensures ok { OnOk result (out.new.items ≡ out.old.items ++ written self.now) }
+        ensures err { OnErr result ((more : List ℕ) × (out.new.items ≡ out.old.items ++ more)) }
+    {
+        push_marked(b'@', self.tags(), out)?;
+        push_marked(b':', self.source(), out)?;
+        self.write_body(out)?;
+        out.extend_from_slice(b"\r\n")?;
+        Ok(())
+    }
+
+    /// Appends the line and CR LF. A colon stands before the last parameter only where that is empty,
+    /// begins with a colon or holds a space. After an error `out` is unchanged.
+    pub fn write<B: Allocator>(&self, out: &mut Vec<u8, B>) -> Result<(), OutOfMemory>
+        ensures ok { OnOk result (out.new.items ≡ out.old.items ++ written self.now) }
+        ensures err { OnErr result (out.new.items ≡ out.old.items) }
+        // What is written is read again.
+        ensures again { line_of (text_of self.now) ≡ Some self.now }
+    {
+        out.reserve(self.text.len() + 3)?;
+        let len = out.len();
+        let done = self.write_parts(out);
+        if done.is_err() {
+            out.truncate(len);
+        }
+        done
+    }
+}
+
+impl<A: Allocator + Copy> Line<A> {
+    /// The line with these tags in place of its own.
+    fn with_tags(&self, tags: Option<&[u8]>) -> Result<Line<A>, OutOfMemory>
+        requires { IsTrue (is_part (option_map (λ t. t.now) tags)) }
+        ensures { IfOk result (λ line. line ≡ retagged self.now (option_map (λ t. t.now) tags.entry)) }
+    {
+        let room = part_room(tags).saturating_add(self.text.len() + 1);
+        let mut text = Vec::with_capacity(*self.text.allocator(), room)?;
+        push_marked(b'@', tags, &mut text)?;
+        push_marked(b':', self.source(), &mut text)?;
+        self.write_body(&mut text)?;
+        let command_at = body_place(&text);
+        Ok(Line { text, command_at })
+    }
+
+    /// Gives the line these tags, or none, in place of its own. `NotALine` comes exactly where the tags
+    /// are empty or hold a space, a NUL, a CR or an LF, and before memory is asked for. After an error the
+    /// line is unchanged.
+    pub fn set_tags(&mut self, tags: Option<&[u8]>) -> Result<(), MakeError>
+        ensures ok { OnOk result (self.new ≡ retagged self.old (option_map (λ t. t.now) tags.entry)) }
+        ensures not_a_line { IsErrOf result MakeError.NotALine ↔ (is_part (option_map (λ t. t.now) tags.entry) ≡ false) }
+        ensures err { OnErr result (self.new ≡ self.old) }
+    {
+        if !is_a_part(tags) {
+            return Err(MakeError::NotALine);
+        }
+        *self = self.with_tags(tags)?;
+        Ok(())
+    }
+}
