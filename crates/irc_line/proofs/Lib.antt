@@ -8,3 +8,4 @@ pub mod Again
 pub mod Making
 pub mod Limit
 pub mod ReadOn
+pub mod Streams

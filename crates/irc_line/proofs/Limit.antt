@@ -3,14 +3,10 @@ use Rattle.std.proofs.Common.{◌≡◌, ℕ, suc, ◌+◌, ◌-◌, ◌<◌, �
 use Rattle.std.specs.Prelude.{nat_lt, ◌||◌}
 use Rattle.std.proofs.lemmas.Bool.{lt-ltb, le-ltb, ltb-false, eqb-true, false_from_ne_true}
 use Rattle.std.proofs.lemmas.List.{length-take-le, get_or-take, take-append-drop}
-use Rattle.std.specs.List.{list_any, AllByRecursion}
-use Rattle.irc_line.specs.Lines.{segments_of, rest_of, the_last, line_limit, is_too_long}
+use Rattle.std.specs.List.{list_any}
+use Rattle.irc_line.specs.Lines.{HasNoLf, segments_of, rest_of, the_last, line_limit, is_too_long}
 use Rattle.irc_line.proofs.Params.{sure}
-use Rattle.irc_line.proofs.Segments.{IsSplit, segments-some, segments-behind}
-
--- no LF among the bytes
-abbrev pub HasNoLf : List ℕ → Type 0
-HasNoLf bytes = AllByRecursion (λ b. (b == 10) ≡ false) bytes
+use Rattle.irc_line.proofs.Segments.{segments-some, segments-behind}
 
 abbrev pub is_long : List ℕ → Bool
 is_long segment = nat_lt line_limit (length segment)

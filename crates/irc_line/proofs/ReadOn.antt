@@ -1,11 +1,10 @@
 -- What a rest without LF and a piece behind it hold, from the first LF of the piece on.
-use Rattle.std.proofs.Common.{◌≡◌, ℕ, ◌+◌, Bool, true, false, List, ◌∷◌, ◌++◌, length, drop, refl, ap, sym, ◌∙◌, append_assoc, cond}
+use Rattle.std.proofs.Common.{◌≡◌, ℕ, ◌+◌, Bool, List, ◌∷◌, ◌++◌, length, drop, ap, sym, ◌∙◌, append_assoc, cond}
 use Rattle.std.specs.Prelude.{option_to_list}
 use Rattle.std.proofs.lemmas.List.{drop_at}
 use Rattle.irc_line.specs.Line.{Parts}
 use Rattle.irc_line.specs.Reading.{line_of}
-use Rattle.irc_line.specs.Lines.{segments_of, lines_of, rest_of, skipped_of, without_cr, is_skipped}
-use Rattle.irc_line.proofs.Limit.{HasNoLf}
+use Rattle.irc_line.specs.Lines.{HasNoLf, segments_of, lines_of, rest_of, skipped_of, without_cr, is_skipped}
 use Rattle.irc_line.proofs.Segments.{segments-behind, lines-at, rest-at, skipped-at}
 
 module _ (rest piece head after : List ℕ) (clean : HasNoLf rest) (cut : segments_of piece ≡ head ∷ segments_of after) where

@@ -1,14 +1,14 @@
 -- The segments of a stream, taken one by one from its front.
-use Rattle.std.proofs.Common.{◌≡◌, ℕ, suc, ◌+◌, ◌-◌, ◌<◌, ◌≤◌, Bool, true, false, List, [], ◌∷◌, ◌++◌, length, take, drop, refl, ap, arith, cond, Option, Some, None, length-append, ◌==◌, inl, inr, zero-add}
-use Rattle.std.specs.Prelude.{nat_lt, ◌||◌, option_to_list}
+use Rattle.std.proofs.Common.{◌≡◌, ℕ, suc, ◌+◌, ◌<◌, ◌≤◌, false, List, [], ◌∷◌, ◌++◌, length, take, drop, refl, arith, cond, Option, Some, None, ◌==◌, inl, inr}
+use Rattle.std.specs.Prelude.{nat_lt, option_to_list}
 use Rattle.std.proofs.lemmas.Bool.{ltb-false, ltb-true}
-use Rattle.std.proofs.lemmas.List.Splits.{slice_split_first, join_with_byte-slice_split}
+use Rattle.std.proofs.lemmas.List.Splits.{slice_split_first}
 use Rattle.std.proofs.lemmas.List.Sums.{sum_by-cons}
-use Rattle.std.specs.List.{position, position_or_len, slice_split, onto_first, AllByRecursion, cons_option}
+use Rattle.std.specs.List.{position, position_or_len, slice_split, onto_first, cons_option}
 use Rattle.irc_line.specs.Reading.{line_of}
-use Rattle.irc_line.specs.Lines.{segments_of, all_but_last, the_last, ended_of, rest_of, lines_of, skipped_of, without_cr, is_skipped}
+use Rattle.irc_line.specs.Lines.{HasNoLf, segments_of, all_but_last, the_last, ended_of, rest_of, lines_of, skipped_of, without_cr, is_skipped}
 use Rattle.irc_line.proofs.Params.{sure}
-use Rattle.irc_line.proofs.Tokens.{none-at, some-at, EndsIn, EndsIn-cons, EndsIn-length, EndsIn-drop}
+use Rattle.irc_line.proofs.Tokens.{none-at, some-at}
 
 -- the place of a byte is its first, and within the text
 position-below : (byte : ℕ) (bytes : List ℕ) (n : ℕ) → position (λ b. b == byte) bytes ≡ Some n → (position_or_len (λ b. b == byte) bytes ≡ n) × (n < length bytes)
@@ -54,7 +54,7 @@ segments-some (b ∷ bs) =
     ]
 
 -- the first segment of bytes behind bytes without LF begins with these
-pub segments-behind : (held bytes first : List ℕ) (others : List (List ℕ)) → AllByRecursion (λ b. (b == 10) ≡ false) held → segments_of bytes ≡ first ∷ others → segments_of (held ++ bytes) ≡ (held ++ first) ∷ others
+pub segments-behind : (held bytes first : List ℕ) (others : List (List ℕ)) → HasNoLf held → segments_of bytes ≡ first ∷ others → segments_of (held ++ bytes) ≡ (held ++ first) ∷ others
 segments-behind [] bytes first others clean e = e
 segments-behind (b ∷ held) bytes first others clean e = rw (clean.0, segments-behind held bytes first others clean.1 e) refl
 
@@ -76,7 +76,7 @@ segments-append (c ∷ cs) b =
     inside (o ∷ os) e = refl
 
 -- what stands behind the last LF has none
-pub rest-clean : (bytes : List ℕ) → AllByRecursion (λ b. (b == 10) ≡ false) (rest_of bytes)
+pub rest-clean : (bytes : List ℕ) → HasNoLf (rest_of bytes)
 rest-clean [] = tt
 rest-clean (b ∷ bs) =
     let s = segments-some bs in
@@ -89,19 +89,19 @@ rest-clean (b ∷ bs) =
     first : List ℕ
     first = (segments-some bs).first
 
-    inside : (others : List (List ℕ)) → (b == 10) ≡ false → AllByRecursion (λ c. (c == 10) ≡ false) (the_last (first ∷ others)) → AllByRecursion (λ c. (c == 10) ≡ false) (the_last ((b ∷ first) ∷ others))
+    inside : (others : List (List ℕ)) → (b == 10) ≡ false → HasNoLf (the_last (first ∷ others)) → HasNoLf (the_last ((b ∷ first) ∷ others))
     inside [] e clean = (e, clean)
     inside (o ∷ os) e clean = clean
 
 -- what the segments before a place give
 
-all_but_last-cons : (part : List ℕ) (cuts : List (List ℕ)) → IsSplit cuts → all_but_last (part ∷ cuts) ≡ part ∷ all_but_last cuts
-all_but_last-cons part [] s = cc s.whole
-all_but_last-cons part (x ∷ xs) s = refl
+pub ended-cons : (part : List ℕ) (cuts : List (List ℕ)) → IsSplit cuts → all_but_last (part ∷ cuts) ≡ part ∷ all_but_last cuts
+ended-cons part [] s = cc s.whole
+ended-cons part (x ∷ xs) s = refl
 
-the_last-cons : (part : List ℕ) (cuts : List (List ℕ)) → IsSplit cuts → the_last (part ∷ cuts) ≡ the_last cuts
-the_last-cons part [] s = cc s.whole
-the_last-cons part (x ∷ xs) s = refl
+pub last-cons : (part : List ℕ) (cuts : List (List ℕ)) → IsSplit cuts → the_last (part ∷ cuts) ≡ the_last cuts
+last-cons part [] s = cc s.whole
+last-cons part (x ∷ xs) s = refl
 
 cons_option-is : {X : Type 0} → (o : Option X) (xs : List X) → cons_option o xs ≡ option_to_list o ++ xs
 cons_option-is None xs = refl
@@ -110,14 +110,14 @@ cons_option-is (Some x) xs = refl
 -- An LF: these bytes are a segment, the LF and more.
 pub lines-at : (bytes part after : List ℕ) → segments_of bytes ≡ part ∷ segments_of after → lines_of bytes ≡ option_to_list (line_of (without_cr part)) ++ lines_of after
 lines-at bytes part after e =
-    rw (e, all_but_last-cons part (segments_of after) (segments-some after)) (cons_option-is (line_of (without_cr part)) (lines_of after))
+    rw (e, ended-cons part (segments_of after) (segments-some after)) (cons_option-is (line_of (without_cr part)) (lines_of after))
 
 pub rest-at : (bytes part after : List ℕ) → segments_of bytes ≡ part ∷ segments_of after → rest_of bytes ≡ rest_of after
-rest-at bytes part after e = rw e (the_last-cons part (segments_of after) (segments-some after))
+rest-at bytes part after e = rw e (last-cons part (segments_of after) (segments-some after))
 
 pub skipped-at : (bytes part after : List ℕ) → segments_of bytes ≡ part ∷ segments_of after → skipped_of bytes ≡ cond (is_skipped (without_cr part)) 1 0 + skipped_of after
 skipped-at bytes part after e =
-    rw (e, all_but_last-cons part (segments_of after) (segments-some after)) (sum_by-cons (λ p. cond (is_skipped (without_cr p)) 1 0) part (ended_of after))
+    rw (e, ended-cons part (segments_of after) (segments-some after)) (sum_by-cons (λ p. cond (is_skipped (without_cr p)) 1 0) part (ended_of after))
 
 -- No LF: these bytes are one segment.
 pub lines-none : (bytes : List ℕ) → segments_of bytes ≡ bytes ∷ [] → lines_of bytes ≡ []

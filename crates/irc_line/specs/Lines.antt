@@ -1,7 +1,7 @@
 -- The lines of a stream of bytes (RFC 2812, section 2.3: CR LF ends a line; that LF alone ends one too is our
 -- own choice).
-use Rattle.std.specs.Prelude.{ℕ, ◌+◌, ◌-◌, ◌^◌, Bool, ◌&&◌, not, ◌==◌, nat_lt, List, [], ◌∷◌, ◌++◌, length, if◌then◌else◌, count_by, slice_index, take, min}
-use Rattle.std.specs.List.{list_any, filter_map, slice_split}
+use Rattle.std.specs.Prelude.{◌≡◌, ℕ, ◌+◌, ◌-◌, ◌^◌, Bool, false, ◌&&◌, not, ◌==◌, nat_lt, List, [], ◌∷◌, ◌++◌, length, if◌then◌else◌, count_by, slice_index, take, min}
+use Rattle.std.specs.List.{AllByRecursion, list_any, filter_map, slice_split}
 use Rattle.irc_line.specs.Line.{Parts}
 use Rattle.irc_line.specs.Reading.{is_line, line_of, trimmed}
 
@@ -18,6 +18,13 @@ abbrev pub the_last : List (List ℕ) → List ℕ
 the_last [] = []
 the_last (x ∷ []) = x
 the_last (x ∷ y ∷ xs) = the_last (y ∷ xs)
+
+-- no LF among the bytes
+abbrev pub HasNoLf : List ℕ → Type 0
+HasNoLf bytes = AllByRecursion (λ b. (b == 10) ≡ false) bytes
+
+abbrev pub with_lf : List ℕ → List ℕ
+with_lf segment = segment ++ 10 ∷ []
 
 -- the segments that an LF ends
 abbrev pub ended_of : List ℕ → List (List ℕ)

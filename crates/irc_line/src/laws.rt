@@ -1,12 +1,20 @@
 //! Laws of the definitions that the contracts cite.
 
-ghost use Rattle.std.specs.Prelude.{◌≡◌, ◌↔◌, IsTrue, ◌+◌, ◌++◌, ℕ, List, Some};
-ghost use Rattle.std.specs.List.{concat};
+ghost use Rattle.std.specs.Prelude.{◌≡◌, ◌↔◌, IsTrue, ◌+◌, ◌++◌, [], ◌∷◌, ℕ, List, Some};
+ghost use Rattle.std.specs.List.{AllByRecursion, concat, flat_map};
 ghost use Rattle.irc_line.specs.Line.{Parts};
 ghost use Rattle.irc_line.specs.Grammar.{Spells};
 ghost use Rattle.irc_line.specs.Reading.{line_of};
 ghost use Rattle.irc_line.specs.Writing.{is_writable, text_of};
-ghost use Rattle.irc_line.specs.Lines.{lines_of, rest_of, skipped_of, start, fed, fed_all, lines_all};
+ghost use Rattle.irc_line.specs.Lines.{HasNoLf, with_lf, segments_of, ended_of, lines_of, rest_of, skipped_of, start, fed, fed_all, lines_all};
+
+/// Any bytes are segments without LF, each with an LF behind it, and then a rest without LF; and segments
+/// and a rest of which bytes are made in this way are the ones that are read off them.
+pub fn the_segments()
+    ensures whole { (bytes : List ℕ) → flat_map with_lf (ended_of bytes) ++ rest_of bytes ≡ bytes }
+    ensures without_lf { (bytes : List ℕ) → AllByRecursion HasNoLf (segments_of bytes) }
+    ensures no_others { (ended : List (List ℕ)) (rest : List ℕ) → AllByRecursion HasNoLf ended → HasNoLf rest → (ended_of (flat_map with_lf ended ++ rest) ≡ ended) × (rest_of (flat_map with_lf ended ++ rest) ≡ rest) }
+{}
 
 /// It makes no difference how a stream is cut into pieces: they give the lines of all its bytes, and
 /// leave what one piece would leave.

@@ -11,3 +11,6 @@ mod writing;
 pub use line::{Line, MakeError};
 pub use splitter::{FeedError, LINE_LIMIT, Splitter};
 pub use std::alloc::AllocError as OutOfMemory;
+
+#[cfg(test)]
+mod tests;

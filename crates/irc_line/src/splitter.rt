@@ -1,10 +1,9 @@
 //! A stream of bytes, cut into lines.
 
-ghost use Rattle.std.specs.Prelude.{◌≡◌, ◌≤◌, ◌<◌, ◌+◌, ◌↔◌, ◌==◌, false, ◌++◌, List, [], ◌∷◌, ℕ, IfOk, IfNone, IfSome, OnOk, OnErr, IsErrOf, IsTrue, length, drop, option_to_list};
-ghost use Rattle.std.specs.List.{AllByRecursion};
+ghost use Rattle.std.specs.Prelude.{◌≡◌, ◌≤◌, ◌<◌, ◌+◌, ◌↔◌, ◌++◌, List, [], ◌∷◌, ℕ, IfOk, IfNone, IfSome, OnOk, OnErr, IsErrOf, IsTrue, length, drop, option_to_list};
 ghost use Rattle.irc_line.specs.Line.{Parts};
 ghost use Rattle.irc_line.specs.Reading.{line_of};
-ghost use Rattle.irc_line.specs.Lines.{segments_of, lines_of, rest_of, skipped_of, without_cr, is_skipped, is_too_long, line_limit, start, fed};
+ghost use Rattle.irc_line.specs.Lines.{HasNoLf, lines_of, rest_of, skipped_of, without_cr, is_skipped, is_too_long, line_limit, start, fed};
 
 use crate::OutOfMemory;
 use crate::line::Line;
@@ -48,15 +47,14 @@ pub struct Splitter<A: Allocator = Global> {
 }
 
 impl<A: Allocator> Model for Splitter<A> {
-    ghost use Rattle.std.specs.Prelude.{◌≡◌, ◌≤◌, ◌==◌, false, length};
-    ghost use Rattle.std.specs.List.{AllByRecursion};
-    ghost use Rattle.irc_line.specs.Lines.{Pending, line_limit};
+    ghost use Rattle.std.specs.Prelude.{◌≤◌, length};
+    ghost use Rattle.irc_line.specs.Lines.{HasNoLf, Pending, line_limit};
 
     ghost Value = { Pending };
 
     ghost view = { λ s. record { rest = s.rest.items; skipped = s.skipped } };
 
-    ghost invariant = { λ s. AllByRecursion (λ b. (b == 10) ≡ false) s.rest.items × (length s.rest.items ≤ line_limit) };
+    ghost invariant = { λ s. HasNoLf s.rest.items × (length s.rest.items ≤ line_limit) };
 }
 
 fn strip_cr(segment: &[u8]) -> &[u8]
@@ -72,7 +70,7 @@ fn strip_cr(segment: &[u8]) -> &[u8]
 ///
 /// The last LF within reach is looked for, so that most of the piece is passed over unread.
 fn runs_over(rest: &[u8], piece: &[u8]) -> bool
-    requires no_lf { AllByRecursion (λ b. (b == 10) ≡ false) rest.now }
+    requires no_lf { HasNoLf rest.now }
     requires short { length rest.now ≤ line_limit }
     ensures { result ≡ is_too_long (rest.now ++ piece.now) }
 {
@@ -166,7 +164,7 @@ fn read_on<A: Allocator + Copy, B: Allocator>(
     piece: &[u8],
     out: &mut Vec<Line<A>, B>,
 ) -> Result<u64, OutOfMemory>
-    requires { AllByRecursion (λ b. (b == 10) ≡ false) rest.old.items }
+    requires { HasNoLf rest.old.items }
     ensures added { OnOk result (out.new.items ≡ out.old.items ++ lines_of (rest.old.items ++ piece.now)) }
     ensures left { OnOk result (rest.new.items ≡ rest_of (rest.old.items ++ piece.now)) }
     ensures skips { IfOk result (λ skipped. skipped ≡ skipped_of (rest.old.items ++ piece.now)) }

@@ -1,7 +1,4 @@
-use Rattle.std.proofs.Common.{◌≡◌, [], ◌∷◌, ◌+◌, ◌++◌, sym, ◌∙◌, ap, arith, append_assoc, append-nil, true, false, rules}
-use Rattle.std.specs.Prelude.{option_to_list}
-use Rattle.irc_line.specs.Reading.{line_of}
-use Rattle.irc_line.specs.Lines.{lines_of, rest_of, skipped_of, segments_of, without_cr, is_skipped}
+use Rattle.std.proofs.Common.{[], ◌++◌, sym, arith, append-nil, rules}
 use Rattle.irc_line.proofs.Segments.{segments-behind, lines-none, rest-none, skipped-none}
 use Rattle.irc_line.proofs.ReadOn.{lines-on, rest-on, skipped-on}
 use Rattle.irc_line.proofs.splitter.read_on.Goals as goal

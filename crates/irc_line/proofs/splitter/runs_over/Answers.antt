@@ -1,6 +1,6 @@
-use Rattle.std.proofs.Common.{◌≡◌, ◌≤◌, ◌-◌, ◌+◌, ◌++◌, length, sym, ◌∙◌, arith, true, false}
-use Rattle.irc_line.specs.Lines.{segments_of, is_too_long, line_limit}
-use Rattle.irc_line.proofs.Limit.{is_over, is_too_long-behind, over-short, over-none, over-last}
+use Rattle.std.proofs.Common.{◌≡◌, ◌≤◌, ◌-◌, ◌+◌, length, sym, ◌∙◌, arith}
+use Rattle.irc_line.specs.Lines.{line_limit}
+use Rattle.irc_line.proofs.Limit.{is_too_long-behind, over-short, over-none, over-last}
 use Rattle.std.proofs.lemmas.List.{take_rest, length-take-le}
 use Rattle.irc_line.proofs.splitter.runs_over.Goals as goal
 
@@ -24,8 +24,8 @@ pub loop-room-preserved : goal.loop-room-preserved
 loop-room-preserved c =
     let near : c.in-Some.last ≤ c.loop-room.room = omega (arith, c.in-Some.ensures.0.high, length-take-le (c.loop-room.room + 1) c.loop-room.left.now (omega (arith, c.loop-room-test.true))) in
     record {
-  reach = omega arith;
-  same =
-      rw (take_rest c.loop-room.left.now (c.in-Some.last + 1))
-      (over-last c.loop-room.room c.in-Some.last c.loop-room.left.now c.loop-room.invariant.reach near c.loop-room-test.true c.in-Some.ensures.1 ∙ c.loop-room.invariant.same);
-}
+      reach = omega arith;
+      same =
+          rw (take_rest c.loop-room.left.now (c.in-Some.last + 1))
+          (over-last c.loop-room.room c.in-Some.last c.loop-room.left.now c.loop-room.invariant.reach near c.loop-room-test.true c.in-Some.ensures.1 ∙ c.loop-room.invariant.same);
+    }

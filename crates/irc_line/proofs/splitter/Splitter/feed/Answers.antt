@@ -1,4 +1,4 @@
-use Rattle.std.proofs.Common.{◌≡◌, ◌++◌, false, sym, ◌∙◌, ap, rules}
+use Rattle.std.proofs.Common.{◌≡◌, ◌++◌, false, rules}
 use Rattle.irc_line.specs.Lines.{rest_of, is_too_long}
 use Rattle.irc_line.proofs.Segments.{rest-clean}
 use Rattle.irc_line.proofs.Limit.{rest-short}
