@@ -132,6 +132,19 @@ impl<A: Allocator> Line<A> {
         Ok(Line { text, command_at })
     }
 
+    /// A copy of the line over another allocator.
+    pub fn copy_in<B: Allocator>(&self, alloc: B) -> Result<Line<B>, OutOfMemory>
+    where
+        B: Drop,
+        ensures { IfOk result (λ line. line ≡ self.now) }
+    {
+        let text = Vec::from_slice(alloc, &self.text)?;
+        Ok(Line {
+            text,
+            command_at: self.command_at,
+        })
+    }
+
     /// What stands behind the `@`.
     pub fn tags(&self) -> Option<&[u8]>
         ensures { option_map (λ part. part.now) result ≡ self.now.tags }

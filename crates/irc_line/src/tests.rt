@@ -246,6 +246,7 @@ fn tags_set_and_taken_away(rt: HostRuntime) -> Result<(), Fail> {
     assert!(rt; written(rt.alloc(), &line)?.as_slice() == b":a PRIVMSG #a :\r\n".as_slice());
     let mut out = b"PING\r\n".to_vec(rt.alloc())?;
     line.clone()?.write(&mut out)?;
-    assert!(rt; out.as_slice() == b"PING\r\n:a PRIVMSG #a :\r\n".as_slice());
+    line.copy_in(rt.alloc())?.write(&mut out)?;
+    assert!(rt; out.as_slice() == b"PING\r\n:a PRIVMSG #a :\r\n:a PRIVMSG #a :\r\n".as_slice());
     Ok(())
 }
