@@ -1,0 +1,42 @@
+-- Name lists: the words of RPL_NAMREPLY, 353 (RFC 2812, section 5.1), as IRCv3 multi-prefix has them: all
+-- symbols of a member stand before the nick.
+use Rattle.std.specs.Prelude.{ℕ, Bool, false, not, ◌==◌, List, length, map, filter, take_while, drop, is_some}
+use Rattle.std.specs.List.{before_first, slice_split}
+use Rattle.std.specs.Option.{option_map_or}
+use Rattle.irc_support.specs.Text.{Text, has_byte}
+use Rattle.irc_support.specs.Tokens.{Token}
+use Rattle.irc_support.specs.Ranking.{all_ranks, rank_of_symbol, symbol_of}
+
+-- a member of a name list: the ranks whose symbols stand before the nick, highest first, and the nick
+pub record Word : Type 0 where
+  pub ranks : List ℕ
+  pub nick : Text
+
+-- the texts between spaces
+abbrev pub words_between : Text → List Text
+words_between text = filter (λ (word : Text). not (length word == 0)) (slice_split (λ b. b == 32) text)
+
+abbrev pub is_rank_symbol : List Token → ℕ → Bool
+is_rank_symbol settings b = is_some (rank_of_symbol settings b)
+
+-- the symbols at the front of a word, and what follows them
+abbrev pub symbols_before : List Token → Text → Text
+symbols_before settings word = take_while (is_rank_symbol settings) word
+
+abbrev pub after_symbols : List Token → Text → Text
+after_symbols settings word = drop (length (symbols_before settings word)) word
+
+-- whether the symbol of the rank is one of these
+abbrev pub shows_rank : List Token → Text → ℕ → Bool
+shows_rank settings symbols rank = option_map_or (has_byte symbols) (symbol_of settings rank) false
+
+-- the member that a word names; a nick ends before its first `!`, where the word has user and host
+abbrev pub word_of : List Token → Text → Word
+word_of settings word = record {
+  ranks = filter (shows_rank settings (symbols_before settings word)) all_ranks;
+  nick = before_first (λ b. b == 33) (after_symbols settings word);
+}
+
+-- the members that the last parameter of a 353 names
+unfoldable pub words : List Token → Text → List Word
+words settings text = map (word_of settings) (words_between text)

@@ -1,0 +1,6 @@
+//! What a network says of itself by 005 RPL_ISUPPORT, and what it makes of mode changes and name lists.
+#![tactic(auto)]
+
+mod kind;
+
+pub use kind::Kind;
