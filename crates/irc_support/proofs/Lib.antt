@@ -1,1 +1,2 @@
+pub mod RankSets
 mod Rows

@@ -9,6 +9,7 @@ use Rattle.irc_support.specs.declared.kind.Kind.TheVariants.{Prefix, C, D, Unkno
 use Rattle.irc_support.specs.Settings.{mapping_of, key_by, is_channel}
 use Rattle.irc_support.specs.ModeChanges.{changes}
 use Rattle.irc_support.specs.NamesReply.{words}
+use Rattle.irc_support.specs.Ranks.{rank_count, ranks_that}
 
 -- `:s 005 Me A=1 B -A A=2 C= =x :text`
 tokens_in_order : set_tokens [] (codes "Me" ∷ codes "A=1" ∷ codes "B" ∷ codes "-A" ∷ codes "A=2" ∷ codes "C=" ∷ codes "=x" ∷ codes "text" ∷ []) ≡ (codes "B", None) ∷ (codes "A", Some (codes "2")) ∷ (codes "C", Some []) ∷ []
@@ -137,12 +138,12 @@ missing_parameter = refl
 
 -- `353 Me = #c :Me @+bob  +eve!e@h @`
 words_of_a_name_list : words [] (codes "Me @+bob  +eve!e@h @") ≡ record { ranks = []; nick = codes "Me" } ∷ record { ranks = 0 ∷ 1 ∷ []; nick = codes "bob" } ∷ record { ranks = 1 ∷ []; nick = codes "eve" } ∷ record { ranks = 0 ∷ []; nick = [] } ∷ []
-unfolding words ranking_of spelled_by
+unfolding words ranks_that rank_count ranking_of spelled_by
 words_of_a_name_list = refl
 
 -- symbols in any order, each as often as it stands
 symbols_in_any_order : words [] (codes "+@+bob") ≡ record { ranks = 0 ∷ 1 ∷ []; nick = codes "bob" } ∷ []
-unfolding words ranking_of spelled_by
+unfolding words ranks_that rank_count ranking_of spelled_by
 symbols_in_any_order = refl
 
 a_word : is_word (codes "a:b") ≡ true

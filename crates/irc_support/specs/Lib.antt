@@ -1,6 +1,8 @@
 pub mod Text
 pub mod Tokens
 pub mod Ranking
+pub mod Ranks
+pub mod RankBits
 pub mod ChanModes
 pub mod Settings
 pub mod ModeChanges

@@ -5,7 +5,8 @@ use Rattle.std.specs.List.{before_first, slice_split}
 use Rattle.std.specs.Option.{option_map_or}
 use Rattle.irc_support.specs.Text.{Text, has_byte}
 use Rattle.irc_support.specs.Tokens.{Token}
-use Rattle.irc_support.specs.Ranking.{all_ranks, rank_of_symbol, symbol_of}
+use Rattle.irc_support.specs.Ranking.{rank_of_symbol, symbol_of}
+use Rattle.irc_support.specs.Ranks.{ranks_that}
 
 -- a member of a name list: the ranks whose symbols stand before the nick, highest first, and the nick
 pub record Word : Type 0 where
@@ -33,7 +34,7 @@ shows_rank settings symbols rank = option_map_or (has_byte symbols) (symbol_of s
 -- the member that a word names; a nick ends before its first `!`, where the word has user and host
 abbrev pub word_of : List Token → Text → Word
 word_of settings word = record {
-  ranks = filter (shows_rank settings (symbols_before settings word)) all_ranks;
+  ranks = ranks_that (shows_rank settings (symbols_before settings word));
   nick = before_first (λ b. b == 33) (after_symbols settings word);
 }
 

@@ -7,10 +7,6 @@ use Rattle.std.specs.Str.{bytes_eq}
 use Rattle.irc_support.specs.Text.{Text, has_byte, is_distinct}
 use Rattle.irc_support.specs.Tokens.{Token, value_of}
 
--- as many as PREFIX can name
-abbrev pub all_ranks : List ℕ
-all_ranks = 0 ∷ 1 ∷ 2 ∷ 3 ∷ 4 ∷ 5 ∷ 6 ∷ 7 ∷ 8 ∷ 9 ∷ 10 ∷ 11 ∷ 12 ∷ 13 ∷ 14 ∷ 15 ∷ []
-
 -- Letters and symbols by rank. MODE gives a rank by its letter; RPL_NAMREPLY shows it by its symbol.
 pub record Ranking : Type 0 where
   pub letters : Text

@@ -2,5 +2,7 @@
 #![tactic(auto)]
 
 mod kind;
+mod ranks;
 
 pub use kind::Kind;
+pub use ranks::Ranks;
