@@ -1,2 +1,4 @@
 pub mod RankSets
+pub mod TokenTable
+pub mod ParamRest
 mod Rows

@@ -1,5 +1,6 @@
 pub mod Text
 pub mod Tokens
+pub mod Edits
 pub mod Ranking
 pub mod Ranks
 pub mod RankBits

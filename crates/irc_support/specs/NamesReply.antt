@@ -1,9 +1,9 @@
 -- Name lists: the words of RPL_NAMREPLY, 353 (RFC 2812, section 5.1), as IRCv3 multi-prefix has them: all
 -- symbols of a member stand before the nick.
 use Rattle.std.specs.Prelude.{ℕ, Bool, false, not, ◌==◌, List, length, map, filter, take_while, drop, is_some}
-use Rattle.std.specs.List.{before_first, slice_split}
+use Rattle.std.specs.List.{slice_split}
 use Rattle.std.specs.Option.{option_map_or}
-use Rattle.irc_support.specs.Text.{Text, has_byte}
+use Rattle.irc_support.specs.Text.{Text, has_byte, cut_at}
 use Rattle.irc_support.specs.Tokens.{Token}
 use Rattle.irc_support.specs.Ranking.{rank_of_symbol, symbol_of}
 use Rattle.irc_support.specs.Ranks.{ranks_that}
@@ -35,7 +35,7 @@ shows_rank settings symbols rank = option_map_or (has_byte symbols) (symbol_of s
 abbrev pub word_of : List Token → Text → Word
 word_of settings word = record {
   ranks = ranks_that (shows_rank settings (symbols_before settings word));
-  nick = before_first (λ b. b == 33) (after_symbols settings word);
+  nick = (cut_at 33 (after_symbols settings word)).0;
 }
 
 -- the members that the last parameter of a 353 names

@@ -1,9 +1,8 @@
 -- What a network says of itself by RPL_ISUPPORT, 005 (draft-brocklesby-irc-isupport-03, section 2). Settings
 -- are the tokens in force, in order.
-use Rattle.std.specs.Prelude.{◌-◌, not, ◌==◌, if◌then◌else◌, List, [], ◌∷◌, length, take, drop, filter, find, fold, Option, Some, None, unwrap_or, option_map}
-use Rattle.std.specs.List.{before_first, after_first}
+use Rattle.std.specs.Prelude.{◌-◌, ◌==◌, if◌then◌else◌, List, [], ◌∷◌, length, take, drop, find, fold, Option, unwrap_or, option_map}
 use Rattle.std.specs.Str.{bytes_eq}
-use Rattle.irc_support.specs.Text.{Text, has_byte}
+use Rattle.irc_support.specs.Text.{Text, cut_at}
 
 -- a name and, behind `=`, its value; a value can be empty, which is another thing than none
 abbrev pub Token : Type 0
@@ -15,11 +14,12 @@ token_params params = take (length params - 2) (drop 1 params)
 
 -- the token that a parameter spells: it is cut at its first `=`
 abbrev pub token_of : Text → Token
-token_of param = (before_first (λ b. b == 61) param, if has_byte param 61 then Some (after_first (λ b. b == 61) param) else None)
+token_of param = cut_at 61 param
 
 -- the settings without the token of this name
 abbrev pub without : List Token → Text → List Token
-without settings name = filter (λ (t : Token). not (bytes_eq name t.0)) settings
+without [] name = []
+without (t ∷ settings) name = if bytes_eq name t.0 then settings else t ∷ without settings name
 
 -- the settings with this token: a name that is there keeps its place and gets the value, another goes last
 abbrev pub with_token : List Token → Token → List Token

@@ -1,8 +1,11 @@
 //! What a network says of itself by 005 RPL_ISUPPORT, and what it makes of mode changes and name lists.
 #![tactic(auto)]
 
+mod cuts;
 mod kind;
 mod ranks;
+mod tokens;
 
 pub use kind::Kind;
 pub use ranks::Ranks;
+pub use std::alloc::AllocError as OutOfMemory;

@@ -1,0 +1,22 @@
+//! Texts cut at a byte.
+
+ghost use Rattle.std.specs.Prelude.{◌≡◌, ◌==◌, option_map, position};
+ghost use Rattle.irc_support.specs.Text.{cut_at};
+
+fn place_of(byte: u8, text: &[u8]) -> Option<usize>
+    ensures { result ≡ position (λ c. c == byte) text.now }
+{
+    text.iter().position(|c| *c == byte)
+}
+
+/// What stands before the first such byte, else the whole text; and, where there is one, what stands
+/// behind it.
+pub fn cut(byte: u8, text: &[u8]) -> (&[u8], Option<&[u8]>)
+    ensures before { result.0.now ≡ (cut_at byte text.now).0 }
+    ensures behind { option_map (λ rest. rest.now) result.1 ≡ (cut_at byte text.now).1 }
+{
+    match place_of(byte, text) {
+        Some(place) => (&text[..place], Some(&text[place + 1..])),
+        None => (text, None),
+    }
+}

@@ -1,0 +1,106 @@
+//! The tokens of 005 RPL_ISUPPORT in a table, in their order (isupport draft, section 2).
+
+ghost use Rattle.std.specs.Prelude.{◌≡◌, ◌+◌, ◌<◌, ◌≤◌, ℕ, List, IfOk, option_map, fold, vec_len};
+ghost use Rattle.irc_support.specs.Tokens.{Token, after_param, token_params, value_of};
+ghost use Rattle.irc_support.specs.Edits.{tokens_in, edited, edited_if};
+ghost use Rattle.indexmap.specs.IndexMap.{spare};
+
+use crate::OutOfMemory;
+use crate::cuts::cut;
+use indexmap::IndexMap;
+use irc_line::Line;
+use std::alloc::Allocator;
+use std::hash::{BuildHasherDefault, FoldHasher};
+
+/// The tokens: each name with its value, where a `=` stood behind it.
+pub type Table<A> = IndexMap<Vec<u8, A>, Option<Vec<u8, A>>, BuildHasherDefault<FoldHasher>, A>;
+
+/// A change of the tokens with all the memory that it needs.
+#[derive(Drop)]
+pub enum Edit<A: Allocator> {
+    /// The name gets this value.
+    Set(Vec<u8, A>, Option<Vec<u8, A>>),
+    /// The name goes.
+    Remove(Vec<u8, A>),
+}
+
+fn copied<A: Allocator>(alloc: A, value: Option<&[u8]>) -> Result<Option<Vec<u8, A>>, OutOfMemory>
+where
+    A: Drop,
+    ensures { IfOk result (λ copy. option_map (λ v. v.items) copy ≡ option_map (λ v. v.now) value.entry) }
+{
+    match value {
+        Some(value) => Ok(Some(Vec::from_slice(alloc, value)?)),
+        None => Ok(None),
+    }
+}
+
+/// What one parameter does to the tokens; nothing where it has no name.
+fn edit_of<A: Allocator + Copy>(alloc: A, param: &[u8]) -> Result<Option<Edit<A>>, OutOfMemory>
+    ensures { IfOk result (λ edit. (settings : List Token) → edited_if settings edit ≡ after_param settings param.now) }
+{
+    if let [b'-', name @ ..] = param {
+        return Ok(Some(Edit::Remove(Vec::from_slice(alloc, name)?)));
+    }
+    let (name, value) = cut(b'=', param);
+    if name.is_empty() {
+        return Ok(None);
+    }
+    let name = Vec::from_slice(alloc, name)?;
+    let value = copied(alloc, value)?;
+    Ok(Some(Edit::Set(name, value)))
+}
+
+/// What a 005 line does to the tokens, in order.
+pub fn edits<A: Allocator + Copy, B: Allocator>(
+    alloc: A,
+    line: &Line<B>,
+) -> Result<Vec<Edit<A>, A>, OutOfMemory>
+    ensures { IfOk result (λ edits. (settings : List Token) → fold edited settings edits.items ≡ fold after_param settings (token_params line.now.params)) }
+{
+    let mut edits = Vec::new(alloc);
+    for place in 1..line.param_count().saturating_sub(1) {
+        if let Some(param) = line.param(place) {
+            if let Some(edit) = edit_of(alloc, param)? {
+                edits.push(edit)?;
+            }
+        }
+    }
+    Ok(edits)
+}
+
+fn apply<A: Allocator + Copy>(tokens: &mut Table<A>, edit: Edit<A>)
+    requires { 0 < spare tokens.old }
+    ensures after { tokens_in tokens.new.entries ≡ edited (tokens_in tokens.old.entries) edit }
+    ensures room { spare tokens.old ≤ spare tokens.new + 1 }
+{
+    match edit {
+        Edit::Set(name, value) => match tokens.insert(name, value) {
+            Ok(_) => (),
+            Err(_) => unreachable!(),
+        },
+        Edit::Remove(name) => {
+            tokens.shift_remove(name.as_slice());
+        }
+    }
+}
+
+/// Makes each change in turn. There is room for all of them.
+pub fn apply_all<A: Allocator + Copy>(tokens: &mut Table<A>, edits: Vec<Edit<A>, A>)
+    requires { vec_len edits ≤ spare tokens.old }
+    ensures { tokens_in tokens.new.entries ≡ fold edited (tokens_in tokens.old.entries) edits.items }
+{
+    for edit in edits {
+        apply(tokens, edit);
+    }
+}
+
+/// The value of the token of this name, empty where there is no `=`; `None` where there is no such token.
+pub fn value<'a, A: Allocator>(tokens: &'a Table<A>, name: &[u8]) -> Option<&'a [u8]>
+    ensures { option_map (λ value. value.now) result ≡ value_of (tokens_in tokens.now.entries) name.now }
+{
+    match tokens.get(name)? {
+        Some(value) => Some(value.as_slice()),
+        None => Some(&[]),
+    }
+}
