@@ -1,4 +1,5 @@
 pub mod RankSets
+pub mod Spelling
 pub mod TokenTable
 pub mod ParamRest
 mod Rows

@@ -1,10 +1,12 @@
 //! Texts cut at a byte.
 
-ghost use Rattle.std.specs.Prelude.{◌≡◌, ◌==◌, option_map, position};
+ghost use Rattle.std.specs.Prelude.{◌≡◌, ◌<◌, ◌==◌, IfSome, length, option_map, position};
 ghost use Rattle.irc_support.specs.Text.{cut_at};
 
-fn place_of(byte: u8, text: &[u8]) -> Option<usize>
-    ensures { result ≡ position (λ c. c == byte) text.now }
+/// Where the first such byte stands.
+pub fn place_of(byte: u8, text: &[u8]) -> Option<usize>
+    ensures place { result ≡ position (λ c. c == byte) text.now }
+    ensures within { IfSome result (λ place. place < length text.now) }
 {
     text.iter().position(|c| *c == byte)
 }

@@ -3,6 +3,7 @@
 
 mod cuts;
 mod kind;
+mod prefix;
 mod ranks;
 mod tokens;
 
