@@ -1,6 +1,7 @@
 //! What a network says of itself by 005 RPL_ISUPPORT, and what it makes of mode changes and name lists.
 #![tactic(auto)]
 
+mod chan_modes;
 mod cuts;
 mod kind;
 mod prefix;
