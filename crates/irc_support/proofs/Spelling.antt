@@ -1,5 +1,5 @@
 -- What a value of PREFIX spells.
-use Rattle.std.proofs.Common.{◌≡◌, ℕ, suc, ◌+◌, ◌-◌, ◌/◌, ◌≤◌, Bool, true, false, ◌&&◌, ◌==◌, IsTrue, List, [], ◌∷◌, ◌++◌, length, take, drop, Option, Some, None, cond, codes, sym, ap, subst, ◌∙◌, arith, refl, append_assoc, length-append}
+use Rattle.std.proofs.Common.{◌≡◌, ℕ, suc, ◌+◌, ◌-◌, ◌/◌, Bool, true, false, ◌&&◌, ◌==◌, IsTrue, [], ◌∷◌, ◌++◌, length, take, drop, Option, Some, None, cond, sym, ap, subst, ◌∙◌, arith, refl, append_assoc, length-append}
 use Rattle.std.proofs.Math.Seq.{take-append_seam, drop-append_seam, drop-append-add}
 use Rattle.std.proofs.lemmas.List.{take-append-drop}
 use Rattle.std.proofs.lemmas.Slice.Eq.{bytes_eq-Decides}
@@ -7,7 +7,6 @@ use Rattle.std.proofs.lemmas.Bool.Decides.{nat_tests}
 use Rattle.std.specs.Str.{bytes_eq}
 use Rattle.irc_support.specs.Text.{Text}
 use Rattle.irc_support.specs.Ranking.{Ranking, Spells, prefix_text, halves_of, is_ranking, spelled_by}
-use Rattle.irc_support.proofs.RankSets.{sure}
 
 pub and_left : (a b : Bool) → (a && b) ≡ true → a ≡ true
 and_left true b h = refl
@@ -19,7 +18,7 @@ and_right false b h = cc
 
 -- as many symbols as letters, at most 16
 pub paired : (r : Ranking) → IsTrue (is_ranking r) → length r.letters ≡ length r.symbols
-paired r h = 
+paired r h =
     let same : (length r.letters == length r.symbols) ≡ true = and_left _ _ (and_left _ _ (and_left _ _ (and_left _ _ (and_left _ _ h)))) in
     grind (arith, nat_tests)
 
@@ -31,13 +30,13 @@ pub prefix_text-inner : (r : Ranking) → prefix_text r ≡ 40 ∷ inner r
 prefix_text-inner r = ap (λ (rest : Text). 40 ∷ rest) (append_assoc r.letters (41 ∷ []) r.symbols)
 
 half : (r : Ranking) → length r.letters ≡ length r.symbols → (length (inner r) - 1) / 2 ≡ length r.letters
-half r same = 
+half r same =
     let len = length-append r.letters (41 ∷ r.symbols) in
     omega arith
 
 -- where the letters end
 pub inner_halves : (rest : Text) (r : Ranking) → rest ≡ inner r → length r.letters ≡ length r.symbols → (take ((length rest - 1) / 2) rest ≡ r.letters) × (drop ((length rest - 1) / 2) rest ≡ 41 ∷ r.symbols)
-inner_halves rest r is same = 
+inner_halves rest r is same =
     rw (is, half r same) (take-append_seam r.letters (41 ∷ r.symbols), drop-append_seam r.letters (41 ∷ r.symbols))
 
 pub spells_inner : (value rest : Text) (r : Ranking) → value ≡ 40 ∷ rest → Spells value r → rest ≡ inner r

@@ -1,5 +1,6 @@
 -- The table's entries as tokens.
-use Rattle.std.proofs.Common.{◌≡◌, ℕ, Bool, true, false, cond, List, [], ◌∷◌, Option, Some, option_map, unwrap_or, find, sym, ap, ◌∙◌, refl}
+use Rattle.std.proofs.Common.{◌≡◌, ℕ, Bool, true, false, cond, List, [], ◌∷◌, Option, Some, option_map, slice_get, unwrap_or, find, sym, ap, ◌∙◌, refl}
+use Rattle.std.proofs.lemmas.Option.{slice_get-map}
 use Rattle.std.specs.declared.vec.Vec.{Vec}
 use Rattle.std.specs.Str.{bytes_eq}
 use Rattle.std.specs.Map.{lookup, remove_entry}
@@ -40,3 +41,7 @@ lookup-value_of {A} (e ∷ entries) name =
     ap-cond (option_map (read_value {A = A})) (bytes_eq name e.0.items) (Some e.1) (lookup (λ (k : Vec ℕ A). bytes_eq name k.items) entries)
     ∙ ap (λ (v : Option Text). cond (bytes_eq name e.0.items) (Some (read_value e.1)) v) (lookup-value_of entries name)
     ∙ sym (ap-cond (option_map (λ (t : Token). unwrap_or t.1 [])) (bytes_eq name e.0.items) (Some (token_in e)) (find (λ (t : Token). bytes_eq name t.0) (tokens_in entries)))
+
+-- the token at a place
+pub entry-token : {A : Type 0} (entries : Entries A) (place : ℕ) (name : Vec ℕ A) (value : Option (Vec ℕ A)) → Some (name, value) ≡ slice_get entries place → Some (token_in (name, value)) ≡ slice_get (tokens_in entries) place
+entry-token {A} entries place name value at = ap (option_map (token_in {A = A})) at ∙ sym (slice_get-map (token_in {A = A}) entries place)

@@ -1,5 +1,5 @@
 -- The kinds of channel modes (`CHANMODES`; isupport draft, section 3.3).
-use Rattle.std.specs.Prelude.{ℕ, Bool, true, false, ◌==◌, if◌then◌else◌, List, slice_get, unwrap_or, is_some, codes}
+use Rattle.std.specs.Prelude.{ℕ, Bool, true, false, ◌==◌, if◌then◌else◌, List, unwrap_or, is_some, codes}
 use Rattle.std.specs.List.{position_from, slice_split}
 use Rattle.std.specs.Option.{option_map_or}
 use Rattle.irc_support.specs.Text.{Text, has_byte}

@@ -8,3 +8,5 @@ pub mod ChanModes
 pub mod Settings
 pub mod ModeChanges
 pub mod NamesReply
+pub mod Line
+pub mod Shown

@@ -1,7 +1,7 @@
-//! Texts cut at a byte.
+//! Bytes in texts.
 
 ghost use Rattle.std.specs.Prelude.{◌≡◌, ◌<◌, ◌==◌, IfSome, length, option_map, position};
-ghost use Rattle.irc_support.specs.Text.{cut_at};
+ghost use Rattle.irc_support.specs.Text.{cut_at, has_byte};
 
 /// Where the first such byte stands.
 pub fn place_of(byte: u8, text: &[u8]) -> Option<usize>
@@ -21,4 +21,11 @@ pub fn cut(byte: u8, text: &[u8]) -> (&[u8], Option<&[u8]>)
         Some(place) => (&text[..place], Some(&text[place + 1..])),
         None => (text, None),
     }
+}
+
+/// Whether the byte stands in the text.
+pub fn has(text: &[u8], byte: u8) -> bool
+    ensures { result ≡ has_byte text.now byte }
+{
+    text.iter().any(|b| *b == byte)
 }

@@ -6,8 +6,10 @@ mod cuts;
 mod kind;
 mod prefix;
 mod ranks;
+mod support;
 mod tokens;
 
 pub use kind::Kind;
 pub use ranks::Ranks;
 pub use std::alloc::AllocError as OutOfMemory;
+pub use support::Support;

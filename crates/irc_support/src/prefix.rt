@@ -3,10 +3,10 @@
 ghost use Rattle.std.specs.Prelude.{◌≡◌, ◌<◌, ◌≤◌, ◌==◌, ℕ, List, ◌∷◌, IfNone, IfSome, length, option_map, position, slice_get, take};
 ghost use Rattle.std.specs.List.{list_all};
 ghost use Rattle.std.specs.Char.{is_ascii_alphabetic};
-ghost use Rattle.irc_support.specs.Text.{has_byte, is_distinct};
+ghost use Rattle.irc_support.specs.Text.{is_distinct};
 ghost use Rattle.irc_support.specs.Ranking.{is_ranking, is_symbol, spelled_by, ranking_in};
 
-use crate::cuts::place_of;
+use crate::cuts::{has, place_of};
 use std::marker::Model;
 
 /// As many ranks as `PREFIX` can name. The limit is our own.
@@ -35,12 +35,6 @@ fn is_a_symbol(byte: u8) -> bool
     ensures { result ≡ is_symbol byte }
 {
     byte.is_ascii_punctuation() && !b"[]\\`_^{|}:,".contains(&byte)
-}
-
-fn has(text: &[u8], byte: u8) -> bool
-    ensures { result ≡ has_byte text.now byte }
-{
-    text.iter().any(|b| *b == byte)
 }
 
 fn are_letters(text: &[u8]) -> bool

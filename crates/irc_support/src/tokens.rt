@@ -1,6 +1,6 @@
 //! The tokens of 005 RPL_ISUPPORT in a table, in their order (isupport draft, section 2).
 
-ghost use Rattle.std.specs.Prelude.{◌≡◌, ◌+◌, ◌<◌, ◌≤◌, ℕ, List, IfOk, option_map, fold, vec_len};
+ghost use Rattle.std.specs.Prelude.{◌≡◌, ◌+◌, ◌<◌, ◌≤◌, ℕ, List, IfOk, option_map, fold, unwrap_or, vec_len};
 ghost use Rattle.irc_support.specs.Tokens.{Token, after_param, token_params, value_of};
 ghost use Rattle.irc_support.specs.Edits.{tokens_in, edited, edited_if};
 ghost use Rattle.indexmap.specs.IndexMap.{spare};
@@ -96,11 +96,21 @@ pub fn apply_all<A: Allocator + Copy>(tokens: &mut Table<A>, edits: Vec<Edit<A>,
 }
 
 /// The value of the token of this name, empty where there is no `=`; `None` where there is no such token.
-pub fn value<'a, A: Allocator>(tokens: &'a Table<A>, name: &[u8]) -> Option<&'a [u8]>
+fn value<'a, A: Allocator>(tokens: &'a Table<A>, name: &[u8]) -> Option<&'a [u8]>
     ensures { option_map (λ value. value.now) result ≡ value_of (tokens_in tokens.now.entries) name.now }
 {
     match tokens.get(name)? {
         Some(value) => Some(value.as_slice()),
         None => Some(&[]),
+    }
+}
+
+/// The value of the token of this name, or the default where there is no such token.
+pub fn value_or<'a, A: Allocator>(tokens: &'a Table<A>, name: &[u8], default: &'a [u8]) -> &'a [u8]
+    ensures { result.now ≡ unwrap_or (value_of (tokens_in tokens.now.entries) name.now) default.now }
+{
+    match value(tokens, name) {
+        Some(value) => value,
+        None => default,
     }
 }
