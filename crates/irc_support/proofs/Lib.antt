@@ -1,3 +1,4 @@
+pub mod ChangesLeft
 pub mod RankSets
 pub mod Spelling
 pub mod TokenTable

@@ -10,3 +10,5 @@ pub mod ModeChanges
 pub mod NamesReply
 pub mod Line
 pub mod Shown
+pub mod ChangeShown
+pub mod MemberShown

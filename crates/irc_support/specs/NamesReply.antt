@@ -1,11 +1,11 @@
 -- Name lists: the words of RPL_NAMREPLY, 353 (RFC 2812, section 5.1), as IRCv3 multi-prefix has them: all
 -- symbols of a member stand before the nick.
 use Rattle.std.specs.Prelude.{ℕ, Bool, false, not, ◌==◌, List, length, map, filter, take_while, drop, is_some}
-use Rattle.std.specs.List.{slice_split}
+use Rattle.std.specs.List.{list_any, slice_split}
 use Rattle.std.specs.Option.{option_map_or}
-use Rattle.irc_support.specs.Text.{Text, has_byte, cut_at}
+use Rattle.irc_support.specs.Text.{Text, cut_at}
 use Rattle.irc_support.specs.Tokens.{Token}
-use Rattle.irc_support.specs.Ranking.{rank_of_symbol, symbol_of}
+use Rattle.irc_support.specs.Ranking.{rank_of_symbol}
 use Rattle.irc_support.specs.Ranks.{ranks_that}
 
 -- a member of a name list: the ranks whose symbols stand before the nick, highest first, and the nick
@@ -27,9 +27,9 @@ symbols_before settings word = take_while (is_rank_symbol settings) word
 abbrev pub after_symbols : List Token → Text → Text
 after_symbols settings word = drop (length (symbols_before settings word)) word
 
--- whether the symbol of the rank is one of these
+-- whether one of these symbols shows the rank
 abbrev pub shows_rank : List Token → Text → ℕ → Bool
-shows_rank settings symbols rank = option_map_or (has_byte symbols) (symbol_of settings rank) false
+shows_rank settings symbols rank = list_any (λ b. option_map_or (λ r. r == rank) (rank_of_symbol settings b) false) symbols
 
 -- the member that a word names; a nick ends before its first `!`, where the word has user and host
 abbrev pub word_of : List Token → Text → Word

@@ -1,5 +1,7 @@
 //! The kinds of channel modes (`CHANMODES`; isupport draft, section 3.3).
 
+ghost use Rattle.std.specs.Prelude.{◌≡◌};
+
 /// The kind of a mode letter, which says when it takes a parameter.
 #[derive(Clone, Copy, Debug, PartialEq, Eq)]
 pub enum Kind {
@@ -15,4 +17,19 @@ pub enum Kind {
     D,
     /// A letter that the network did not name. It is taken to have no parameter.
     Unknown,
+}
+
+impl Kind {
+    ghost use Rattle.irc_support.specs.ChanModes.{takes_parameter};
+
+    /// Whether a letter of this kind takes a parameter where it is set (`plus`) or unset.
+    pub fn takes_parameter(self, plus: bool) -> bool
+        ensures { result ≡ takes_parameter self plus }
+    {
+        match self {
+            Kind::Prefix | Kind::A | Kind::B => true,
+            Kind::C => plus,
+            Kind::D | Kind::Unknown => false,
+        }
+    }
 }

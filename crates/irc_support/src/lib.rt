@@ -4,12 +4,19 @@
 mod chan_modes;
 mod cuts;
 mod kind;
+mod mode_changes;
+mod name_list;
+mod names_reply;
+mod params;
 mod prefix;
 mod ranks;
 mod support;
 mod tokens;
 
 pub use kind::Kind;
+pub use mode_changes::{Change, ModeChanges, changes};
+pub use name_list::Names;
+pub use names_reply::names;
 pub use ranks::Ranks;
 pub use std::alloc::AllocError as OutOfMemory;
 pub use support::Support;

@@ -9,6 +9,8 @@ ghost use Rattle.irc_support.specs.Edits.{tokens_in};
 ghost use Rattle.irc_support.specs.Ranking.{ranking_of, rank_of_letter, rank_of_symbol, symbol_of};
 ghost use Rattle.irc_support.specs.ChanModes.{kind_of};
 ghost use Rattle.irc_support.specs.Settings.{mapping_named, mapping_of, is_channel, is_outside_channel};
+ghost use Rattle.irc_support.specs.Ranks.{ranks_that};
+ghost use Rattle.irc_support.specs.NamesReply.{shows_rank, symbols_before, after_symbols};
 ghost use Rattle.irc_support.specs.Line.{settings_after};
 ghost use Rattle.irc_support.specs.Shown.{shown_token};
 
@@ -16,7 +18,7 @@ use crate::chan_modes::kind_by_lists;
 use crate::cuts::has;
 use crate::prefix::Prefix;
 use crate::tokens::{Table, apply_all, edits, value_or};
-use crate::{Kind, OutOfMemory};
+use crate::{Kind, OutOfMemory, Ranks};
 use indexmap::IndexMap;
 use irc_line::Line;
 use irc_names::CaseMapping;
@@ -167,6 +169,24 @@ impl<A: Allocator> Support<A> {
         ensures { result ≡ symbol_of self.now rank }
     {
         self.prefix.symbol(rank)
+    }
+
+    /// The ranks whose symbols stand at the front of a word of a name list, and what stands behind the
+    /// symbols: of `@+bob!b@h` with `PREFIX=(ov)@+` the ranks 0 and 1, and `bob!b@h`.
+    pub fn split_symbols<'b>(&self, word: &'b [u8]) -> (Ranks, &'b [u8])
+        ensures ranks { result.0 ≡ ranks_that (shows_rank self.now (symbols_before self.now word.now)) }
+        ensures rest { result.1.now ≡ after_symbols self.now word.now }
+    {
+        let mut ranks = Ranks::none();
+        let mut rest = word;
+        while let [symbol, more @ ..] = rest {
+            let Some(rank) = self.rank_of_symbol(*symbol) else {
+                break;
+            };
+            ranks = ranks.with(rank);
+            rest = more;
+        }
+        (ranks, rest)
     }
 
     /// The kind of a mode letter: a letter of `PREFIX`, else the list of `CHANMODES` that it stands in

@@ -1,0 +1,127 @@
+//! The changes of MODE (RFC 2812, section 3.2.3) and of 324 RPL_CHANNELMODEIS (section 5.1).
+
+ghost use Rattle.std.specs.Prelude.{◌≡◌, ◌≤◌, drop};
+ghost use Rattle.std.specs.Iterator.{YieldsFirstBy, item_count};
+ghost use Rattle.irc_support.specs.ModeChanges as parsed;
+ghost use Rattle.irc_support.specs.Line.{changes_in};
+ghost use Rattle.irc_support.specs.ChangeShown.{shown_change};
+
+use crate::Support;
+use crate::params::{next_param, param_or_empty};
+use irc_line::Line;
+use std::alloc::{Allocator, Global};
+use std::marker::Model;
+
+/// One letter of a mode text.
+#[derive(Clone, Copy, Debug, PartialEq, Eq)]
+pub struct Change<'a> {
+    /// Whether the letter is set, and not unset.
+    pub plus: bool,
+    /// The letter, as it came; it may be one that the network did not name.
+    pub letter: u8,
+    /// What the letter took: the next parameter, word or not, where its kind takes one and one was left.
+    pub param: Option<&'a [u8]>,
+}
+
+/// The changes that a line lists, in their order. See [`changes`].
+#[derive(Drop)]
+pub struct ModeChanges<'a, A: Allocator = Global, B: Allocator = Global> {
+    support: &'a Support<A>,
+    // the sign and the letters that are left
+    plus: bool,
+    letters: &'a [u8],
+    line: &'a Line<B>,
+    // where the next parameter stands, and how many there are
+    place: usize,
+    count: usize,
+}
+
+impl<'a, A: Allocator, B: Allocator> Model for ModeChanges<'a, A, B> {
+    ghost use Rattle.std.specs.Prelude.{◌≡◌, List, drop, length};
+    ghost use Rattle.irc_support.specs.ModeChanges.{ChangeParts, signed, with_params};
+
+    ghost Value = { List ChangeParts };
+
+    ghost view = { λ s. with_params s.support.now (signed s.plus s.letters.now) (drop s.place s.line.now.params) };
+
+    ghost invariant = { λ s. s.count ≡ length s.line.now.params };
+}
+
+impl<'a, A: Allocator, B: Allocator> Iterator for ModeChanges<'a, A, B> {
+    type Item = Change<'a>;
+
+    ghost next_gives = { YieldsFirstBy shown_change (λ left. left) };
+
+    ghost remaining = { item_count (λ left. left) };
+
+    fn next(&mut self) -> Option<Change<'a>> {
+        while let [byte, letters @ ..] = self.letters {
+            self.letters = letters;
+            match *byte {
+                b'+' => self.plus = true,
+                b'-' => self.plus = false,
+                letter => {
+                    let plus = self.plus;
+                    let mut param = None;
+                    if self.support.kind(letter).takes_parameter(plus) {
+                        (param, self.place) = next_param(self.line, self.place, self.count);
+                    }
+                    return Some(Change {
+                        plus,
+                        letter,
+                        param,
+                    });
+                }
+            }
+        }
+        None
+    }
+}
+
+/// The changes of the letters in the parameter at this place, and of what stands behind it.
+fn changes_from<'a, A: Allocator, B: Allocator>(
+    support: &'a Support<A>,
+    line: &'a Line<B>,
+    place: usize,
+) -> ModeChanges<'a, A, B>
+    requires { place ≤ 2 }
+    ensures { result ≡ parsed.changes support.now (drop place line.now.params) }
+{
+    ModeChanges {
+        support,
+        plus: true,
+        letters: param_or_empty(line, place),
+        line,
+        place: place + 1,
+        count: line.param_count(),
+    }
+}
+
+/// The changes that a MODE or a 324 line lists, read by these settings: none for any other line. It takes
+/// no memory.
+///
+/// MODE has its letters in parameter 1, 324 in parameter 2, and what they take behind it, as in
+/// `:s MODE #c +lo-v 5 bob eve` (where the letters stand in a 324 is our own choice). The sign is plus until
+/// the text says otherwise. Prefix letters and kinds A and B take a parameter always, C where it is set, D
+/// and unknown letters never. A letter that finds no parameter left comes without one.
+pub fn changes<'a, A: Allocator, B: Allocator>(
+    support: &'a Support<A>,
+    line: &'a Line<B>,
+) -> ModeChanges<'a, A, B>
+    ensures { result ≡ changes_in support.now line.now }
+{
+    if line.is(b"MODE") {
+        changes_from(support, line, 1)
+    } else if line.is(b"324") {
+        changes_from(support, line, 2)
+    } else {
+        ModeChanges {
+            support,
+            plus: true,
+            letters: b"",
+            line,
+            place: 0,
+            count: line.param_count(),
+        }
+    }
+}
