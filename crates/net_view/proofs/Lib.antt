@@ -1,0 +1,10 @@
+pub mod Tests
+pub mod Keys
+pub mod RankSets
+pub mod Covers
+pub mod Channels
+pub mod ChannelStep
+pub mod People
+pub mod PeopleStep
+pub mod StepLaw
+pub mod Emptied

@@ -1,0 +1,17 @@
+pub mod Names
+pub mod Told
+pub mod Arrival
+pub mod StateLines
+pub mod Transcript
+pub mod LookBack
+pub mod Presence
+pub mod Topic
+pub mod Modes
+pub mod Members
+pub mod Named
+pub mod Facts
+pub mod Table
+pub mod View
+pub mod Step
+pub mod Readers
+pub mod Seen

@@ -1,0 +1,15 @@
+//! The network view: what a network's lines say of it, defined by looking back through all of them.
+#![tactic(auto)]
+
+mod channel;
+mod item;
+mod laws;
+mod network_view;
+
+pub use channel::{Channel, Member};
+pub use item::Item;
+pub use laws::{
+    a_loss_empties_the_view, a_view_is_a_state, only_state_items_count, views_go_by_steps,
+};
+pub use network_view::NetworkView;
+pub use std::alloc::AllocError as OutOfMemory;

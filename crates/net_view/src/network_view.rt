@@ -1,0 +1,57 @@
+//! What is known of a network from the items that came.
+
+ghost use Rattle.std.specs.Prelude.{◌≡◌, ◌∷◌, ◌++◌, [], List, false, is_some, OnOk, OnErr, IsOk};
+ghost use Rattle.std.specs.Option.{option_map};
+ghost use Rattle.net_view.specs.Arrival.{Arrival, arrival_of};
+ghost use Rattle.net_view.specs.StateLines.{may_need_memory};
+ghost use Rattle.net_view.specs.View.{View, view_of};
+ghost use Rattle.net_view.specs.Readers.{channels_shown, channel_shown, members_shown, member_shown};
+
+use crate::OutOfMemory;
+use crate::channel::{Channel, Member};
+use crate::item::Item;
+use std::alloc::Allocator;
+
+/// A network as its lines tell of it. Its meaning, `view`, is a function of the whole transcript: of all items
+/// that were taken, in order. Names are compared by the network's case mapping, and places are counted from
+/// 0 in the order of the names' keys, byte by byte.
+///
+/// Before the first `001` with a nameable nick nothing is known.
+pub trait NetworkView {
+    ghost view: { Self → View };
+
+    /// Takes the next item. Only a state line, as `:bob!b@h JOIN #c`, may need memory; without it the view
+    /// stays as it was.
+    fn take<A: Allocator>(&mut self, item: &Item<A>) -> Result<(), OutOfMemory>
+        ensures taken { (items : List Arrival) → view self.old ≡ view_of items → OnOk result (view self.new ≡ view_of (items ++ arrival_of item.now ∷ [])) }
+        ensures kept { OnErr result (view self.new ≡ view self.old) }
+        ensures free { may_need_memory (arrival_of item.now) ≡ false → IsOk result };
+
+    /// Whether the network took us in.
+    fn welcomed(&self) -> bool
+        ensures { result ≡ is_some (view self.now).own };
+
+    /// Whether the settings are fixed: by `376`, `422` or a JOIN after the last welcome.
+    fn ready(&self) -> bool
+        ensures { result ≡ (view self.now).ready };
+
+    /// Our own nick; `None` before the first welcome.
+    fn own(&self) -> Option<&[u8]>
+        ensures { option_map (λ nick. nick.now) result ≡ (view self.now).own };
+
+    /// How many channels we are on.
+    fn channel_count(&self) -> usize
+        ensures { result ≡ channels_shown (view self.now) };
+
+    /// The channel at place `i`; `None` from `channel_count` on.
+    fn channel_at(&self, i: usize) -> Option<Channel<'_>>
+        ensures name { option_map (λ channel. channel.name.now) result ≡ option_map (λ channel. channel.name) (channel_shown (view self.now) i) };
+
+    /// How many members the channel at place `i` has, we among them; 0 from `channel_count` on.
+    fn member_count(&self, i: usize) -> usize
+        ensures { result ≡ members_shown (view self.now) i };
+
+    /// The member at place `j` of the channel at place `i`; `None` from `member_count` on.
+    fn member_at(&self, i: usize, j: usize) -> Option<Member<'_>>
+        ensures nick { option_map (λ member. member.nick.now) result ≡ option_map (λ member. member.nick) (member_shown (view self.now) i j) };
+}
