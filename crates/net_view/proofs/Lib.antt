@@ -8,3 +8,7 @@ pub mod People
 pub mod PeopleStep
 pub mod StepLaw
 pub mod Emptied
+mod Transcripts
+mod MemberRows
+mod FactRows
+mod LineRows

@@ -43,9 +43,13 @@ settings_after _ s = s.settings
 abbrev pub standing_after : Told → Standing → Standing
 standing_after t s = record { own = own_after t s; ready = ready_after t s; settings = settings_after t s }
 
+-- each line is read by the settings in force before it
+abbrev pub standing_with : Arrival → Standing → Standing
+standing_with x s = standing_after (told s.settings x) s
+
 abbrev pub standing : List Arrival → Standing
 standing [] = record { own = None; ready = false; settings = [] }
-standing (x ∷ older) = standing_after (told (standing older).settings x) (standing older)
+standing (x ∷ older) = standing_with x (standing older)
 
 -- our own nick; none before the first welcome
 abbrev pub own_nick : List Arrival → Option Text
@@ -63,9 +67,12 @@ pub record Reading : Type 0 where
   pub before : Standing
   pub told : Told
 
+abbrev pub reading_of : Arrival → Standing → Reading
+reading_of x s = record { before = s; told = told s.settings x }
+
 abbrev pub readings_of : List Arrival → List Reading
 readings_of [] = []
-readings_of (x ∷ older) = record { before = standing older; told = told (standing older).settings x } ∷ readings_of older
+readings_of (x ∷ older) = reading_of x (standing older) ∷ readings_of older
 
 -- whether a key was that of our own nick before the item
 abbrev pub ours : Reading → Text → Bool
