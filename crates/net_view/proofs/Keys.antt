@@ -2,7 +2,9 @@
 use Rattle.std.specs.Prelude.{◌≡◌, Bool, true, false, ◌||◌, List, [], ◌∷◌}
 use Rattle.std.specs.List.{list_any}
 use Rattle.std.specs.declared.cmp.Ordering.{Ordering}
-use Rattle.std.specs.Ordering.{eq_by_cmp}
+use Rattle.std.specs.Ordering.{eq_by_cmp, is_eq}
+use Rattle.std.specs.Cmp.{tied_itself}
+use Rattle.std.specs.Cmp.Lexicographic.{nat_list_cmp_total}
 use Rattle.std.specs.FinMap as fin
 use Rattle.std.proofs.Common.{None, refl, sym, ap, ◌∙◌}
 use Rattle.irc_support.specs.Text.{Text}
@@ -36,3 +38,6 @@ any_moved p (x ∷ xs) ys in_ys h =
 
 pub not_kept : {K X : Type 0} {R : K → K → Ordering} (m : fin.FinMap R X) (q : K) → list_any (eq_by_cmp R q) (fin.keys m) ≡ false → fin.get m q ≡ None
 not_kept m q h = none_of_is_some (fin.get m q) (fin.contains_key-keys m q ∙ h)
+
+pub same_refl : (a : Text) → same a a ≡ true
+same_refl a = ap is_eq (tied_itself nat_list_cmp_total a)

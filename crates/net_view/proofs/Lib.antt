@@ -8,6 +8,7 @@ pub mod People
 pub mod PeopleStep
 pub mod StepLaw
 pub mod Emptied
+pub mod ToldSound
 mod Transcripts
 mod MemberRows
 mod FactRows

@@ -4,7 +4,7 @@ use Rattle.std.specs.List.{range_with_len}
 use Rattle.std.proofs.Common.{refl, sym, ap, ◌∙◌, eq-eqb}
 use Rattle.std.proofs.lemmas.Bool.{eqb-true}
 use Rattle.irc_support.specs.Ranks.{rank_count, ranks_that, has_rank}
-use Rattle.net_view.proofs.Tests.{or_right, no_true}
+use Rattle.net_view.proofs.Tests.{or_right, no_true, not_false}
 
 -- every rank that a set can have
 abbrev every_rank : List ℕ
@@ -53,3 +53,7 @@ ranks_alike f g alike = filter_alike f g every_rank alike
 pub has-ranks : (f : ℕ → Bool) (rank : ℕ) → is_rank rank ≡ true → has_rank (ranks_that f) rank ≡ f rank
 unfolding ranks_that
 has-ranks f rank h = has-filter f every_rank rank h
+
+-- what a set has passes the test that made it
+pub has_of_filter : (f : ℕ → Bool) (xs : List ℕ) (r : ℕ) → has_rank (filter f xs) r ≡ true → f r ≡ true
+has_of_filter f xs r h = not_false (f r) (λ e. no_true (sym (filter_none f xs r e) ∙ h))

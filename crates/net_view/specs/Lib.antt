@@ -15,3 +15,4 @@ pub mod View
 pub mod Step
 pub mod Readers
 pub mod Seen
+pub mod Sound
