@@ -51,7 +51,7 @@ mode_after_none us t c (Some ch) letter h =
     ap (λ d. unwrap_or (says_mode c letter us t) d) (not_kept ch.modes letter (parts.1))
     ∙ says_mode_none c letter us t (parts.0)
 
-before_none : (us : Text → Bool) (t : Told) (old : Option Channel) (n : Text) → list_any (same n) (people_in t) ≡ false → old_member old n ≡ None → option_and_then (old_member old) (name_before us t n) ≡ None
+pub before_none : (us : Text → Bool) (t : Told) (old : Option Channel) (n : Text) → list_any (same n) (people_in t) ≡ false → old_member old n ≡ None → option_and_then (old_member old) (name_before us t n) ≡ None
 before_none us t old n h e =
     ⊎_elim (λ p. ap (option_and_then (old_member old)) p) (λ p. ap (option_and_then (old_member old)) p ∙ e) (name_stays us t n h)
 

@@ -94,7 +94,7 @@ says_member_none c us t n h =
       | false ↦ said_member_none c us t n h
     ]
 
-gone_or : (b : Bool) (n : Text) → (cond b None (Some n) ≡ None) ⊎ (cond b None (Some n) ≡ Some n)
+pub gone_or : (b : Bool) (n : Text) → (cond b None (Some n) ≡ None) ⊎ (cond b None (Some n) ≡ Some n)
 gone_or true n = inl refl
 gone_or false n = inr refl
 

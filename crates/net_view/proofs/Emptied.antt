@@ -30,7 +30,7 @@ no_items : {A : Type 0} (xs : List A) → length xs ≡ 0 → xs ≡ []
 no_items [] e = refl
 no_items (x ∷ xs) e = cc
 
-no_keys : fin.keys (fin.empty {X = Channel} {R = bytes_cmp}) ≡ []
+pub no_keys : fin.keys (fin.empty {X = Channel} {R = bytes_cmp}) ≡ []
 no_keys = ap (map (λ (e : Text × Channel). e.0)) (no_items (fin.entries (fin.empty {X = Channel} {R = bytes_cmp})) (sym (fin.len-entries (fin.empty {X = Channel} {R = bytes_cmp})) ∙ fin.len-empty bytes_cmp Channel))
 
 -- where there is no channel nobody is known

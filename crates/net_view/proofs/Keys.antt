@@ -41,3 +41,8 @@ not_kept m q h = none_of_is_some (fin.get m q) (fin.contains_key-keys m q ∙ h)
 
 pub same_refl : (a : Text) → same a a ≡ true
 same_refl a = ap is_eq (tied_itself nat_list_cmp_total a)
+
+-- a test that is met in a list is met at one of its keys
+pub some_key : (p : Text → Bool) (xs : List Text) → list_any p xs ≡ true → (k : Text) × (p k ≡ true)
+some_key p [] h = cc
+some_key p (x ∷ xs) h = elim (p x) as (λ b. p x ≡ b → (b || list_any p xs) ≡ true → (k : Text) × (p k ≡ true)) [ true ↦ λ e _. (x, e) | false ↦ λ e r. some_key p xs r ] refl h

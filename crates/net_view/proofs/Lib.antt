@@ -8,7 +8,13 @@ pub mod People
 pub mod PeopleStep
 pub mod StepLaw
 pub mod Emptied
+pub mod AfterMaps
 pub mod ToldSound
+pub mod Holds
+pub mod ChannelSound
+pub mod OwnSound
+pub mod PeopleSound
+pub mod SoundStep
 mod Transcripts
 mod MemberRows
 mod FactRows

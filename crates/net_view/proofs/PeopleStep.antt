@@ -12,7 +12,7 @@ use Rattle.net_view.specs.Named.{named, people_in}
 use Rattle.net_view.specs.Facts.{Says, in_sight, known, says_spelling, says_account, says_away}
 use Rattle.net_view.specs.Table.{same_tables}
 use Rattle.net_view.specs.View.{Person, channels_of, person_of, people_of}
-use Rattle.net_view.specs.Step.{known_after, person_after, people_after}
+use Rattle.net_view.specs.Step.{person_from, known_after, person_after, people_after}
 use Rattle.net_view.proofs.Tests.{when}
 use Rattle.net_view.proofs.Keys.{bytes_exact}
 use Rattle.net_view.proofs.People.{contains-channels, sight_seen, sight_none, person_none, people_get, seen_none, spelling_field, account_field, away_field}
@@ -34,19 +34,11 @@ person_step x older n =
     let b = known_step says_account (λ p. p.account) x older n (account_field older) h in
     let d = known_step says_away (λ p. p.away) x older n (away_field older) h in
     λ i. record { spelled = a i; account = b i; away = d i })
-    ∙ ap (λ b. cond b (Some (let p : Person = record {
-      spelled = known_after says_spelling (λ p. p.spelled) (ours x) x.told (channels_of (x ∷ older)) (people_of older) n;
-      account = known_after says_account (λ p. p.account) (ours x) x.told (channels_of (x ∷ older)) (people_of older) n;
-      away = known_after says_away (λ p. p.away) (ours x) x.told (channels_of (x ∷ older)) (people_of older) n;
-    } in p)) None) (sight_seen (x ∷ older) n)
+    ∙ ap (λ b. cond b (Some (person_from (ours x) x.told (channels_of (x ∷ older)) (people_of older) n)) None) (sight_seen (x ∷ older) n)
 
 pub people_step : (x : Reading) (older : List Reading) → people_of (x ∷ older) ≡ people_after (ours x) x.told (channels_of (x ∷ older)) (people_of older)
 people_step x older =
     same_tables nat_list_cmp_total bytes_exact (named people_in (x ∷ older)) _ (person_of (x ∷ older)) (person_after (ours x) x.told (channels_of (x ∷ older)) (people_of older))
     (person_step x older)
     (λ n h. person_none (x ∷ older) n (sight_none (x ∷ older) n h))
-    (λ n h. ap (λ b. cond b (Some (let p : Person = record {
-      spelled = known_after says_spelling (λ p. p.spelled) (ours x) x.told (channels_of (x ∷ older)) (people_of older) n;
-      account = known_after says_account (λ p. p.account) (ours x) x.told (channels_of (x ∷ older)) (people_of older) n;
-      away = known_after says_away (λ p. p.away) (ours x) x.told (channels_of (x ∷ older)) (people_of older) n;
-    } in p)) None) (seen_none (channels_of (x ∷ older)) (fin.keys (channels_of (x ∷ older))) n h))
+    (λ n h. ap (λ b. cond b (Some (person_from (ours x) x.told (channels_of (x ∷ older)) (people_of older) n)) None) (seen_none (channels_of (x ∷ older)) (fin.keys (channels_of (x ∷ older))) n h))

@@ -57,3 +57,7 @@ has-ranks f rank h = has-filter f every_rank rank h
 -- what a set has passes the test that made it
 pub has_of_filter : (f : ℕ → Bool) (xs : List ℕ) (r : ℕ) → has_rank (filter f xs) r ≡ true → f r ≡ true
 has_of_filter f xs r h = not_false (f r) (λ e. no_true (sym (filter_none f xs r e) ∙ h))
+
+pub has_of_set : (f : ℕ → Bool) (r : ℕ) → has_rank (ranks_that f) r ≡ true → f r ≡ true
+unfolding ranks_that
+has_of_set f r h = has_of_filter f every_rank r h

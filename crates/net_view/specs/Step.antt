@@ -83,12 +83,15 @@ abbrev pub known_after : Says → (Person → Option Text) → (Text → Bool) �
 known_after says field us t cs old n =
     unwrap_or (says us (map.contains_key cs) t n) (option_and_then (λ m. option_and_then field (map.get old m)) (name_before us t n))
 
-abbrev pub person_after : (Text → Bool) → Told → FinMap bytes_cmp Channel → FinMap bytes_cmp Person → Text → Option Person
-person_after us t cs old n = if is_seen cs n then Some (record {
+abbrev pub person_from : (Text → Bool) → Told → FinMap bytes_cmp Channel → FinMap bytes_cmp Person → Text → Person
+person_from us t cs old n = record {
   spelled = known_after says_spelling (λ p. p.spelled) us t cs old n;
   account = known_after says_account (λ p. p.account) us t cs old n;
   away = known_after says_away (λ p. p.away) us t cs old n;
-}) else None
+}
+
+abbrev pub person_after : (Text → Bool) → Told → FinMap bytes_cmp Channel → FinMap bytes_cmp Person → Text → Option Person
+person_after us t cs old n = if is_seen cs n then Some (person_from us t cs old n) else None
 
 abbrev pub people_after : (Text → Bool) → Told → FinMap bytes_cmp Channel → FinMap bytes_cmp Person → FinMap bytes_cmp Person
 people_after us t cs old = table bytes_cmp (everyone cs) (person_after us t cs old)
