@@ -15,6 +15,7 @@ pub mod ChannelSound
 pub mod OwnSound
 pub mod PeopleSound
 pub mod SoundStep
+pub mod LastWord
 mod Transcripts
 mod MemberRows
 mod FactRows

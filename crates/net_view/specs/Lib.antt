@@ -16,3 +16,4 @@ pub mod Step
 pub mod Readers
 pub mod Seen
 pub mod Sound
+pub mod Found
