@@ -16,6 +16,9 @@ pub mod OwnSound
 pub mod PeopleSound
 pub mod SoundStep
 pub mod LastWord
+pub mod Worth
+pub mod NameLists
+pub mod WordsApart
 mod Transcripts
 mod MemberRows
 mod FactRows

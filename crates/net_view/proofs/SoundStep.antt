@@ -45,7 +45,7 @@ pub record Mapped {X Y : Type 0} (f : X → Y) (o : Option X) (y : Y) : Type 0 w
   pub was : o ≡ Some value
   pub maps : f value ≡ y
 
-mapped : {X Y : Type 0} (f : X → Y) (o : Option X) (y : Y) → option_map f o ≡ Some y → Mapped f o y
+pub mapped : {X Y : Type 0} (f : X → Y) (o : Option X) (y : Y) → option_map f o ≡ Some y → Mapped f o y
 mapped f None y h = cc
 mapped f (Some x) y h = record { value = x; was = refl; maps = same h } where
   same : Some (f x) ≡ Some y → f x ≡ y
@@ -104,7 +104,7 @@ was_spelled v c o h n (Some m) same e =
     subst (λ k. IsSomeAnd (known_at (λ p. p.spelled) v m) (IsSpelling v.settings k)) (same m refl) (member_of_old v c o h m e)
 
 -- a member of a channel after the item
-in_channel_after : (us : Text → Bool) (t : Told) (c : Text) (old : Option Channel) (n : Text) → is_some (old_member (channel_after us t c old) n) ≡ true →
+pub in_channel_after : (us : Text → Bool) (t : Told) (c : Text) (old : Option Channel) (n : Text) → is_some (old_member (channel_after us t c old) n) ≡ true →
     unwrap_or (says_member c us t n) (is_some (option_and_then (old_member old) (name_before us t n))) ≡ true
 in_channel_after us t c old n h =
     elim (unwrap_or (says_on c us t) (option_map (λ (ch : Channel). ch.name) old)) as (λ o. is_some (old_member (option_map (channel_from us t c old) o) n) ≡ true → unwrap_or (says_member c us t n) (is_some (option_and_then (old_member old) (name_before us t n))) ≡ true) [
@@ -140,7 +140,7 @@ seen_is_spelled v t sound told n h =
 -- ---- a channel after the item
 
 -- what is known of how we come to be on it
-record IsOnAfter (v : View) (t : Told) (c : Text) (name : Text) : Type 0 where
+pub record IsOnAfter (v : View) (t : Told) (c : Text) (name : Text) : Type 0 where
   pub settings : settings_after t (standing_of v) ≡ v.settings
   pub ready : ready_after t (standing_of v) ≡ true
   pub named : is_channel v.settings name ≡ true

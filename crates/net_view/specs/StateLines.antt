@@ -143,10 +143,14 @@ told_by_topic_reply settings line = told_by_topic_at 1 settings line
 abbrev pub told_by_no_topic : List Token → Parts → Told
 told_by_no_topic settings line = or_silent (with line 1 (λ c. Some (Titled (key_by settings c) None)))
 
+-- the members that a text of words names
+abbrev pub listings_of : List Token → Text → List Listing
+listings_of settings text = filter_map (listing settings) (words settings text)
+
 -- 353 RPL_NAMREPLY: us, a symbol, channel, words; missing words count as none (RFC 2812, section 5.1;
 -- IRCv3 multi-prefix)
 abbrev pub told_by_names : List Token → Parts → Told
-told_by_names settings line = or_silent (with line 2 (λ c. Some (Present (key_by settings c) (filter_map (listing settings) (words settings (unwrap_or (slice_get line.params 3) []))))))
+told_by_names settings line = or_silent (with line 2 (λ c. Some (Present (key_by settings c) (listings_of settings (unwrap_or (slice_get line.params 3) [])))))
 
 -- ACCOUNT name (IRCv3 account-notify)
 abbrev pub told_by_account : List Token → Parts → Told

@@ -44,6 +44,10 @@ pub record View : Type 0 where
 abbrev pub empty_view : View
 empty_view = record { own = None; ready = false; settings = []; channels = empty; people = empty }
 
+-- the view of a network that has just taken us in
+abbrev pub welcomed_view : Text → View
+welcomed_view nick = record { own = Some nick; ready = false; settings = []; channels = empty; people = empty }
+
 -- what a loss leaves: we are on no channel and know nobody; own nick and settings stay
 abbrev pub lost_view : View → View
 lost_view v = record { own = v.own; ready = v.ready; settings = v.settings; channels = empty; people = empty }

@@ -8,7 +8,9 @@ mod laws;
 mod network_view;
 
 pub use channel::{Channel, Member};
-pub use facts::{the_last_word, views_are_sound};
+pub use facts::{
+    a_name_is_a_person, name_lists_add_up, settings_stay, the_last_word, views_are_sound,
+};
 pub use item::Item;
 pub use laws::{
     a_loss_empties_the_view, a_view_is_a_state, only_state_items_count, views_go_by_steps,

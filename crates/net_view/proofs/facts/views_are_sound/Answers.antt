@@ -1,5 +1,9 @@
 use Rattle.net_view.proofs.SoundStep.{view_sound}
+use Rattle.net_view.proofs.Worth.{joined_as}
 use Rattle.net_view.proofs.facts.views_are_sound.Goals as goal
 
-pub returns : goal.returns
-returns c = view_sound
+pub returns-clause-sound : goal.returns-clause-sound
+returns-clause-sound c = view_sound
+
+pub returns-clause-joined : goal.returns-clause-joined
+returns-clause-joined c = joined_as
