@@ -26,7 +26,7 @@ use Rattle.net_view.specs.Sound.{rank_limit, IsFilled, IsKept}
 use Rattle.net_view.proofs.Tests.{no_true, and_parts, cond_and_false}
 use Rattle.net_view.proofs.Keys.{is_same}
 use Rattle.net_view.proofs.RankSets.{has_of_set}
-use Rattle.net_view.proofs.ToldSound.{Each, IsSoundTold, IsSoundMode, IsSoundListing}
+use Rattle.net_view.proofs.PartsSound.{Each, IsSoundTold, IsSoundMode, IsSoundListing}
 use Rattle.net_view.proofs.Holds.{of_either, of_test, of_last}
 
 -- ---- how we come to be on a channel after an item

@@ -3,7 +3,7 @@ use Rattle.std.specs.Prelude.{◌≡◌, Bool, true, false, cond, IfSome, List, 
 use Rattle.std.specs.Option.{ForSome, option_or, option_and_then, unwrap_or}
 use Rattle.std.proofs.Common.{Option, Some, None, refl, subst}
 use Rattle.net_view.specs.LookBack.{last_in}
-use Rattle.net_view.proofs.ToldSound.{Each}
+use Rattle.net_view.proofs.PartsSound.{Each}
 
 pub for_some : {X : Type 0} (P : X → Type 0) (o : Option X) → IfSome o P → ForSome o P
 for_some P o h x e = subst (λ v. IfSome v P) e h

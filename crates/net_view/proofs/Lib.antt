@@ -9,11 +9,14 @@ pub mod PeopleStep
 pub mod StepLaw
 pub mod Emptied
 pub mod AfterMaps
+pub mod PartsSound
 pub mod ToldSound
 pub mod Holds
 pub mod ChannelSound
 pub mod OwnSound
 pub mod PeopleSound
+pub mod MembersSpelled
+pub mod OnSound
 pub mod SoundStep
 pub mod LastWord
 pub mod Worth

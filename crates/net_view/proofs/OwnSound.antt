@@ -18,7 +18,7 @@ use Rattle.net_view.specs.View.{Channel}
 use Rattle.net_view.specs.Step.{old_member}
 use Rattle.net_view.proofs.Tests.{no_true, and_parts}
 use Rattle.net_view.proofs.Keys.{is_same, same_refl}
-use Rattle.net_view.proofs.ToldSound.{IsSoundTold}
+use Rattle.net_view.proofs.PartsSound.{IsSoundTold}
 
 pub own_nameable : (settings : List Token) (t : Told) (s : Standing) → IsSoundTold settings t → IfSome s.own (λ nick. is_nameable nick ≡ true) → IfSome (own_after t s) (λ nick. is_nameable nick ≡ true)
 own_nameable settings (Welcomed nick) s n h = n

@@ -14,7 +14,7 @@ use Rattle.net_view.specs.Facts.{spelled_in, says_spelling, says_account, says_a
 use Rattle.net_view.specs.Sound.{IsSpelling, IsAccount, IsFilled}
 use Rattle.net_view.proofs.Tests.{no_true, and_parts}
 use Rattle.net_view.proofs.Keys.{is_same}
-use Rattle.net_view.proofs.ToldSound.{IsSoundTold, IsSoundName, IsSoundListing}
+use Rattle.net_view.proofs.PartsSound.{IsSoundTold, IsSoundName, IsSoundListing}
 use Rattle.net_view.proofs.Holds.{of_test, of_last}
 
 -- ---- what is said is sound

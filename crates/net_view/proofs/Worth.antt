@@ -23,7 +23,8 @@ use Rattle.net_view.proofs.StepLaw.{view_step}
 use Rattle.net_view.proofs.Emptied.{emptied}
 use Rattle.net_view.proofs.AfterMaps.{get-channels_after, seen_somewhere}
 use Rattle.net_view.proofs.LastWord.{last_found}
-use Rattle.net_view.proofs.SoundStep.{mapped, in_channel_after, view_sound}
+use Rattle.net_view.proofs.MembersSpelled.{mapped, in_channel_after}
+use Rattle.net_view.proofs.SoundStep.{view_sound}
 
 -- ---- once ready
 
