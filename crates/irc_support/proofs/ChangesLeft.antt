@@ -1,11 +1,10 @@
 -- The changes that are left, letter by letter.
-use Rattle.std.proofs.Common.{◌≡◌, ℕ, suc, ◌+◌, ◌<◌, ◌≤◌, Bool, true, false, ◌==◌, cond, List, [], ◌∷◌, length, drop, slice_get, Option, Some, None, unwrap_or, sym, ap, ◌∙◌, arith, refl, inl, inr, add-one}
+use Rattle.std.proofs.Common.{◌≡◌, ℕ, ◌+◌, ◌<◌, Bool, true, List, [], length, drop, slice_get, Option, Some, unwrap_or, ap, ◌∙◌, refl, inl, inr, add-one}
 use Rattle.std.proofs.Math.Seq.{drop-cons}
 use Rattle.std.proofs.Math.ListN.{drop_of_length-le}
 use Rattle.std.proofs.lemmas.Option.{slice_get_cases}
 use Rattle.irc_support.specs.Text.{Text}
 use Rattle.irc_support.specs.Tokens.{Token}
-use Rattle.irc_support.specs.ChanModes.{kind_of, takes_parameter}
 use Rattle.irc_support.specs.ModeChanges.{ChangeParts, changes, signed, with_params}
 
 abbrev pub changes_left : List Token → Bool → Text → List Text → ℕ → List ChangeParts

@@ -1,5 +1,7 @@
 pub mod ChangesLeft
 pub mod RankSets
+pub mod WordCuts
+pub mod SymbolRun
 pub mod Spelling
 pub mod TokenTable
 pub mod ParamRest

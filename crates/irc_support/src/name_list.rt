@@ -1,8 +1,9 @@
 //! The members that a name list names.
 
-ghost use Rattle.std.specs.Prelude.{◌≡◌};
+ghost use Rattle.std.specs.Prelude.{◌≡◌, [], ◌∷◌, MatchOption};
 ghost use Rattle.std.specs.Iterator.{YieldsFirstBy, item_count};
 ghost use Rattle.irc_support.specs.NamesReply as parsed;
+ghost use Rattle.irc_support.specs.NamesReply.{words_between};
 ghost use Rattle.irc_support.specs.MemberShown.{shown_member};
 
 use crate::cuts::cut;
@@ -43,25 +44,29 @@ impl<'a, A: Allocator> Iterator for Names<'a, A> {
 
     ghost remaining = { item_count (λ left. left) };
 
+    #[tactic(auto, unfolding(crate::specs::NamesReply::words))]
     fn next(&mut self) -> Option<(Ranks, &'a [u8])> {
-        while !self.text.is_empty() {
-            let (word, rest) = next_word(self.text);
-            self.text = rest;
-            if !word.is_empty() {
-                let (ranks, name) = self.support.split_symbols(word);
-                return Some((ranks, cut(b'!', name).0));
-            }
-        }
-        None
+        let (word, rest) = next_word(self.text)?;
+        self.text = rest;
+        let (ranks, name) = self.support.split_symbols(word);
+        Some((ranks, cut(b'!', name).0))
     }
 }
 
-/// What stands before the first space, and what stands behind it.
-fn next_word(text: &[u8]) -> (&[u8], &[u8])
+/// The first word of a text, and what stands behind it.
+fn next_word(text: &[u8]) -> Option<(&[u8], &[u8])>
+    ensures { MatchOption result (words_between text.now ≡ []) (λ w. words_between text.now ≡ w.0.now ∷ words_between w.1.now) }
 {
-    let (word, rest) = cut(b' ', text);
-    match rest {
-        Some(rest) => (word, rest),
-        None => (word, &[]),
+    let mut left = text;
+    while !left.is_empty() {
+        let (word, rest) = cut(b' ', left);
+        left = match rest {
+            Some(rest) => rest,
+            None => &[],
+        };
+        if !word.is_empty() {
+            return Some((word, left));
+        }
     }
+    None
 }

@@ -3,9 +3,9 @@
 ghost use Rattle.std.specs.Prelude.{◌≡◌};
 ghost use Rattle.irc_support.specs.Line.{words_in};
 
+use crate::Support;
 use crate::name_list::Names;
 use crate::params::param_or_empty;
-use crate::Support;
 use irc_line::Line;
 use std::alloc::Allocator;
 
@@ -15,6 +15,7 @@ use std::alloc::Allocator;
 /// stand in this place is our own choice). A word is the symbols of `PREFIX` at its front, all of which are
 /// read (IRCv3 multi-prefix), and a nick, which ends before its first `!`. A word of symbols alone comes
 /// with an empty nick.
+#[tactic(auto, unfolding(crate::specs::NamesReply::words))]
 pub fn names<'a, A: Allocator, B: Allocator>(
     support: &'a Support<A>,
     line: &'a Line<B>,
