@@ -1,17 +1,16 @@
 -- What the parts of a line give is well formed.
-use Rattle.std.specs.Prelude.{◌≡◌, ℕ, ◌<◌, Bool, true, false, cond, ◌&&◌, ◌==◌, IfSome, List, [], ◌∷◌, length, ⊤}
+use Rattle.std.specs.Prelude.{◌≡◌, ℕ, ◌<◌, Bool, true, false, cond, ◌&&◌, ◌||◌, ◌==◌, IfSome, List, [], ◌∷◌, length, ⊤}
 use Rattle.std.specs.List.{filter_map, cons_option, range_with_len}
 use Rattle.std.specs.Option.{option_and_then, option_map, option_map_or, unwrap_or}
 use Rattle.std.proofs.Common.{Option, Some, None, refl, sym, ap, ◌∙◌, subst, codes}
 use Rattle.std.specs.Str.{bytes_eq}
 use Rattle.std.proofs.lemmas.Bool.{eqb-true}
-use Rattle.std.proofs.lemmas.Option.{slice_get_within}
 use Rattle.std.proofs.lemmas.List.Quantifiers.{position-Some}
 use Rattle.irc_line.specs.Line.{Parts, nick_of}
 use Rattle.irc_names.specs.Nick.{is_nameable}
-use Rattle.irc_support.specs.Text.{Text, is_word, has_byte}
+use Rattle.irc_support.specs.Text.{Text, is_word}
 use Rattle.irc_support.specs.Tokens.{Token, value_of}
-use Rattle.irc_support.specs.Ranking.{Ranking, prefix_text, is_ranking, halves_of, spelled_by, ranking_in, ranking_of, rank_of_letter, symbol_of}
+use Rattle.irc_support.specs.Ranking.{Ranking, prefix_text, is_ranking, halves_of, spelled_by, ranking_in, ranking_of, rank_of_letter, rank_of_symbol}
 use Rattle.irc_support.specs.Ranks.{rank_count, ranks_that, has_rank}
 use Rattle.irc_support.specs.ChanModes.{kind_of}
 use Rattle.irc_support.specs.Settings.{key_by, is_channel}
@@ -160,14 +159,24 @@ symbols-letters : (settings : List Token) → length (ranking_of settings).symbo
 unfolding ranking_of
 symbols-letters settings = ranking_alike (unwrap_or (value_of settings (codes "PREFIX")) (codes "(ov)@+"))
 
+-- whose symbol is shown is a rank that there is
+shown_rank : (settings : List Token) (symbols : Text) (rank : ℕ) → shows_rank settings symbols rank ≡ true → rank < rank_limit settings
+shown_rank settings [] rank h = cc
+shown_rank settings (b ∷ symbols) rank h =
+    elim (rank_of_symbol settings b) as (λ o. rank_of_symbol settings b ≡ o → (option_map_or (λ r. r == rank) o false || shows_rank settings symbols rank) ≡ true → rank < rank_limit settings) [
+      | None ↦ λ e s. shown_rank settings symbols rank s
+      | Some r ↦ λ e s. elim (r == rank) as (λ v. (r == rank) ≡ v → (v || shows_rank settings symbols rank) ≡ true → rank < rank_limit settings) [
+        | true ↦ λ q _. let P : ℕ → Type 0 = λ n. n < rank_limit settings in
+            let Q : ℕ → Type 0 = λ n. r < n in
+            subst P (eqb-true r rank q) (subst Q (symbols-letters settings) (position-Some (λ c. c == b) (ranking_of settings).symbols r 0 e).0)
+        | false ↦ λ q k. shown_rank settings symbols rank k
+      ] refl s
+    ] refl h
+
 word_ranks : (settings : List Token) (text : Text) (rank : ℕ) → has_rank (word_of settings text).ranks rank ≡ true → rank < rank_limit settings
 unfolding ranks_that
 word_ranks settings text rank h =
-    let shown : shows_rank settings (symbols_before settings text) rank ≡ true = has_of_filter (shows_rank settings (symbols_before settings text)) (range_with_len 0 rank_count) rank h in
-    elim (symbol_of settings rank) as (λ o. symbol_of settings rank ≡ o → option_map_or (has_byte (symbols_before settings text)) o false ≡ true → rank < rank_limit settings) [
-      | None ↦ λ e s. absurd (no_true s)
-      | Some b ↦ λ e s. let P : ℕ → Type 0 = λ n. rank < n in subst P (symbols-letters settings) (slice_get_within (ranking_of settings).symbols rank b e)
-    ] refl shown
+    shown_rank settings (symbols_before settings text) rank (has_of_filter (shows_rank settings (symbols_before settings text)) (range_with_len 0 rank_count) rank h)
 
 pub listing_sound : (settings : List Token) (text : Text) → IfSome (listing settings (word_of settings text)) (IsSoundListing settings)
 listing_sound settings text =
