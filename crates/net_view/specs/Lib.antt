@@ -1,3 +1,13 @@
+pub use Rattle.irc_line.specs.Line
+pub use Rattle.irc_names.specs.Nick
+pub use Rattle.irc_support.specs.Text
+pub use Rattle.irc_support.specs.Tokens
+pub use Rattle.irc_support.specs.Ranking
+pub use Rattle.irc_support.specs.Ranks
+pub use Rattle.irc_support.specs.ChanModes
+pub use Rattle.irc_support.specs.Settings
+pub use Rattle.irc_support.specs.ModeChanges
+pub use Rattle.irc_support.specs.NamesReply
 pub mod Names
 pub mod Told
 pub mod Arrival
