@@ -22,7 +22,9 @@ pub mod LastWord
 pub mod Worth
 pub mod NameLists
 pub mod WordsApart
+pub mod SeenWhole
 mod Transcripts
 mod MemberRows
 mod FactRows
 mod LineRows
+mod SeenRows

@@ -232,7 +232,7 @@ module _ (us : Text → Bool) (c : Text) where
 
 -- ---- the view
 
-view_in_parts : (v : View) (c : Text) (a b : List Listing) → IsSound v → after_told v (Present c (a ++ b)) ≡ after_told (after_told v (Present c a)) (Present c b)
+pub view_in_parts : (v : View) (c : Text) (a b : List Listing) → IsSound v → after_told v (Present c (a ++ b)) ≡ after_told (after_told v (Present c a)) (Present c b)
 view_in_parts v c a b sound =
     let us = is_us (standing_of v) in
     let cs = channels_in_parts us c a b v.channels in

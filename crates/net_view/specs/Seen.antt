@@ -1,5 +1,5 @@
 -- What a client knows of a network that holds some of the capabilities, and came at some boundary.
-use Rattle.std.specs.Prelude.{ℕ, ◌-◌, Bool, false, not, ◌&&◌, ◌||◌, nat_lt, ◌==◌, List, [], ◌∷◌, length, reverse, if◌then◌else◌}
+use Rattle.std.specs.Prelude.{ℕ, ◌-◌, Bool, true, false, not, ◌&&◌, ◌||◌, nat_lt, ◌==◌, List, [], ◌∷◌, length, reverse, if◌then◌else◌}
 use Rattle.std.specs.List.{list_any, range_with_len}
 use Rattle.std.specs.Option.{option_map, unwrap_or}
 use Rattle.std.specs.FinMap as map
@@ -25,6 +25,10 @@ pub record HeldCaps : Type 0 where
   pub extended_join : Bool
   pub account_notify : Bool
   pub away_notify : Bool
+
+-- all of them
+abbrev pub all_caps : HeldCaps
+all_caps = record { multi_prefix = true; extended_join = true; account_notify = true; away_notify = true }
 
 -- Accounts are kept with both capabilities that tell of them, since one alone misses some; away texts with
 -- theirs (our own choice).

@@ -17,6 +17,7 @@ ghost use Rattle.net_view.specs.Found.{IsSaidLast, IsSaidLastOf, IsKnown};
 ghost use Rattle.net_view.specs.View.{View, Channel, welcomed_view, view_of};
 ghost use Rattle.net_view.specs.Step.{is_seen};
 ghost use Rattle.net_view.specs.Readers.{account_shown};
+ghost use Rattle.net_view.specs.Seen.{all_caps, seen_since};
 ghost use Rattle.net_view.specs.Sound.{IsSound};
 
 /// What is found by looking back, in a reader's words: the last item that speaks of a matter or of a person
@@ -50,6 +51,11 @@ pub fn a_name_is_a_person()
         name_traced (record { before = standing_after (Renamed a b) s; told = Renamed b.key c } ∷ record { before = s; told = Renamed a b } ∷ []) n ≡ Some n }
     ensures quit { (items : List Arrival) (x : Arrival) (n : Text) → told (view_of items).settings x ≡ Quits n → is_seen (view_of (items ++ x ∷ [])).channels n ≡ false }
     ensures welcome { (items : List Arrival) (x : Arrival) (nick : Text) → told (view_of items).settings x ≡ Welcomed nick → view_of (items ++ x ∷ []) ≡ welcomed_view nick }
+{}
+
+/// A client that holds all four capabilities sees the whole view, whenever it came.
+pub fn all_capabilities_see_all()
+    ensures { (items : List Arrival) (a : ℕ) → seen_since items a all_caps ≡ view_of items }
 {}
 
 /// Name lists add up: a list tells what two tell that have its words, one list after the other. So it can be

@@ -9,7 +9,8 @@ mod network_view;
 
 pub use channel::{Channel, Member};
 pub use facts::{
-    a_name_is_a_person, name_lists_add_up, settings_stay, the_last_word, views_are_sound,
+    a_name_is_a_person, all_capabilities_see_all, name_lists_add_up, settings_stay, the_last_word,
+    views_are_sound,
 };
 pub use item::Item;
 pub use laws::{
