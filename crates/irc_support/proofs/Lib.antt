@@ -1,4 +1,5 @@
 pub mod ChangesLeft
+pub mod RankPlaces
 pub mod RankSets
 pub mod WordCuts
 pub mod SymbolRun
