@@ -1,0 +1,43 @@
+-- The keys of a settings file. The format is our own choice.
+use Rattle.std.specs.Prelude.{ℕ, List, ◌++◌, codes}
+use Rattle.bnc_config.specs.declared.key.Key.{Key}
+use Rattle.bnc_config.specs.declared.key.Key.TheVariants.{Listen, History, Retry, User}
+use Rattle.bnc_config.specs.declared.key.Key.TheVariants.{UserName, UserSalt, UserPassword, UserNetwork}
+use Rattle.bnc_config.specs.declared.key.Key.TheVariants.{NetworkName, NetworkAddress, NetworkNick, NetworkUser}
+use Rattle.bnc_config.specs.declared.key.Key.TheVariants.{NetworkRealname, NetworkPassword, NetworkJoin}
+
+-- the key's word in its table
+abbrev pub word_of : Key → List ℕ
+word_of Listen = codes "listen"
+word_of History = codes "history"
+word_of Retry = codes "retry"
+word_of User = codes "user"
+word_of UserName = codes "name"
+word_of UserSalt = codes "salt"
+word_of UserPassword = codes "password"
+word_of UserNetwork = codes "network"
+word_of NetworkName = codes "name"
+word_of NetworkAddress = codes "address"
+word_of NetworkNick = codes "nick"
+word_of NetworkUser = codes "user"
+word_of NetworkRealname = codes "realname"
+word_of NetworkPassword = codes "password"
+word_of NetworkJoin = codes "join"
+
+-- how a fault names the key: with the words of the tables that it stands in, and dots between
+abbrev pub path_of : Key → List ℕ
+path_of Listen = word_of Listen
+path_of History = word_of History
+path_of Retry = word_of Retry
+path_of User = word_of User
+path_of UserName = codes "user." ++ word_of UserName
+path_of UserSalt = codes "user." ++ word_of UserSalt
+path_of UserPassword = codes "user." ++ word_of UserPassword
+path_of UserNetwork = codes "user." ++ word_of UserNetwork
+path_of NetworkName = codes "user.network." ++ word_of NetworkName
+path_of NetworkAddress = codes "user.network." ++ word_of NetworkAddress
+path_of NetworkNick = codes "user.network." ++ word_of NetworkNick
+path_of NetworkUser = codes "user.network." ++ word_of NetworkUser
+path_of NetworkRealname = codes "user.network." ++ word_of NetworkRealname
+path_of NetworkPassword = codes "user.network." ++ word_of NetworkPassword
+path_of NetworkJoin = codes "user.network." ++ word_of NetworkJoin

@@ -1,0 +1,4 @@
+pub mod Document
+pub mod Key
+pub mod Settings
+pub mod Text

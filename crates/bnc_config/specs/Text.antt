@@ -1,0 +1,53 @@
+-- What a text of the settings file may be. The format is our own choice.
+use Rattle.std.specs.Prelude.{ℕ, Bool, true, false, ◌&&◌, ◌||◌, ◌==◌, not, nat_le, nat_lt, List, [], ◌∷◌, length, codes}
+use Rattle.std.specs.List.{list_any, list_all, before_first, after_first}
+use Rattle.std.specs.Char.{is_ascii_digit}
+use Rattle.std.specs.Result.{is_ok}
+use Rattle.std.specs.Str.Parse.{digits_value}
+use Rattle.hex.specs.Hex.{decode_of}
+
+abbrev pub is_empty : List ℕ → Bool
+is_empty [] = true
+is_empty (b ∷ bs) = false
+
+-- a control byte of ASCII
+abbrev pub is_control : ℕ → Bool
+is_control b = nat_lt b 32 || b == 127
+
+-- the byte is one of these
+abbrev pub is_one_of : List ℕ → ℕ → Bool
+is_one_of bytes b = list_any (λ c. b == c) bytes
+
+-- a name of a user or a network: a login writes it as `user@client/network:password`
+abbrev pub is_name : List ℕ → Bool
+is_name text = not (is_empty text) && not (list_any (λ b. is_control b || is_one_of (codes "/@: ") b) text)
+
+-- the text does not begin with a colon
+abbrev pub begins_plainly : List ℕ → Bool
+begins_plainly [] = true
+begins_plainly (b ∷ bs) = not (b == 58)
+
+-- a word: what a line can hold as any of its parameters (RFC 2812, section 2.3.1, `middle`),
+-- without control bytes
+abbrev pub is_word : List ℕ → Bool
+is_word text = not (is_empty text) && (begins_plainly text && not (list_any (λ b. is_control b || b == 32) text))
+
+-- a text on one line, which may have spaces and may be empty
+abbrev pub is_one_line : List ℕ → Bool
+is_one_line text = not (list_any is_control text)
+
+-- a port: a number from 1 to 65535, in decimal digits
+abbrev pub is_port : List ℕ → Bool
+is_port text = list_all is_ascii_digit text && (nat_le 1 (digits_value 10 text) && nat_le (digits_value 10 text) 65535)
+
+-- HOST:PORT, where the host is not empty and, ending at the first colon, holds none
+abbrev pub is_address : List ℕ → Bool
+is_address text = not (is_empty (before_first (λ b. b == 58) text)) && is_port (after_first (λ b. b == 58) text)
+
+-- bytes in hexadecimal digits, two a byte, in either case
+abbrev pub is_hexadecimal : List ℕ → Bool
+is_hexadecimal text = is_ok (decode_of text)
+
+-- a SHA-256 digest: 32 bytes in hexadecimal digits
+abbrev pub is_digest : List ℕ → Bool
+is_digest text = length text == 64 && is_hexadecimal text

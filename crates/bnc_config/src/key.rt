@@ -1,0 +1,95 @@
+//! The keys of a settings file.
+
+ghost use Rattle.std.specs.Prelude.{◌≡◌, Some};
+ghost use Rattle.bnc_config.specs.Key.{path_of, word_of};
+
+use std::fmt;
+
+/// A key of the settings file, by the table that it stands in: the top of the file, a `[[user]]` table
+/// or a `[[user.network]]` table.
+#[derive(Clone, Copy, Debug, PartialEq, Eq)]
+pub enum Key {
+    /// `listen`: the address for clients, `HOST:PORT`.
+    Listen,
+    /// `history`: how many messages a network keeps, 1 to 10,000.
+    History,
+    /// `retry`: the seconds between two dials after a loss, 1 to 3600.
+    Retry,
+    /// `user`: the list of users.
+    User,
+    /// `user.name`: what a client logs in as.
+    UserName,
+    /// `user.salt`: hexadecimal digits of the bytes that are hashed before the password.
+    UserSalt,
+    /// `user.password`: the 64 hexadecimal digits of the SHA-256 digest.
+    UserPassword,
+    /// `user.network`: the list of the user's networks.
+    UserNetwork,
+    /// `user.network.name`: what a client asks for when it logs in.
+    NetworkName,
+    /// `user.network.address`: the IRC server, `HOST:PORT`.
+    NetworkAddress,
+    /// `user.network.nick`: the nick that is asked for first.
+    NetworkNick,
+    /// `user.network.user`: the user name of the USER line.
+    NetworkUser,
+    /// `user.network.realname`: the real name of the USER line.
+    NetworkRealname,
+    /// `user.network.password`: the password of the PASS line.
+    NetworkPassword,
+    /// `user.network.join`: the channels to join.
+    NetworkJoin,
+}
+
+impl Key {
+    /// The key with the tables that it stands in, as faults name it: `user.network.nick`.
+    pub fn path(self) -> &'static str
+        ensures { result.now ≡ path_of self }
+    {
+        match self {
+            Key::Listen => "listen",
+            Key::History => "history",
+            Key::Retry => "retry",
+            Key::User => "user",
+            Key::UserName => "user.name",
+            Key::UserSalt => "user.salt",
+            Key::UserPassword => "user.password",
+            Key::UserNetwork => "user.network",
+            Key::NetworkName => "user.network.name",
+            Key::NetworkAddress => "user.network.address",
+            Key::NetworkNick => "user.network.nick",
+            Key::NetworkUser => "user.network.user",
+            Key::NetworkRealname => "user.network.realname",
+            Key::NetworkPassword => "user.network.password",
+            Key::NetworkJoin => "user.network.join",
+        }
+    }
+
+    /// The key's own word, as it stands in its table.
+    pub(crate) fn word(self) -> &'static str
+        ensures { result.now ≡ word_of self }
+    {
+        match self {
+            Key::Listen => "listen",
+            Key::History => "history",
+            Key::Retry => "retry",
+            Key::User | Key::NetworkUser => "user",
+            Key::UserName | Key::NetworkName => "name",
+            Key::UserSalt => "salt",
+            Key::UserPassword | Key::NetworkPassword => "password",
+            Key::UserNetwork => "network",
+            Key::NetworkAddress => "address",
+            Key::NetworkNick => "nick",
+            Key::NetworkRealname => "realname",
+            Key::NetworkJoin => "join",
+        }
+    }
+}
+
+impl fmt::Display for Key {
+    ghost output = { λ key. Some (path_of key) };
+
+    fn fmt<W: fmt::Write>(&self, f: &mut fmt::Formatter<W>) -> fmt::Result {
+        f.write_str(self.path())
+    }
+}

@@ -1,0 +1,12 @@
+//! The settings of the bouncer: what a TOML text means, and its first fault.
+#![tactic(auto)]
+
+mod check;
+mod fault;
+mod key;
+mod text;
+
+pub use fault::ConfigFault;
+pub use key::Key;
+pub use std::alloc::AllocError as OutOfMemory;
+pub use text::Text;
