@@ -18,19 +18,23 @@ is_control b = nat_lt b 32 || b == 127
 abbrev pub is_one_of : List ℕ → ℕ → Bool
 is_one_of bytes b = list_any (λ c. b == c) bytes
 
--- a name of a user or a network: a login writes it as `user@client/network:password`
+-- what no name holds: control bytes, spaces, and what parts the names in a login `user@client/network:password`
+abbrev pub bars_name : ℕ → Bool
+bars_name b = is_control b || is_one_of (codes "/@: ") b
+
+-- a name of a user or a network
 abbrev pub is_name : List ℕ → Bool
-is_name text = not (is_empty text) && not (list_any (λ b. is_control b || is_one_of (codes "/@: ") b) text)
+is_name text = not (is_empty text) && not (list_any bars_name text)
 
--- the text does not begin with a colon
-abbrev pub begins_plainly : List ℕ → Bool
-begins_plainly [] = true
-begins_plainly (b ∷ bs) = not (b == 58)
+-- what no word holds
+abbrev pub bars_word : ℕ → Bool
+bars_word b = is_control b || b == 32
 
--- a word: what a line can hold as any of its parameters (RFC 2812, section 2.3.1, `middle`),
--- without control bytes
+-- a word: a text that a line can hold as any of its parameters (RFC 2812, section 2.3.1, `middle`), without control
+-- bytes: it is not empty and does not begin with a colon
 abbrev pub is_word : List ℕ → Bool
-is_word text = not (is_empty text) && (begins_plainly text && not (list_any (λ b. is_control b || b == 32) text))
+is_word [] = false
+is_word (b ∷ bs) = not (b == 58) && not (list_any bars_word (b ∷ bs))
 
 -- a text on one line, which may have spaces and may be empty
 abbrev pub is_one_line : List ℕ → Bool

@@ -1,6 +1,7 @@
 //! The settings of the bouncer: what a TOML text means, and its first fault.
 #![tactic(auto)]
 
+mod allowed;
 mod check;
 mod fault;
 mod key;
