@@ -1,4 +1,5 @@
 pub mod Document
 pub mod Key
+pub mod Names
 pub mod Settings
 pub mod Text

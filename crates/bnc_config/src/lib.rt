@@ -5,6 +5,7 @@ mod allowed;
 mod check;
 mod fault;
 mod key;
+mod names;
 mod text;
 
 pub use fault::ConfigFault;
