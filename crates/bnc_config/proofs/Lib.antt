@@ -1,2 +1,4 @@
+pub mod FaultLemmas
+pub mod ItemsLemmas
 pub mod NamesLemmas
 pub mod PortLemmas

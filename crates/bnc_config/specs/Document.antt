@@ -1,12 +1,12 @@
 -- What a settings file means as a TOML tree, and its first fault. The format is our own choice.
-use Rattle.std.specs.Prelude.{◌≡◌, ◌⊎◌, ℕ, suc, Bool, true, false, ◌&&◌, nat_le, pos, List, [], ◌∷◌, ◌++◌, map, Option, Some, None, Result, Ok, Err, unwrap_or, option_and_then, if◌then◌else◌, IsUtf8}
+use Rattle.std.specs.Prelude.{◌≡◌, ◌⊎◌, ℕ, suc, Bool, true, false, ◌&&◌, nat_le, pos, List, [], ◌∷◌, ◌++◌, map, Option, Some, None, Result, Ok, Err, unwrap_or, is_some, option_and_then, if◌then◌else◌, IsUtf8}
 use Rattle.std.specs.List.{list_any}
 use Rattle.std.specs.Option.{option_or}
 use Rattle.std.specs.Result.{result_ok, result_unwrap_or}
 use Rattle.std.specs.Str.{bytes_eq}
 use Rattle.hex.specs.Hex.{decode_of}
 use Rattle.irc_names.specs.Nick.{is_nameable}
-use Rattle.toml.specs.Data.{Data, string, integer, float, boolean, datetime, array, table, Items, no_items, item, Members, get_member, as_str}
+use Rattle.toml.specs.Data.{Data, string, integer, float, boolean, datetime, array, table, Items, no_items, item, Members, get_member, as_str, as_table}
 use Rattle.toml.specs.Parse.{parse_document}
 use Rattle.bnc_config.specs.Key.{word_of}
 use Rattle.bnc_config.specs.Settings.{Settings, UserSettings, NetworkSettings}
@@ -32,8 +32,7 @@ is_number_within low high (integer (pos n)) = nat_le low n && nat_le n high
 is_number_within low high _ = false
 
 abbrev pub is_table : Data → Bool
-is_table (table tree) = true
-is_table _ = false
+is_table value = is_some (as_table value)
 
 abbrev pub all_items : (Data → Bool) → Items → Bool
 all_items test no_items = true
@@ -234,3 +233,8 @@ IsFaultOf text fault = (tree : Members) × IsTree text tree × (first_fault tree
 abbrev pub Reads : {T V : Type 0} → (T → V) → Result T ConfigFault → Option ConfigFault → V → Type 0
 Reads seen (Ok value) fault meant = (fault ≡ None) × (seen value ≡ meant)
 Reads seen (Err e) fault meant = (e ≡ OutOfMemory) ⊎ (fault ≡ Some e)
+
+-- copies of the texts of a list where the key allows them all, else nothing
+abbrev pub AreCopied : Key → Items → Option (List (List ℕ)) → Type 0
+AreCopied key items None = all_items (is_text_where (allows_text key)) items ≡ false
+AreCopied key items (Some texts) = (all_items (is_text_where (allows_text key)) items ≡ true) × (texts ≡ texts_of items)

@@ -2,13 +2,15 @@
 #![tactic(auto)]
 
 mod allowed;
-mod check;
 mod fault;
 mod key;
 mod names;
+mod networks;
+mod table;
 mod text;
 
 pub use fault::ConfigFault;
 pub use key::Key;
+pub use networks::NetworkConfig;
 pub use std::alloc::AllocError as OutOfMemory;
 pub use text::Text;

@@ -1,0 +1,156 @@
+//! Readers of one key of a table.
+
+ghost use Rattle.std.specs.Prelude.{◌≡◌, ◌&&◌, option_map, false, true, IfOk};
+ghost use Rattle.std.specs.List.{list_all};
+ghost use Rattle.toml.specs.Data.{get_member};
+ghost use Rattle.toml.specs.View.{view, items_view, table_view};
+ghost use Rattle.bnc_config.specs.Key.{word_of};
+ghost use Rattle.bnc_config.specs.Document.{AreCopied, Reads, allows_text, fault_at, has_at_most, is_list_where, is_number_within};
+ghost use Rattle.bnc_config.specs.Document.{is_table, is_text_where, items_of, number_at, optional_text_at, text_at, texts_at};
+
+use crate::allowed::allows;
+use crate::{ConfigFault, Key, OutOfMemory, Text};
+use std::alloc::Global;
+use toml::{Table, Value};
+
+/// What stands at a key of its table.
+fn value_at<'t>(table: &'t Table, key: Key) -> Option<&'t Value>
+    ensures { option_map (λ value. view value.now) result ≡ get_member (word_of key) (table_view table.now) }
+{
+    table.get(key.word())
+}
+
+/// The text at a key that has to stand, whatever it is.
+pub(crate) fn any_text<'t>(table: &'t Table, key: Key) -> Result<&'t str, ConfigFault>
+    ensures { Reads (λ text. text.now) result
+        (fault_at key false (is_text_where (λ _. true)) (get_member (word_of key) (table_view table.now)))
+        (text_at key (table_view table.now)) }
+{
+    let Some(value) = value_at(table, key) else {
+        return Err(ConfigFault::Missing(key));
+    };
+    match value.as_str() {
+        Some(text) => Ok(text),
+        None => Err(ConfigFault::BadValue(key)),
+    }
+}
+
+/// The text at a key that has to stand, one that the key allows.
+pub(crate) fn allowed_text<'t>(table: &'t Table, key: Key) -> Result<&'t str, ConfigFault>
+    ensures { Reads (λ text. text.now) result
+        (fault_at key false (is_text_where (allows_text key)) (get_member (word_of key) (table_view table.now)))
+        (text_at key (table_view table.now)) }
+{
+    let Some(value) = value_at(table, key) else {
+        return Err(ConfigFault::Missing(key));
+    };
+    match value.as_str() {
+        Some(text) if allows(key, text) => Ok(text),
+        _ => Err(ConfigFault::BadValue(key)),
+    }
+}
+
+/// A copy of the text at a key that has to stand.
+pub(crate) fn required_text(alloc: Global, table: &Table, key: Key) -> Result<Text, ConfigFault>
+    ensures { Reads (λ text. text) result
+        (fault_at key false (is_text_where (allows_text key)) (get_member (word_of key) (table_view table.now)))
+        (text_at key (table_view table.now)) }
+{
+    Ok(Text::copy(alloc, allowed_text(table, key)?)?)
+}
+
+/// A copy of the text at a key that may be left out.
+pub(crate) fn optional_text(alloc: Global, table: &Table, key: Key) -> Result<Option<Text>, ConfigFault>
+    ensures { Reads (λ text. text) result
+        (fault_at key true (is_text_where (allows_text key)) (get_member (word_of key) (table_view table.now)))
+        (optional_text_at key (table_view table.now)) }
+{
+    let Some(value) = value_at(table, key) else {
+        return Ok(None);
+    };
+    match value.as_str() {
+        Some(text) if allows(key, text) => Ok(Some(Text::copy(alloc, text)?)),
+        _ => Err(ConfigFault::BadValue(key)),
+    }
+}
+
+/// The number at a key that may be left out, 1 to `most`.
+pub(crate) fn number_or(table: &Table, key: Key, default: u32, most: u32) -> Result<u32, ConfigFault>
+    ensures { Reads (λ number. number) result
+        (fault_at key true (is_number_within 1 most) (get_member (word_of key) (table_view table.now)))
+        (number_at default key (table_view table.now)) }
+{
+    let Some(value) = value_at(table, key) else {
+        return Ok(default);
+    };
+    let Some(number) = value.as_integer() else {
+        return Err(ConfigFault::BadValue(key));
+    };
+    match u32::try_from(number) {
+        Ok(number) if 1 <= number && number <= most => Ok(number),
+        _ => Err(ConfigFault::BadValue(key)),
+    }
+}
+
+/// Whether each of the values is a table.
+fn are_tables(values: &[Value]) -> bool
+    ensures { result ≡ list_all (λ value. is_table (view value)) values.now }
+{
+    values.iter().all(|value| value.is_table())
+}
+
+/// The tables of the list at a key, which may be left out.
+#[tactic(auto, using(crate::proofs::ItemsLemmas::all_items_view))]
+pub(crate) fn tables_at<'t>(table: &'t Table, key: Key) -> Result<&'t [Value], ConfigFault>
+    ensures { Reads (λ values. items_view values.now) result
+        (fault_at key true (is_list_where is_table) (get_member (word_of key) (table_view table.now)))
+        (items_of (get_member (word_of key) (table_view table.now))) }
+{
+    let Some(value) = value_at(table, key) else {
+        return Ok(&[]);
+    };
+    let Some(values) = value.as_array() else {
+        return Err(ConfigFault::BadValue(key));
+    };
+    if !are_tables(values.as_slice()) {
+        return Err(ConfigFault::BadValue(key));
+    }
+    Ok(values.as_slice())
+}
+
+/// Copies of the texts that a list has, all of which the key allows; else `None`.
+fn copied_texts(alloc: Global, values: &[Value], key: Key) -> Result<Option<Vec<Text>>, OutOfMemory>
+    ensures { IfOk result (λ copies. AreCopied key (items_view values.now) (option_map (λ texts. texts.items) copies)) }
+{
+    let mut texts = Vec::with_capacity(alloc, values.len())?;
+    for value in values {
+        match value.as_str() {
+            Some(text) if allows(key, text) => texts.push(Text::copy(alloc, text)?)?,
+            _ => return Ok(None),
+        }
+    }
+    Ok(Some(texts))
+}
+
+/// Copies of the texts of the list at a key, at most 64, which may be left out.
+#[tactic(auto, using(crate::proofs::ItemsLemmas::item_count_view))]
+pub(crate) fn texts_at(alloc: Global, table: &Table, key: Key) -> Result<Vec<Text>, ConfigFault>
+    ensures { Reads (λ texts. texts.items) result
+        (fault_at key true (λ value. is_list_where (is_text_where (allows_text key)) value && has_at_most 64 value)
+            (get_member (word_of key) (table_view table.now)))
+        (texts_at key (table_view table.now)) }
+{
+    let Some(value) = value_at(table, key) else {
+        return Ok(Vec::new(alloc));
+    };
+    let Some(values) = value.as_array() else {
+        return Err(ConfigFault::BadValue(key));
+    };
+    if values.len() > 64 {
+        return Err(ConfigFault::BadValue(key));
+    }
+    match copied_texts(alloc, values.as_slice(), key)? {
+        Some(texts) => Ok(texts),
+        None => Err(ConfigFault::BadValue(key)),
+    }
+}
