@@ -1,4 +1,5 @@
 pub mod FaultLemmas
 pub mod ItemsLemmas
+pub mod KeyLemmas
 pub mod NamesLemmas
 pub mod PortLemmas

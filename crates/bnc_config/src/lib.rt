@@ -2,15 +2,19 @@
 #![tactic(auto)]
 
 mod allowed;
+mod config;
 mod fault;
 mod key;
 mod names;
 mod networks;
 mod table;
 mod text;
+mod users;
 
+pub use config::Config;
 pub use fault::ConfigFault;
 pub use key::Key;
 pub use networks::NetworkConfig;
 pub use std::alloc::AllocError as OutOfMemory;
 pub use text::Text;
+pub use users::UserConfig;

@@ -1,0 +1,139 @@
+//! The users.
+
+ghost use Rattle.std.specs.Prelude.{◌≡◌, ◌++◌, ◌∷◌, [], List, ℕ, OnOk, false, map, length, option_map};
+ghost use Rattle.toml.specs.Data.{get_member};
+ghost use Rattle.toml.specs.View.{items_view, table_view};
+ghost use Rattle.bnc_config.specs.Key.{word_of};
+ghost use Rattle.bnc_config.specs.Names.{AreNames};
+ghost use Rattle.bnc_config.specs.Document.{Reads, bytes_at, fault_at, is_text_where, tables_of, text_at};
+ghost use Rattle.bnc_config.specs.Document.{user_fault, user_in, users_fault};
+ghost use Rattle.bnc_config.specs.Text.{is_digest, is_hexadecimal};
+ghost use Rattle.bnc_config.specs.declared.key.Key.TheVariants.{UserName, UserPassword, UserSalt};
+
+use crate::names::Names;
+use crate::networks::read_networks;
+use crate::table::{allowed_text, any_text, tables_at};
+use crate::{ConfigFault, Key, NetworkConfig, Text};
+use hex::{FromHex, FromHexError};
+use std::alloc::Global;
+use std::marker::Model;
+use toml::{Table, Value};
+
+/// A user of the bouncer.
+#[derive(Debug, Drop)]
+pub struct UserConfig {
+    name: Text,
+    salt: Vec<u8>,
+    digest: [u8; 32],
+    networks: Vec<NetworkConfig>,
+}
+
+impl Model for UserConfig {
+    ghost use Rattle.bnc_config.specs.Settings.{UserSettings};
+
+    ghost Value = { UserSettings };
+
+    ghost view = { λ user. record {
+        name = user.name;
+        salt = user.salt.items;
+        digest = user.digest;
+        networks = user.networks.items;
+    } };
+}
+
+/// The bytes of the salt.
+#[tactic(auto, using(crate::proofs::KeyLemmas::fault_at_any_text))]
+fn salt_in(alloc: Global, table: &Table) -> Result<Vec<u8>, ConfigFault>
+    ensures { Reads (λ salt. salt.items) result
+        (fault_at UserSalt false (is_text_where is_hexadecimal) (get_member (word_of UserSalt) (table_view table.now)))
+        (bytes_at UserSalt (table_view table.now)) }
+{
+    match hex::decode(alloc, any_text(table, Key::UserSalt)?) {
+        Ok(salt) => Ok(salt),
+        Err(FromHexError::OutOfMemory) => Err(ConfigFault::OutOfMemory),
+        Err(_) => Err(ConfigFault::BadValue(Key::UserSalt)),
+    }
+}
+
+/// The digest of the salt and the password.
+#[tactic(auto, using(crate::proofs::KeyLemmas::fault_at_any_text))]
+fn digest_in(table: &Table) -> Result<[u8; 32], ConfigFault>
+    ensures { Reads (λ digest. digest) result
+        (fault_at UserPassword false (is_text_where is_digest) (get_member (word_of UserPassword) (table_view table.now)))
+        (bytes_at UserPassword (table_view table.now)) }
+{
+    match <[u8; 32]>::from_hex(any_text(table, Key::UserPassword)?) {
+        Ok(digest) => Ok(digest),
+        Err(_) => Err(ConfigFault::BadValue(Key::UserPassword)),
+    }
+}
+
+impl UserConfig {
+    /// The user that a table means, after users of the names `earlier`, to which its own is added.
+    fn read<'t>(alloc: Global, table: &'t Table, earlier: &mut Names<'t>) -> Result<UserConfig, ConfigFault>
+        ensures read { (names : List (List ℕ)) → AreNames earlier.old names
+            → Reads (λ user. user) result (user_fault names (table_view table.now)) (user_in (table_view table.now)) }
+        ensures named { OnOk result ((names : List (List ℕ)) → AreNames earlier.old names
+            → AreNames earlier.new (names ++ text_at UserName (table_view table.now) ∷ [])) }
+    {
+        let name = allowed_text(table, Key::UserName)?;
+        let salt = salt_in(alloc, table)?;
+        let digest = digest_in(table)?;
+        let networks = tables_at(table, Key::UserNetwork)?;
+        if !earlier.add(name)? {
+            return Err(ConfigFault::Twice(Text::copy(alloc, name)?));
+        }
+        let networks = read_networks(alloc, networks)?;
+        let name = Text::copy(alloc, name)?;
+        Ok(UserConfig {
+            name,
+            salt,
+            digest,
+            networks,
+        })
+    }
+
+    /// What a client logs in as. No other user has this name.
+    pub fn name(&self) -> &[u8]
+        ensures { result.now ≡ self.now.name }
+    {
+        self.name.as_bytes()
+    }
+
+    /// The bytes that are hashed before the password; there may be none.
+    pub fn salt(&self) -> &[u8]
+        ensures { result.now ≡ self.now.salt }
+    {
+        self.salt.as_slice()
+    }
+
+    /// The SHA-256 digest of the salt's bytes followed by the password's.
+    pub fn digest(&self) -> &[u8; 32]
+        ensures { result.now ≡ self.now.digest }
+    {
+        &self.digest
+    }
+
+    /// The user's networks, in the order of the file.
+    pub fn networks(&self) -> &[NetworkConfig]
+        ensures { result.now ≡ self.now.networks }
+    {
+        self.networks.as_slice()
+    }
+}
+
+/// The users that the tables among some values mean, in their order.
+pub(crate) fn read_users(alloc: Global, values: &[Value]) -> Result<Vec<UserConfig>, ConfigFault>
+    ensures { Reads (λ users. users.items) result
+        (users_fault [] (tables_of (items_view values.now)))
+        (map user_in (tables_of (items_view values.now))) }
+{
+    let mut names = Names::new(alloc);
+    let mut users = Vec::new(alloc);
+    for value in values {
+        if let Some(table) = value.as_table() {
+            users.push(UserConfig::read(alloc, table, &mut names)?)?;
+        }
+    }
+    Ok(users)
+}
