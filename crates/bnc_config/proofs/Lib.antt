@@ -1,3 +1,4 @@
+pub mod DigestLemmas
 pub mod FaultLemmas
 pub mod ItemsLemmas
 pub mod KeyLemmas

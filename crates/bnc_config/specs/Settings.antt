@@ -1,6 +1,7 @@
 -- What the settings are.
-use Rattle.std.specs.Prelude.{◌≡◌, ℕ, Bool, ◌++◌, List, Option, Some, None, option_map, option_and_then, find, position, sum_by, length, IsSomeAnd}
+use Rattle.std.specs.Prelude.{◌≡◌, ℕ, ◌++◌, List, [], Option, option_map, option_and_then, position, sum_by, length, IsSomeAnd}
 use Rattle.std.specs.List.{slice_get}
+use Rattle.std.specs.Option.{option_map_or}
 use Rattle.std.specs.Str.{bytes_eq}
 use Rattle.sha2.specs.Sha256.{sha256}
 
@@ -35,3 +36,29 @@ user_at settings u = slice_get settings.users u
 -- how many networks all users have together
 abbrev pub network_total : Settings → ℕ
 network_total settings = sum_by (λ user. length user.networks) settings.users
+
+-- the networks of the user at a place
+abbrev pub networks_at : Settings → ℕ → List NetworkSettings
+networks_at settings u = option_map_or (λ (user : UserSettings). user.networks) (user_at settings u) []
+
+-- the network at a place among those of the user at a place
+abbrev pub network_at : Settings → ℕ → ℕ → Option NetworkSettings
+network_at settings u n = slice_get (networks_at settings u) n
+
+-- where the user, or the network, of a name stands among some, from 0: the names are compared byte for byte
+abbrev pub place_of_user : List ℕ → List UserSettings → Option ℕ
+place_of_user name users = position (λ (user : UserSettings). bytes_eq user.name name) users
+
+abbrev pub place_of_network : List ℕ → List NetworkSettings → Option ℕ
+place_of_network name networks = position (λ (network : NetworkSettings). bytes_eq network.name name) networks
+
+-- the place of the network of a name that the user of a name has
+abbrev pub place_of : Settings → List ℕ → List ℕ → Option (ℕ × ℕ)
+place_of settings user network = option_and_then
+    (λ u. option_map (λ n. (u, n)) (place_of_network network (networks_at settings u)))
+    (place_of_user user settings.users)
+
+-- the digest of the salt and the password is that of the user of this name
+abbrev pub Matches : Settings → List ℕ → List ℕ → Type 0
+Matches settings name password = IsSomeAnd (option_and_then (user_at settings) (place_of_user name settings.users))
+    (λ (user : UserSettings). sha256 (user.salt ++ password) ≡ user.digest)

@@ -1,13 +1,14 @@
 //! The settings as a whole.
 
-ghost use Rattle.std.specs.Prelude.{◌≡◌, MatchResult, length, option_map, option_copied};
-ghost use Rattle.std.specs.Option.{option_map_or};
+ghost use Rattle.std.specs.Prelude.{◌≡◌, ◌↔◌, IsTrue, MatchResult, length, option_map, option_copied};
 ghost use Rattle.bnc_config.specs.Document.{IsFaultOf, Means};
-ghost use Rattle.bnc_config.specs.Settings.{user_at};
+ghost use Rattle.bnc_config.specs.Settings.{Matches, network_at, networks_at, place_of, user_at};
 
+use crate::digest::{are_equal, digest_of};
 use crate::table::{number_or, required_text, tables_at};
-use crate::users::read_users;
-use crate::{ConfigFault, Key, NetworkConfig, Text, UserConfig};
+use crate::networks::place_of_network;
+use crate::users::{place_of_user, read_users};
+use crate::{ConfigFault, Key, NetworkConfig, Place, Text, UserConfig};
 use std::alloc::Global;
 use std::marker::Model;
 
@@ -54,5 +55,94 @@ impl Config {
             retry: u64::from(retry),
             users,
         })
+    }
+}
+
+impl Config {
+    /// Where clients connect: `HOST:PORT`, with a port from 1 to 65535.
+    pub fn listen(&self) -> &str
+        ensures { result.now ≡ self.now.listen }
+    {
+        self.listen.as_str()
+    }
+
+    /// How many messages a network's history keeps: 1 to 10,000, and 500 where the file does not say.
+    pub fn history(&self) -> usize
+        ensures { result ≡ self.now.history }
+    {
+        self.history
+    }
+
+    /// The seconds between two dials after a loss: 1 to 3600, and 30 where the file does not say.
+    pub fn retry(&self) -> u64
+        ensures { result ≡ self.now.retry }
+    {
+        self.retry
+    }
+
+    /// The users, in the order of the file.
+    pub fn users(&self) -> &[UserConfig]
+        ensures { result.now ≡ self.now.users }
+    {
+        self.users.as_slice()
+    }
+
+    /// How many users there are.
+    pub fn user_count(&self) -> usize
+        ensures { result ≡ length self.now.users }
+    {
+        self.users.len()
+    }
+
+    /// The user at a place, from 0.
+    pub fn user(&self, user: usize) -> Option<&UserConfig>
+        ensures { option_copied result ≡ user_at self.now user }
+    {
+        self.users.get(user)
+    }
+
+    /// The networks of the user at a place, from 0, in the order of the file: none where there is no such
+    /// user.
+    pub fn networks(&self, user: usize) -> &[NetworkConfig]
+        ensures { result.now ≡ networks_at self.now user }
+    {
+        match self.users.get(user) {
+            Some(user) => user.networks(),
+            None => &[],
+        }
+    }
+
+    /// How many networks the user at a place, from 0, has: 0 where there is no such user.
+    pub fn network_count(&self, user: usize) -> usize
+        ensures { result ≡ length (networks_at self.now user) }
+    {
+        self.networks(user).len()
+    }
+
+    /// The network at a place.
+    pub fn network(&self, place: Place) -> Option<&NetworkConfig>
+        ensures { option_copied result ≡ network_at self.now place.user place.network }
+    {
+        self.networks(place.user).get(place.network)
+    }
+
+    /// The place of a network by the name of its user and its own, byte for byte.
+    pub fn find(&self, user: &[u8], network: &[u8]) -> Option<Place>
+        ensures { option_map (λ place. (place.user, place.network)) result ≡ place_of self.now user.now network.now }
+    {
+        let user = place_of_user(self.users.as_slice(), user)?;
+        let network = place_of_network(self.networks(user), network)?;
+        Some(Place { user, network })
+    }
+
+    /// Whether this is the password of the user of a name: whether the SHA-256 digest of the user's salt
+    /// followed by the password is the user's. False where no user has the name.
+    pub fn password_matches(&self, user: &[u8], password: &[u8]) -> bool
+        ensures { IsTrue result ↔ Matches self.now user.now password.now }
+    {
+        match place_of_user(self.users.as_slice(), user).and_then(|user| self.users.get(user)) {
+            Some(user) => are_equal(&digest_of(user.salt(), password), user.digest()),
+            None => false,
+        }
     }
 }

@@ -3,10 +3,12 @@
 
 mod allowed;
 mod config;
+mod digest;
 mod fault;
 mod key;
 mod names;
 mod networks;
+mod place;
 mod table;
 mod text;
 mod users;
@@ -15,6 +17,7 @@ pub use config::Config;
 pub use fault::ConfigFault;
 pub use key::Key;
 pub use networks::NetworkConfig;
+pub use place::Place;
 pub use std::alloc::AllocError as OutOfMemory;
 pub use text::Text;
 pub use users::UserConfig;

@@ -5,6 +5,7 @@ ghost use Rattle.toml.specs.View.{items_view, table_view};
 ghost use Rattle.bnc_config.specs.Names.{AreNames};
 ghost use Rattle.bnc_config.specs.Document.{Reads, keys_fault, network_fault, network_in, network_keys};
 ghost use Rattle.bnc_config.specs.Document.{networks_fault, tables_of, text_at};
+ghost use Rattle.bnc_config.specs.Settings.{place_of_network};
 ghost use Rattle.bnc_config.specs.declared.key.Key.TheVariants.{NetworkName};
 
 use crate::names::Names;
@@ -149,4 +150,11 @@ pub(crate) fn read_networks(alloc: Global, values: &[Value]) -> Result<Vec<Netwo
         }
     }
     Ok(networks)
+}
+
+/// The place of the network of this name among some.
+pub(crate) fn place_of_network(networks: &[NetworkConfig], name: &[u8]) -> Option<usize>
+    ensures { result ≡ place_of_network name.now networks.now }
+{
+    networks.iter().position(|network| network.name() == name)
 }

@@ -7,6 +7,7 @@ ghost use Rattle.bnc_config.specs.Key.{word_of};
 ghost use Rattle.bnc_config.specs.Names.{AreNames};
 ghost use Rattle.bnc_config.specs.Document.{Reads, bytes_at, fault_at, is_text_where, tables_of, text_at};
 ghost use Rattle.bnc_config.specs.Document.{user_fault, user_in, users_fault};
+ghost use Rattle.bnc_config.specs.Settings.{place_of_user};
 ghost use Rattle.bnc_config.specs.Text.{is_digest, is_hexadecimal};
 ghost use Rattle.bnc_config.specs.declared.key.Key.TheVariants.{UserName, UserPassword, UserSalt};
 
@@ -136,4 +137,11 @@ pub(crate) fn read_users(alloc: Global, values: &[Value]) -> Result<Vec<UserConf
         }
     }
     Ok(users)
+}
+
+/// The place of the user of this name among some.
+pub(crate) fn place_of_user(users: &[UserConfig], name: &[u8]) -> Option<usize>
+    ensures { result ≡ place_of_user name.now users.now }
+{
+    users.iter().position(|user| user.name() == name)
 }
