@@ -5,8 +5,8 @@ ghost use Rattle.bnc_config.specs.Document.{IsFaultOf, Means};
 ghost use Rattle.bnc_config.specs.Settings.{Matches, network_at, networks_at, place_of, user_at};
 
 use crate::digest::{are_equal, digest_of};
-use crate::table::{number_or, required_text, tables_at};
 use crate::networks::place_of_network;
+use crate::table::{number_or, required_text, tables_at};
 use crate::users::{place_of_user, read_users};
 use crate::{ConfigFault, Key, NetworkConfig, Place, Text, UserConfig};
 use std::alloc::Global;
@@ -27,10 +27,10 @@ impl Model for Config {
     ghost Value = { Settings };
 
     ghost view = { λ config. record {
-        listen = config.listen;
-        history = config.history;
-        retry = config.retry;
-        users = config.users.items;
+      listen = config.listen;
+      history = config.history;
+      retry = config.retry;
+      users = config.users.items;
     } };
 }
 
@@ -92,13 +92,6 @@ impl Config {
         ensures { result ≡ length self.now.users }
     {
         self.users.len()
-    }
-
-    /// The user at a place, from 0.
-    pub fn user(&self, user: usize) -> Option<&UserConfig>
-        ensures { option_copied result ≡ user_at self.now user }
-    {
-        self.users.get(user)
     }
 
     /// The networks of the user at a place, from 0, in the order of the file: none where there is no such

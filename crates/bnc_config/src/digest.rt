@@ -20,7 +20,9 @@ pub(crate) fn digest_of(salt: &[u8], password: &[u8]) -> [u8; 32]
 fn difference(a: &[u8; 32], b: &[u8; 32]) -> u8
     ensures { result ≡ difference_of a.now b.now }
 {
-    a.iter().zip(b.iter()).fold(0, |difference, (x, y)| difference | (*x ^ *y))
+    a.iter()
+        .zip(b.iter())
+        .fold(0, |difference, (x, y)| difference | (*x ^ *y))
 }
 
 /// Whether the two digests are equal, in a time that does not tell where they differ.

@@ -23,6 +23,11 @@ pub enum ConfigFault {
 }
 
 impl fmt::Display for ConfigFault {
+    ghost use Rattle.std.specs.Prelude.{Some};
+    ghost use Rattle.bnc_config.specs.ConfigFault.{text_of};
+
+    ghost output = { λ fault. Some (text_of fault) };
+
     fn fmt<W: fmt::Write>(&self, f: &mut fmt::Formatter<W>) -> fmt::Result {
         match self {
             ConfigFault::NotToml => write!(f, "not TOML"),

@@ -33,13 +33,13 @@ impl Model for NetworkConfig {
     ghost Value = { NetworkSettings };
 
     ghost view = { λ network. record {
-        name = network.name;
-        address = network.address;
-        nick = network.nick;
-        user = network.user;
-        realname = network.realname;
-        password = network.password;
-        join = network.join.items;
+      name = network.name;
+      address = network.address;
+      nick = network.nick;
+      user = network.user;
+      realname = network.realname;
+      password = network.password;
+      join = network.join.items;
     } };
 }
 
@@ -68,7 +68,11 @@ impl NetworkConfig {
     }
 
     /// The network that a table means, after networks of the names `earlier`, to which its own is added.
-    fn read<'t>(alloc: Global, table: &'t Table, earlier: &mut Names<'t>) -> Result<NetworkConfig, ConfigFault>
+    fn read<'t>(
+        alloc: Global,
+        table: &'t Table,
+        earlier: &mut Names<'t>,
+    ) -> Result<NetworkConfig, ConfigFault>
         ensures read { (names : List (List ℕ)) → AreNames earlier.old names
             → Reads (λ network. network) result (network_fault names (table_view table.now)) (network_in (table_view table.now)) }
         ensures named { OnOk result ((names : List (List ℕ)) → AreNames earlier.old names
@@ -137,7 +141,10 @@ impl NetworkConfig {
 }
 
 /// The networks that the tables among some values mean, in their order.
-pub(crate) fn read_networks(alloc: Global, values: &[Value]) -> Result<Vec<NetworkConfig>, ConfigFault>
+pub(crate) fn read_networks(
+    alloc: Global,
+    values: &[Value],
+) -> Result<Vec<NetworkConfig>, ConfigFault>
     ensures { Reads (λ networks. networks.items) result
         (networks_fault [] (tables_of (items_view values.now)))
         (map network_in (tables_of (items_view values.now))) }

@@ -60,7 +60,11 @@ pub(crate) fn required_text(alloc: Global, table: &Table, key: Key) -> Result<Te
 }
 
 /// A copy of the text at a key that may be left out.
-pub(crate) fn optional_text(alloc: Global, table: &Table, key: Key) -> Result<Option<Text>, ConfigFault>
+pub(crate) fn optional_text(
+    alloc: Global,
+    table: &Table,
+    key: Key,
+) -> Result<Option<Text>, ConfigFault>
     ensures { Reads (λ text. text) result
         (fault_at key true (is_text_where (allows_text key)) (get_member (word_of key) (table_view table.now)))
         (optional_text_at key (table_view table.now)) }
@@ -75,7 +79,12 @@ pub(crate) fn optional_text(alloc: Global, table: &Table, key: Key) -> Result<Op
 }
 
 /// The number at a key that may be left out, 1 to `most`.
-pub(crate) fn number_or(table: &Table, key: Key, default: u32, most: u32) -> Result<u32, ConfigFault>
+pub(crate) fn number_or(
+    table: &Table,
+    key: Key,
+    default: u32,
+    most: u32,
+) -> Result<u32, ConfigFault>
     ensures { Reads (λ number. number) result
         (fault_at key true (is_number_within 1 most) (get_member (word_of key) (table_view table.now)))
         (number_at default key (table_view table.now)) }
@@ -137,7 +146,7 @@ fn copied_texts(alloc: Global, values: &[Value], key: Key) -> Result<Option<Vec<
 pub(crate) fn texts_at(alloc: Global, table: &Table, key: Key) -> Result<Vec<Text>, ConfigFault>
     ensures { Reads (λ texts. texts.items) result
         (fault_at key true (λ value. is_list_where (is_text_where (allows_text key)) value && has_at_most 64 value)
-            (get_member (word_of key) (table_view table.now)))
+        (get_member (word_of key) (table_view table.now)))
         (texts_at key (table_view table.now)) }
 {
     let Some(value) = value_at(table, key) else {

@@ -35,10 +35,10 @@ impl Model for UserConfig {
     ghost Value = { UserSettings };
 
     ghost view = { λ user. record {
-        name = user.name;
-        salt = user.salt.items;
-        digest = user.digest;
-        networks = user.networks.items;
+      name = user.name;
+      salt = user.salt.items;
+      digest = user.digest;
+      networks = user.networks.items;
     } };
 }
 
@@ -71,7 +71,11 @@ fn digest_in(table: &Table) -> Result<[u8; 32], ConfigFault>
 
 impl UserConfig {
     /// The user that a table means, after users of the names `earlier`, to which its own is added.
-    fn read<'t>(alloc: Global, table: &'t Table, earlier: &mut Names<'t>) -> Result<UserConfig, ConfigFault>
+    fn read<'t>(
+        alloc: Global,
+        table: &'t Table,
+        earlier: &mut Names<'t>,
+    ) -> Result<UserConfig, ConfigFault>
         ensures read { (names : List (List ℕ)) → AreNames earlier.old names
             → Reads (λ user. user) result (user_fault names (table_view table.now)) (user_in (table_view table.now)) }
         ensures named { OnOk result ((names : List (List ℕ)) → AreNames earlier.old names

@@ -9,7 +9,6 @@ use Rattle.bnc_config.specs.declared.key.Key.TheVariants.{NetworkName}
 use Rattle.bnc_config.proofs.networks.read_networks.Goals.{in-Some+in_ok-read+in_ok-push, in_default}
 use Rattle.bnc_config.proofs.networks.read_networks.Goals as goal
 
-
 pub returns-in_err-read : goal.returns-in_err-read
 returns-in_err-read c =
     let from = tables_of-table c.args.values.now c.loop-value.value-index _ _ c.loop-value-test.true c.value-item.is c.in-Some.ensures in
@@ -22,23 +21,23 @@ returns-in_err-read c =
 pub loop-value-preserved : goal.loop-value-preserved
 loop-value-preserved c = elim c.match-as_table.branch [
   | in-Some+in_ok-read+in_ok-push w ↦
-    let from = tables_of-table c.args.values.now c.loop-value.value-index _ _ c.loop-value-test.true c.value-item.is w.in-Some.ensures in
-    let read = w.in_ok-read.ensures.read _ c.loop-value.invariant.named in
-    let items : c.match-as_table.networks.items ≡ c.loop-value.networks.items ++ network_in (table_view w.in-Some.table.now) ∷ [] =
-    rw (w.networks-is, w.in_ok-push.ensures.items, read.1) refl in
-    let named : map (λ (n : NetworkSettings). n.name) c.match-as_table.networks.items
+      let from = tables_of-table c.args.values.now c.loop-value.value-index _ _ c.loop-value-test.true c.value-item.is w.in-Some.ensures in
+      let read = w.in_ok-read.ensures.read _ c.loop-value.invariant.named in
+      let items : c.match-as_table.networks.items ≡ c.loop-value.networks.items ++ network_in (table_view w.in-Some.table.now) ∷ [] =
+      rw (w.networks-is, w.in_ok-push.ensures.items, read.1) refl in
+      let named : map (λ (n : NetworkSettings). n.name) c.match-as_table.networks.items
       ≡ map (λ (n : NetworkSettings). n.name) c.loop-value.networks.items ++ text_at NetworkName (table_view w.in-Some.table.now) ∷ [] =
-    rw (items, map-append) refl in
-    record {
-      named = rw (w.names-is, named) (w.in_ok-read.ensures.named _ c.loop-value.invariant.named);
-      fault = c.loop-value.invariant.fault ∙ rw (from, read.0, named) refl;
-      done = c.loop-value.invariant.done ∙ rw (from, items, append_assoc) refl;
-    }
+      rw (items, map-append) refl in
+      record {
+        named = rw (w.names-is, named) (w.in_ok-read.ensures.named _ c.loop-value.invariant.named);
+        fault = c.loop-value.invariant.fault ∙ rw (from, read.0, named) refl;
+        done = c.loop-value.invariant.done ∙ rw (from, items, append_assoc) refl;
+      }
   | in_default w ↦
-    let from = tables_of-other c.args.values.now c.loop-value.value-index _ c.loop-value-test.true c.value-item.is w.in_default.ensures in
-    record {
-      named = rw (w.names-is, w.networks-is) c.loop-value.invariant.named;
-      fault = c.loop-value.invariant.fault ∙ rw (from, w.networks-is) refl;
-      done = c.loop-value.invariant.done ∙ rw (from, w.networks-is) refl;
-    }
+      let from = tables_of-other c.args.values.now c.loop-value.value-index _ c.loop-value-test.true c.value-item.is w.in_default.ensures in
+      record {
+        named = rw (w.names-is, w.networks-is) c.loop-value.invariant.named;
+        fault = c.loop-value.invariant.fault ∙ rw (from, w.networks-is) refl;
+        done = c.loop-value.invariant.done ∙ rw (from, w.networks-is) refl;
+      }
 ]
