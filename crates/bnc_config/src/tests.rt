@@ -48,55 +48,64 @@ fn told(alloc: Global, text: &[u8]) -> Result<String, AllocError> {
     }
 }
 
+/// The settings of the example.
+fn example(alloc: Global) -> Result<Config, Fail> {
+    let text = lines_with(alloc, 0, "none", "")?;
+    Ok(Config::read(alloc, text.as_bytes())?)
+}
+
 #[test]
-fn the_example_has_each_key(rt: HostRuntime) -> Result<(), Fail> {
-    let text = lines_with(rt.alloc(), 0, "none", "")?;
-    let config = Config::read(rt.alloc(), text.as_bytes())?;
+fn keys_at_the_top(rt: HostRuntime) -> Result<(), Fail> {
+    let config = example(rt.alloc())?;
     assert_eq!(rt; config.listen(), "127.0.0.1:6667");
     assert_eq!(rt; config.history(), 500);
     assert_eq!(rt; config.retry(), 30);
     assert_eq!(rt; config.user_count(), 1);
-    assert_eq!(rt; config.users().len(), 1);
     assert_eq!(rt; config.network_count(0), 1);
     assert_eq!(rt; config.network_count(1), 0);
-    let user = config.users().first().ok_or("no user")?;
-    assert!(rt; user.name() == b"ann".as_slice());
-    assert!(rt; user.salt() == b"a".as_slice());
-    assert_eq!(rt; user.digest()[0], 0xba);
-    assert_eq!(rt; user.digest()[31], 0xad);
-    assert_eq!(rt; user.networks().len(), 1);
+    Ok(())
+}
+
+#[test]
+fn keys_of_a_user(rt: HostRuntime) -> Result<(), Fail> {
+    let config = example(rt.alloc())?;
+    for user in config.users() {
+        assert!(rt; user.name() == b"ann".as_slice());
+        assert!(rt; user.salt() == b"a".as_slice());
+        assert!(rt; user.digest()[..2] == [0xba, 0x78]);
+        assert_eq!(rt; user.networks().len(), 1);
+    }
+    Ok(())
+}
+
+#[test]
+fn keys_of_a_network(rt: HostRuntime) -> Result<(), Fail> {
+    let config = example(rt.alloc())?;
     let place = config.find(b"ann", b"net").ok_or("no place")?;
-    assert!(rt;
-        place
-            == Place {
-                user: 0,
-                network: 0
-            }
+    assert_eq!(rt;
+        place,
+        Place {
+            user: 0,
+            network: 0
+        }
     );
     let network = config.network(place).ok_or("no network")?;
-    assert!(rt; network.name() == b"net".as_slice());
-    assert_eq!(rt; network.address(), "127.0.0.1:6660");
-    assert!(rt; network.nick() == b"ann".as_slice());
-    assert!(rt; network.user() == b"ann".as_slice());
-    assert!(rt; network.realname() == b"Ann A".as_slice());
-    assert!(rt;
-        network
-            .password()
-            .is_some_and(|password| password == b"secret".as_slice())
-    );
+    let rows = [
+        (network.name(), b"net".as_slice()),
+        (network.address().as_bytes(), b"127.0.0.1:6660"),
+        (network.nick(), b"ann"),
+        (network.user(), b"ann"),
+        (network.realname(), b"Ann A"),
+        (network.password().unwrap_or(b""), b"secret"),
+    ];
+    for (found, want) in rows {
+        assert!(rt; found == want);
+    }
+    for channel in network.join() {
+        assert_eq!(rt; channel.as_str(), "#c");
+        assert!(rt; channel.as_bytes() == b"#c".as_slice());
+    }
     assert_eq!(rt; network.join().len(), 1);
-    assert!(rt;
-        network
-            .join()
-            .iter()
-            .all(|channel| channel.as_bytes() == b"#c".as_slice())
-    );
-    assert!(rt;
-        network
-            .join()
-            .iter()
-            .all(|channel| channel.as_str() == "#c")
-    );
     Ok(())
 }
 
@@ -135,8 +144,7 @@ fn what_is_left_out_has_its_default(rt: HostRuntime) -> Result<(), Fail> {
 
 #[test]
 fn names_and_passwords_are_compared_byte_for_byte(rt: HostRuntime) -> Result<(), Fail> {
-    let text = lines_with(rt.alloc(), 0, "none", "")?;
-    let config = Config::read(rt.alloc(), text.as_bytes())?;
+    let config = example(rt.alloc())?;
     assert!(rt; config.password_matches(b"ann", b"bc"));
     for password in [b"bd".as_slice(), b"b", b"bcd", b"", b"abc"] {
         assert!(rt; !config.password_matches(b"ann", password));
