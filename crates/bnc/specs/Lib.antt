@@ -1,1 +1,2 @@
-pub mod CheckFault
+pub mod Check
+pub mod Command

@@ -2,20 +2,15 @@
 #![tactic(auto)]
 
 mod check;
+mod fault;
 mod words;
 
-use crate::check::{CheckFault, run_check};
+use crate::check::check_file;
+use crate::fault::Fault;
 use crate::words::{Command, WordsFault, read_words};
-use std::io::ErrorKind;
+use std::env;
 use std::process::ExitCode;
 use std::rt::{Env, Files};
-use std::{env, fs, io};
-
-/// The status of a fault of input.
-const BAD_INPUT: u8 = 1;
-
-/// The status of a fault of the command line.
-const BAD_WORDS: u8 = 2;
 
 /// What the words after the program's name ask for.
 fn command_of<R: AllocGlobal + Env>(rt: &R) -> Result<Command, WordsFault> {
@@ -24,15 +19,38 @@ fn command_of<R: AllocGlobal + Env>(rt: &R) -> Result<Command, WordsFault> {
         return Err(WordsFault::Bad);
     };
     let owned = words.skip(1).collect::<Vec<String>>(alloc)?;
-    let words = owned.iter().map(|word| word.as_str()).collect::<Vec<&str>>(alloc)?;
+    let mut words = Vec::with_capacity(alloc, owned.len())?;
+    for word in owned.iter() {
+        words.push(word.as_str())?;
+    }
     read_words(alloc, words.as_slice())
 }
 
-/// Checks the settings file at a path.
-fn check<R: AllocGlobal + Files + Print>(rt: &R, path: &str) -> Result<(), &'static str> {
-    Ok(())
+/// Does what the command line asks for.
+fn run<R: AllocGlobal + Files + Print>(rt: &R, command: &Command) -> Result<(), Fault> {
+    match command {
+        Command::Check(path) => check_file(rt, path.as_str()),
+    }
 }
 
-fn main(rt: HostRuntime) -> io::Result<ExitCode> {
-    Ok(ExitCode::SUCCESS)
+/// Tells a fault of what the program was given.
+fn refuse(rt: &impl Eprint, fault: &Fault) -> ExitCode {
+    let _ = eprintln!(rt; "bnc: {fault}");
+    ExitCode::from(1)
+}
+
+fn main(rt: HostRuntime) -> ExitCode {
+    let done = match command_of(&rt) {
+        Ok(command) => run(&rt, &command),
+        Err(WordsFault::Help(text)) => print!(rt; "{text}").map_err(|_| Fault::CannotWrite),
+        Err(WordsFault::OutOfMemory) => Err(Fault::OutOfMemory),
+        Err(WordsFault::Bad) => {
+            let _ = eprintln!(rt; "bnc: bad command line");
+            return ExitCode::from(2);
+        }
+    };
+    match done {
+        Ok(()) => ExitCode::SUCCESS,
+        Err(fault) => refuse(&rt, &fault),
+    }
 }

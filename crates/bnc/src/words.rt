@@ -1,10 +1,12 @@
 //! The command line.
 
-ghost use Rattle.std.specs.Prelude.{◌≡◌, IfOk};
+ghost use Rattle.std.specs.Prelude.{◌≡◌, IfErr, IfOk, false, map};
+ghost use Rattle.clap.specs.Words.{app_of, kind_of, rule_of};
+ghost use Rattle.bnc.specs.Command.{AsksFor, IsCauseOf, IsOfKind, bare_app, bnc_app, file_rule};
 
 use clap::error::ErrorKind;
 use clap::{Arg, ArgAction};
-use std::alloc::{AllocError, Global};
+use std::alloc::{AllocError, AllocFailed, Global};
 
 /// What the words after the program's name ask for.
 #[derive(Debug, Drop)]
@@ -25,34 +27,67 @@ pub enum WordsFault {
 }
 
 impl From<AllocError> for WordsFault {
+    ghost use Rattle.std.specs.Prelude.{◌≡◌};
+    ghost use Rattle.bnc.specs.declared.words.WordsFault.TheVariants.{OutOfMemory as out_of_memory};
+
+    ghost from_gives = { λ _ fault. fault ≡ out_of_memory };
+
     fn from(_refused: AllocError) -> WordsFault {
         WordsFault::OutOfMemory
     }
 }
 
-/// `check FILE`.
-fn check_grammar<'a>(alloc: Global) -> Result<clap::Command<'a>, AllocError> {
-    let file = Arg::new(alloc, "file")
+impl<T: Drop> From<AllocFailed<T>> for WordsFault {
+    ghost use Rattle.std.specs.Prelude.{◌≡◌};
+    ghost use Rattle.bnc.specs.declared.words.WordsFault.TheVariants.{OutOfMemory as out_of_memory};
+
+    ghost from_gives = { λ _ fault. fault ≡ out_of_memory };
+
+    fn from(_refused: AllocFailed<T>) -> WordsFault {
+        WordsFault::OutOfMemory
+    }
+}
+
+/// FILE, the settings file.
+fn file_argument<'a>(alloc: Global) -> Arg<'a>
+    ensures rule { rule_of result ≡ file_rule }
+    ensures local { result.global ≡ false }
+{
+    Arg::new(alloc, "file")
         .required(true)
         .action(ArgAction::Set)
         .value_name("FILE")
-        .help("The settings file");
-    clap::Command::new(alloc, "check")
-        .about("Checks a settings file and counts its users and networks")
-        .arg(file)
+        .help("The settings file")
+}
+
+/// `bnc COMMAND`, without the commands.
+fn bnc_grammar<'a>(alloc: Global) -> Result<clap::Command<'a>, AllocError>
+    ensures { IfOk result (λ command. app_of command ≡ bare_app) }
+{
+    Ok(
+        clap::Command::new(alloc, "bnc")
+            .about("An IRC bouncer with late attach")
+            .no_binary_name(true)
+            .subcommand_required(true)
+            .bin_name("bnc")?,
+    )
 }
 
 /// The grammar of the words after the program's name.
-fn grammar<'a>(alloc: Global) -> Result<clap::Command<'a>, AllocError> {
-    clap::Command::new(alloc, "bnc")
-        .about("An IRC bouncer with late attach")
-        .no_binary_name(true)
-        .bin_name("bnc")?
-        .subcommand_required(true)
-        .subcommand(check_grammar(alloc)?)
+fn grammar<'a>(alloc: Global) -> Result<clap::Command<'a>, AllocError>
+    ensures { IfOk result (λ command. app_of command ≡ bnc_app) }
+{
+    let check = clap::Command::new(alloc, "check")
+        .about("Checks a settings file and counts its users and networks")
+        .arg(file_argument(alloc))?;
+    let bnc = bnc_grammar(alloc)?.subcommand(check)?;
+    Ok(bnc)
 }
 
-fn fault_of(alloc: Global, error: &clap::Error) -> WordsFault {
+/// What an error of `clap` is told as.
+fn fault_of(alloc: Global, error: &clap::Error) -> WordsFault
+    ensures { IsOfKind (kind_of error.now) result }
+{
     match error.kind() {
         ErrorKind::OutOfMemory => WordsFault::OutOfMemory,
         ErrorKind::DisplayHelp => match format!(in alloc; "{error}") {
@@ -64,7 +99,10 @@ fn fault_of(alloc: Global, error: &clap::Error) -> WordsFault {
 }
 
 /// Reads the words after the program's name.
-pub fn read_words<'a>(alloc: Global, words: &'a [&'a str]) -> Result<Command, WordsFault> {
+pub fn read_words<'a>(alloc: Global, words: &'a [&'a str]) -> Result<Command, WordsFault>
+    ensures read { IfOk result (AsksFor (map (λ word. word.now) words.now)) }
+    ensures refused { IfErr result (IsCauseOf (map (λ word. word.now) words.now)) }
+{
     let matches = match grammar(alloc)?.try_get_matches_from(words) {
         Ok(matches) => matches,
         Err(error) => return Err(fault_of(alloc, &error)),
@@ -75,5 +113,40 @@ pub fn read_words<'a>(alloc: Global, words: &'a [&'a str]) -> Result<Command, Wo
             None => Err(WordsFault::Bad),
         },
         _ => Err(WordsFault::Bad),
+    }
+}
+
+#[cfg(test)]
+mod tests {
+    use super::*;
+
+    #[test]
+    fn words_and_what_they_ask_for(rt: HostRuntime) {
+        let alloc = rt.alloc();
+        assert!(rt;
+            matches!(
+                read_words(alloc, &["check", "bnc.toml"]),
+                Ok(Command::Check(file)) if file.as_str() == "bnc.toml"
+            )
+        );
+        for words in [
+            ["--help"].as_slice(),
+            &["check", "--help"],
+            &["help"],
+            &["-h"],
+        ] {
+            assert!(rt; matches!(read_words(alloc, words), Err(WordsFault::Help(_))));
+        }
+        let bad = [
+            [].as_slice(),
+            &["check"],
+            &["check", "a", "b"],
+            &["check", "--other", "a"],
+            &["chek", "a"],
+            &["--other"],
+        ];
+        for words in bad {
+            assert!(rt; matches!(read_words(alloc, words), Err(WordsFault::Bad)));
+        }
     }
 }

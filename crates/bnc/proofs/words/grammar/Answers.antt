@@ -1,0 +1,11 @@
+use Rattle.std.proofs.Common.{◌≡◌, ap, ap₂, ◌∙◌, codes, rules}
+use Rattle.clap.specs.Words.{App, app_of, new_app, with_rule, with_subcommand}
+use Rattle.bnc.specs.Command.{check_app}
+use Rattle.bnc.proofs.words.grammar.Goals as goal
+
+pub returns : goal.returns
+returns c =
+    let about_is : app_of c.about.result ≡ new_app (codes "check") = search rules in
+    let check_is : app_of c.in_ok-check.check ≡ check_app = c.in_ok-check.ensures.shape c.file_argument.ensures.local
+    ∙ ap₂ with_rule about_is c.file_argument.ensures.rule in
+    c.in_ok-bnc.ensures.shape (search rules) ∙ ap₂ with_subcommand c.in_ok-bnc_grammar.ensures (ap (λ (a : App). a.top) check_is)
