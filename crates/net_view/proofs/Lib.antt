@@ -23,6 +23,7 @@ pub mod Worth
 pub mod NameLists
 pub mod WordsApart
 pub mod SeenWhole
+pub mod Commands
 mod Transcripts
 mod MemberRows
 mod FactRows

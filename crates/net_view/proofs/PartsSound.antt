@@ -3,14 +3,13 @@ use Rattle.std.specs.Prelude.{◌≡◌, ℕ, ◌<◌, Bool, true, false, cond, 
 use Rattle.std.specs.List.{filter_map, cons_option, range_with_len}
 use Rattle.std.specs.Option.{option_and_then, option_map, option_map_or, unwrap_or}
 use Rattle.std.proofs.Common.{Option, Some, None, refl, sym, ap, ◌∙◌, subst, codes}
-use Rattle.std.specs.Str.{bytes_eq}
 use Rattle.std.proofs.lemmas.Bool.{eqb-true}
 use Rattle.std.proofs.lemmas.List.Quantifiers.{position-Some}
 use Rattle.irc_line.specs.Line.{Parts, nick_of}
 use Rattle.irc_names.specs.Nick.{is_nameable}
 use Rattle.irc_support.specs.Text.{Text, is_word}
-use Rattle.irc_support.specs.Tokens.{Token, value_of}
-use Rattle.irc_support.specs.Ranking.{Ranking, prefix_text, is_ranking, halves_of, spelled_by, ranking_in, ranking_of, rank_of_letter, rank_of_symbol}
+use Rattle.irc_support.specs.Tokens.{Token}
+use Rattle.irc_support.specs.Ranking.{ranking_of, rank_of_letter, rank_of_symbol}
 use Rattle.irc_support.specs.Ranks.{rank_count, ranks_that, has_rank}
 use Rattle.irc_support.specs.ChanModes.{kind_of}
 use Rattle.irc_support.specs.Settings.{key_by, is_channel}
@@ -18,11 +17,12 @@ use Rattle.irc_support.specs.ModeChanges.{ChangeParts}
 use Rattle.irc_support.specs.NamesReply.{word_of, shows_rank, symbols_before}
 use Rattle.irc_support.specs.declared.kind.Kind.{Kind}
 use Rattle.irc_support.specs.declared.kind.Kind.TheVariants.{Prefix, A, B, C, D, Unknown}
+use Rattle.irc_support.proofs.RankPlaces.{ranking_of-is}
 use Rattle.net_view.specs.Names.{same, Name, name_of, nameable}
 use Rattle.net_view.specs.Told.{Told, LetterChange, ModeChange, Listing, Welcomed, Joined, Renamed, Changed, Listed, Titled, Present, HasAccount, IsAway}
 use Rattle.net_view.specs.StateLines.{actor_nick, actor, unless_empty, account_said, letter_change, word_param, setting_by, mode_change, listing}
 use Rattle.net_view.specs.Sound.{rank_limit, IsFilled, IsAccount, IsKept}
-use Rattle.net_view.proofs.Tests.{no_true, and_parts}
+use Rattle.net_view.proofs.Tests.{no_true}
 use Rattle.net_view.proofs.Keys.{same_refl}
 use Rattle.net_view.proofs.RankSets.{has_of_filter}
 
@@ -145,19 +145,10 @@ first_of_six true b c d e f h = refl
 first_of_six false b c d e f h = h
 
 -- as many symbols as letters
-halves_alike : (value : Text) → IfSome (spelled_by value) (λ r. length r.symbols ≡ length r.letters)
-unfolding spelled_by
-halves_alike value = when_sound (λ r. length r.symbols ≡ length r.letters) (bytes_eq value (prefix_text (halves_of value)) && is_ranking (halves_of value)) (halves_of value)
-    (λ e. let h = halves_of value in
-    sym (eqb-true (length h.letters) (length h.symbols) (first_of_six (length h.letters == length h.symbols) _ _ _ _ _ (and_parts (bytes_eq value (prefix_text h)) (is_ranking h) e).1)))
-
-ranking_alike : (value : Text) → length (ranking_in value).symbols ≡ length (ranking_in value).letters
-ranking_alike [] = refl
-ranking_alike (b ∷ value) = elim (spelled_by (b ∷ value)) as (λ o. IfSome o (λ (r : Ranking). length r.symbols ≡ length r.letters) → length (unwrap_or o (let d : Ranking = record { letters = codes "ov"; symbols = codes "@+" } in d)).symbols ≡ length (unwrap_or o (let d : Ranking = record { letters = codes "ov"; symbols = codes "@+" } in d)).letters) [ None ↦ λ h. refl | Some r ↦ λ h. h ] (halves_alike (b ∷ value))
-
 symbols-letters : (settings : List Token) → length (ranking_of settings).symbols ≡ rank_limit settings
-unfolding ranking_of
-symbols-letters settings = ranking_alike (unwrap_or (value_of settings (codes "PREFIX")) (codes "(ov)@+"))
+symbols-letters settings =
+    let r = ranking_of settings in
+    sym (eqb-true (length r.letters) (length r.symbols) (first_of_six (length r.letters == length r.symbols) _ _ _ _ _ (ranking_of-is settings)))
 
 -- whose symbol is shown is a rank that there is
 shown_rank : (settings : List Token) (symbols : Text) (rank : ℕ) → shows_rank settings symbols rank ≡ true → rank < rank_limit settings

@@ -53,11 +53,14 @@ abbrev pub says_away : Says
 says_away us on (IsAway who text) n = if same n who then Some text else None
 says_away us on _ n = None
 
+-- the nick as the person was spelled last
 abbrev pub spelling_of : List Reading → Text → Option Text
 spelling_of items n = known says_spelling items n
 
+-- the account of the person (IRCv3 account-notify)
 abbrev pub account_of : List Reading → Text → Option Text
 account_of items n = known says_account items n
 
+-- the away text of the person (IRCv3 away-notify)
 abbrev pub away_of : List Reading → Text → Option Text
 away_of items n = known says_away items n

@@ -42,9 +42,11 @@ is_member items c n = is_on items c && unwrap_or (last_of (says_member c) items 
 
 -- ---- which ranks a member holds
 
+-- what a word of a name list decides of a rank, where it is this person
 abbrev pub rank_in_listing : Text → ℕ → Listing → Option Bool
 rank_in_listing n rank l = if same n l.person.key then Some (has_rank l.ranks rank) else None
 
+-- what a change decides of a rank, where it is this rank of this person
 abbrev pub rank_in_change : Text → ℕ → LetterChange → Option Bool
 rank_in_change n rank l = if nat_eq rank l.rank && same n l.person then Some l.plus else None
 
@@ -56,6 +58,7 @@ said_of_rank c rank us (Present channel listings) n = if same c channel then las
 said_of_rank c rank us (Changed channel letters modes) n = if same c channel then last_in (rank_in_change n rank) letters else None
 said_of_rank c rank us _ n = None
 
+-- at our own JOIN nobody holds a rank
 abbrev pub says_rank : Text → ℕ → (Text → Bool) → Told → Text → Option Bool
 says_rank c rank us t n = anew_or c us t false (said_of_rank c rank us t n)
 

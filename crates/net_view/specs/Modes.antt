@@ -10,6 +10,7 @@ use Rattle.net_view.specs.Transcript.{Reading}
 use Rattle.net_view.specs.LookBack.{last, last_in}
 use Rattle.net_view.specs.Presence.{anew_or}
 
+-- what a change decides of a letter, where it is this letter
 abbrev pub setting_of : ℕ → ModeChange → Option (Option (Option Text))
 setting_of letter change = if eq_by_cmp nat_cmp letter change.letter then Some change.setting else None
 
@@ -20,6 +21,7 @@ said_of_mode c letter (Changed channel letters modes) = if same c channel then l
 said_of_mode c letter (Listed channel modes) = if same c channel then Some (unwrap_or (last_in (setting_of letter) modes) None) else None
 said_of_mode c letter _ = None
 
+-- at our own JOIN every letter is off
 abbrev pub says_mode : Text → ℕ → (Text → Bool) → Told → Option (Option (Option Text))
 says_mode c letter us t = anew_or c us t None (said_of_mode c letter t)
 

@@ -68,12 +68,15 @@ was_shown (x ∷ older) k c n rank =
     else unwrap_or (shows_rank x older c n rank x.told)
     (unwrap_or (option_map (λ m. was_shown older (k - 1) c m rank) (name_before (ours x) x.told n)) false)
 
+-- the ranks that a client sees of a member
 abbrev pub seen_ranks : HeldCaps → List Reading → ℕ → Text → Text → List ℕ
 seen_ranks caps items k c n = ranks_that (λ rank. holds_rank items c n rank && (caps.multi_prefix || was_shown items k c n rank))
 
+-- a member as a client sees it
 abbrev pub seen_member : HeldCaps → List Reading → ℕ → Text → Text → Option (List ℕ)
 seen_member caps items k c n = if is_member items c n then Some (seen_ranks caps items k c n) else None
 
+-- a channel as a client sees it: the ranks of its members may be fewer
 abbrev pub seen_channel : HeldCaps → List Reading → ℕ → Text → Option Channel
 seen_channel caps items k c = option_map (λ name. record {
   name = name;
@@ -82,6 +85,7 @@ seen_channel caps items k c = option_map (λ name. record {
   members = table bytes_cmp (named people_in items) (seen_member caps items k c);
 }) (name_on items c)
 
+-- the channels as a client sees them
 abbrev pub seen_channels : HeldCaps → List Reading → ℕ → map.FinMap bytes_cmp Channel
 seen_channels caps items k = table bytes_cmp (named channels_in items) (seen_channel caps items k)
 

@@ -55,11 +55,13 @@ pub record IsSoundChannel (v : View) (c : Text) (ch : Channel) : Type 0 where
   pub ranks : (n : Text) → ForSome (map.get ch.members n) (λ ranks. (rank : ℕ) → IsTrue (has_rank ranks rank) → rank < rank_limit v.settings)
   pub spelled : (n : Text) → IsTrue (map.contains_key ch.members n) → IsSomeAnd (known_at (λ p. p.spelled) v n) (IsSpelling v.settings n)
 
+-- Who is known is spelled; account and away text are of their form.
 pub record IsSoundPerson (v : View) (n : Text) (p : Person) : Type 0 where
   pub spelled : IsSomeAnd p.spelled (IsSpelling v.settings n)
   pub account : ForSome p.account IsAccount
   pub away : ForSome p.away IsFilled
 
+-- What every network view is like.
 pub record IsSound (v : View) : Type 0 where
   -- before a welcome the view is empty
   pub unwelcomed : v.own ≡ None → v ≡ empty_view

@@ -34,6 +34,7 @@ actor_nick line = option_and_then (λ source. if is_nameable (nick_of source) th
 abbrev pub actor : List Token → Parts → Option Name
 actor settings line = option_map (name_of settings) (actor_nick line)
 
+-- where nothing is found, nothing is told
 abbrev pub or_silent : Option Told → Told
 or_silent told = unwrap_or told Silent
 
@@ -75,6 +76,7 @@ setting_by C false param = Some None
 setting_by D plus param = switched plus (Some None)
 setting_by Unknown plus param = None
 
+-- a change of a mode, where it is kept
 abbrev pub mode_change : List Token → ChangeParts → Option ModeChange
 mode_change settings change = option_map (λ setting. record { letter = change.letter; setting = setting }) (setting_by (kind_of settings change.letter) change.plus change.param)
 
@@ -165,6 +167,7 @@ pub record StateLine : Type 0 where
   pub command : Text
   pub tells : List Token → Parts → Told
 
+-- a row of the state lines
 abbrev pub state_line : Text → (List Token → Parts → Told) → StateLine
 state_line command tells = record { command = command; tells = tells }
 
@@ -207,6 +210,7 @@ commands_read = codes "001" ∷ codes "JOIN" ∷ codes "PART" ∷ []
 abbrev pub is_state_line : Parts → Bool
 is_state_line line = list_any (has_command line) commands_read
 
+-- whether an item can tell something: a state line, and a loss
 abbrev pub is_state_item : Arrival → Bool
 is_state_item (Received line) = is_state_line line
 is_state_item Lost = true

@@ -4,7 +4,7 @@ use Rattle.std.proofs.Common.{Option}
 use Rattle.irc_support.specs.Text.{Text}
 use Rattle.net_view.specs.Names.{Name}
 
--- the letter of a rank, 0 the highest, given to a member or taken (RFC 2812, section 4.1; PREFIX of the
+-- the letter of a rank, 0 the highest, given to a member or taken (RFC 2812, section 3.2.3; PREFIX of the
 -- isupport draft, section 3.14)
 pub record LetterChange : Type 0 where
   pub plus : Bool
@@ -21,6 +21,7 @@ pub record Listing : Type 0 where
   pub person : Name
   pub ranks : List ℕ
 
+-- what an item tells
 pub data Told : Type 0 where
   -- nothing
   Silent : Told

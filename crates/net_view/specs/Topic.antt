@@ -9,10 +9,12 @@ use Rattle.net_view.specs.Transcript.{Reading}
 use Rattle.net_view.specs.LookBack.{last}
 use Rattle.net_view.specs.Presence.{anew_or}
 
+-- TOPIC, 332 and 331 of the channel say its topic, or that it has none
 abbrev pub said_of_topic : Text → Told → Option (Option Text)
 said_of_topic c (Titled channel text) = if same c channel then Some text else None
 said_of_topic c _ = None
 
+-- at our own JOIN there is none
 abbrev pub says_topic : Text → (Text → Bool) → Told → Option (Option Text)
 says_topic c us t = anew_or c us t None (said_of_topic c t)
 

@@ -11,6 +11,7 @@ use Rattle.net_view.specs.Told.{Told, Welcomed, Supports, Settles, Joined, Renam
 use Rattle.net_view.specs.Arrival.{Arrival}
 use Rattle.net_view.specs.StateLines.{told}
 
+-- our own nick, where we were welcomed; whether we are ready; the settings in force
 pub record Standing : Type 0 where
   pub own : Option Text
   pub ready : Bool
@@ -40,6 +41,7 @@ settings_after (Welcomed nick) s = []
 settings_after (Supports params) s = if is_some s.own && not s.ready then set_tokens s.settings params else s.settings
 settings_after _ s = s.settings
 
+-- where what an item tells leaves us
 abbrev pub standing_after : Told → Standing → Standing
 standing_after t s = record { own = own_after t s; ready = ready_after t s; settings = settings_after t s }
 
@@ -47,6 +49,7 @@ standing_after t s = record { own = own_after t s; ready = ready_after t s; sett
 abbrev pub standing_with : Arrival → Standing → Standing
 standing_with x s = standing_after (told s.settings x) s
 
+-- where the items leave us
 abbrev pub standing : List Arrival → Standing
 standing [] = record { own = None; ready = false; settings = [] }
 standing (x ∷ older) = standing_with x (standing older)
@@ -55,6 +58,7 @@ standing (x ∷ older) = standing_with x (standing older)
 abbrev pub own_nick : List Arrival → Option Text
 own_nick items = (standing items).own
 
+-- whether the settings were fixed since the last welcome
 abbrev pub is_ready : List Arrival → Bool
 is_ready items = (standing items).ready
 
@@ -67,9 +71,11 @@ pub record Reading : Type 0 where
   pub before : Standing
   pub told : Told
 
+-- an item, read from where we stand
 abbrev pub reading_of : Arrival → Standing → Reading
 reading_of x s = record { before = s; told = told s.settings x }
 
+-- the readings of a list of items
 abbrev pub readings_of : List Arrival → List Reading
 readings_of [] = []
 readings_of (x ∷ older) = reading_of x (standing older) ∷ readings_of older

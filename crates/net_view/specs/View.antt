@@ -58,12 +58,15 @@ lost_view v = record { own = v.own; ready = v.ready; settings = v.settings; chan
 abbrev pub member_of : List Reading → Text → Text → Option (List ℕ)
 member_of items c n = if is_member items c n then Some (ranks_that (rank_decided items c n)) else None
 
+-- the modes that are on, by letter
 abbrev pub modes_of : List Reading → Text → FinMap nat_cmp (Option Text)
 modes_of items c = table nat_cmp (named letters_in items) (mode_of items c)
 
+-- the members with their ranks, by key
 abbrev pub members_of : List Reading → Text → FinMap bytes_cmp (List ℕ)
 members_of items c = table bytes_cmp (named people_in items) (member_of items c)
 
+-- what is found of a channel, by this name
 abbrev pub channel_named : List Reading → Text → Text → Channel
 channel_named items c name = record {
   name = name;
@@ -72,12 +75,15 @@ channel_named items c name = record {
   members = members_of items c;
 }
 
+-- the channel of this key, where we are on it
 abbrev pub channel_of : List Reading → Text → Option Channel
 channel_of items c = option_map (channel_named items c) (name_on items c)
 
+-- the channels that we are on, by key
 abbrev pub channels_of : List Reading → FinMap bytes_cmp Channel
 channels_of items = table bytes_cmp (named channels_in items) (channel_of items)
 
+-- what is found of a person
 abbrev pub known_of : List Reading → Text → Person
 known_of items n = record {
   spelled = spelling_of items n;
@@ -85,9 +91,11 @@ known_of items n = record {
   away = away_of items n;
 }
 
+-- the person of this key, where in sight
 abbrev pub person_of : List Reading → Text → Option Person
 person_of items n = if in_sight items n then Some (known_of items n) else None
 
+-- the persons in sight, by key
 abbrev pub people_of : List Reading → FinMap bytes_cmp Person
 people_of items = table bytes_cmp (named people_in items) (person_of items)
 
