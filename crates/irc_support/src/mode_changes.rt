@@ -1,8 +1,9 @@
 //! The changes of MODE (RFC 2812, section 3.2.3) and of 324 RPL_CHANNELMODEIS (section 5.1).
 
-ghost use Rattle.std.specs.Prelude.{◌≡◌, ◌≤◌, drop};
+ghost use Rattle.std.specs.Prelude.{◌≡◌, ◌≤◌, true, drop};
 ghost use Rattle.std.specs.Iterator.{YieldsFirstBy, item_count};
 ghost use Rattle.irc_support.specs.ModeChanges as parsed;
+ghost use Rattle.irc_support.specs.ModeChanges.{signed, with_params};
 ghost use Rattle.irc_support.specs.Line.{changes_in};
 ghost use Rattle.irc_support.specs.ChangeShown.{shown_change};
 
@@ -78,7 +79,26 @@ impl<'a, A: Allocator, B: Allocator> Iterator for ModeChanges<'a, A, B> {
     }
 }
 
-/// The changes of the letters in the parameter at this place, and of what stands behind it.
+/// The changes of these letters, which take what stands from this place on.
+fn changes_of<'a, A: Allocator, B: Allocator>(
+    support: &'a Support<A>,
+    letters: &'a [u8],
+    line: &'a Line<B>,
+    place: usize,
+) -> ModeChanges<'a, A, B>
+    ensures { result ≡ with_params support.now (signed true letters.now) (drop place line.now.params) }
+{
+    ModeChanges {
+        support,
+        plus: true,
+        letters,
+        line,
+        place,
+        count: line.param_count(),
+    }
+}
+
+/// The changes of the letters in the parameter at this place, which take what stands behind it.
 fn changes_from<'a, A: Allocator, B: Allocator>(
     support: &'a Support<A>,
     line: &'a Line<B>,
@@ -87,14 +107,7 @@ fn changes_from<'a, A: Allocator, B: Allocator>(
     requires { place ≤ 2 }
     ensures { result ≡ parsed.changes support.now (drop place line.now.params) }
 {
-    ModeChanges {
-        support,
-        plus: true,
-        letters: param_or_empty(line, place),
-        line,
-        place: place + 1,
-        count: line.param_count(),
-    }
+    changes_of(support, param_or_empty(line, place), line, place + 1)
 }
 
 /// The changes that a MODE or a 324 line lists, read by these settings: none for any other line. It takes
@@ -115,13 +128,6 @@ pub fn changes<'a, A: Allocator, B: Allocator>(
     } else if line.is(b"324") {
         changes_from(support, line, 2)
     } else {
-        ModeChanges {
-            support,
-            plus: true,
-            letters: b"",
-            line,
-            place: 0,
-            count: line.param_count(),
-        }
+        changes_of(support, b"", line, 0)
     }
 }

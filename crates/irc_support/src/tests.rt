@@ -6,56 +6,65 @@ use irc_names::CaseMapping;
 use std::alloc::Global;
 use std::test::Fail;
 
-type Tokens<'a> = &'a [(&'a [u8], Option<&'a [u8]>)];
-
 type Changes<'a> = &'a [(bool, u8, Option<&'a [u8]>)];
-
-type Members<'a> = &'a [(&'a [u8], &'a [u8])];
 
 fn line(alloc: Global, text: &[u8]) -> Result<Line, Fail> {
     let line = Line::<Global>::read(alloc, text)?;
     Ok(line.ok_or("the text is a line")?)
 }
 
-/// The settings after these lines.
-fn settings(alloc: Global, texts: &[&[u8]]) -> Result<Support, Fail> {
+/// The settings after a line.
+fn settings(alloc: Global, text: &[u8]) -> Result<Support, Fail> {
     let mut settings = Support::new(alloc)?;
-    for text in texts {
-        settings.take(&line(alloc, text)?)?;
-    }
+    settings.take(&line(alloc, text)?)?;
     Ok(settings)
+}
+
+/// The tokens as they came, a space behind each.
+fn tokens(alloc: Global, settings: &Support) -> Result<Vec<u8>, Fail> {
+    let mut text = Vec::new(alloc);
+    for place in 0..settings.token_count() {
+        let (name, value) = settings.token(place).ok_or("no such token")?;
+        text.extend_from_slice(name)?;
+        if let Some(value) = value {
+            text.push(b'=')?;
+            text.extend_from_slice(value)?;
+        }
+        text.push(b' ')?;
+    }
+    Ok(text)
 }
 
 #[test]
 fn tokens_in_order(rt: HostRuntime) -> Result<(), Fail> {
-    let rows: [(&[&[u8]], Tokens<'_>); 7] = [
-        (&[], &[]),
+    let rows: [(&[u8], &[u8]); 6] = [
+        (b":s 005 Me A=1 B -A A=2 C= =x :text", b"B A=2 C= "),
         (
-            &[b":s 005 Me A=1 B -A A=2 C= =x :text"],
-            &[(b"B", None), (b"A", Some(b"2")), (b"C", Some(b""))],
+            b":s 005 Me A=1 B A=y=z - NAMESX a :are supported",
+            b"A=y=z B NAMESX a ",
         ),
-        (
-            &[
-                b":s 005 Me A=1 B C=x :are supported",
-                b":s 005 Me A=2 -B - D=y=z :are supported",
-            ],
-            &[(b"A", Some(b"2")), (b"C", Some(b"x")), (b"D", Some(b"y=z"))],
-        ),
-        (&[b":s 005 Me A"], &[]),
-        (&[b":s 005 Me", b":s 005"], &[]),
-        (&[b":s 004 Me A B :text", b":s 006 Me A :text"], &[]),
-        (
-            &[b":s 005 Me a A a=1 :text"],
-            &[(b"a", Some(b"1")), (b"A", None)],
-        ),
+        (b":s 005 Me A", b""),
+        (b":s 005 Me", b""),
+        (b":s 004 Me A B :text", b""),
+        (b":s 006 Me A B :text", b""),
     ];
-    for (texts, tokens) in rows {
-        let settings = settings(rt.alloc(), texts)?;
-        assert_eq!(rt; settings.token_count(), tokens.len());
-        for place in 0..8 {
-            assert!(rt; settings.token(place) == tokens.get(place).copied());
-        }
+    for (text, wanted) in rows {
+        let settings = settings(rt.alloc(), text)?;
+        let shown = tokens(rt.alloc(), &settings)?;
+        assert!(rt; shown.as_slice() == wanted);
     }
+    Ok(())
+}
+
+#[test]
+fn tokens_over_two_lines(rt: HostRuntime) -> Result<(), Fail> {
+    let first = line(rt.alloc(), b":s 005 Me A=1 B C=x :are supported")?;
+    let second = line(rt.alloc(), b":s 005 Me A=2 -B D B :are supported")?;
+    let mut settings = Support::new(rt.alloc())?;
+    settings.take(&first)?;
+    settings.take(&second)?;
+    let shown = tokens(rt.alloc(), &settings)?;
+    assert!(rt; shown.as_slice() == b"A=2 C=x D B ".as_slice());
     Ok(())
 }
 
@@ -92,7 +101,7 @@ fn ranks_of_a_prefix(rt: HostRuntime) -> Result<(), Fail> {
         ),
     ];
     for (text, letters, symbols) in rows {
-        let settings = settings(rt.alloc(), &[text])?;
+        let settings = settings(rt.alloc(), text)?;
         for rank in 0..20 {
             let place = usize::from(rank);
             assert_eq!(rt; settings.symbol(rank), symbols.get(place).copied());
@@ -149,7 +158,7 @@ fn kinds_of_letters(rt: HostRuntime) -> Result<(), Fail> {
         (b":s 005 Me CHANMODES :text", b"bklimnpst", Kind::Unknown),
     ];
     for (text, letters, kind) in rows {
-        let settings = settings(rt.alloc(), &[text])?;
+        let settings = settings(rt.alloc(), text)?;
         for letter in letters {
             assert_eq!(rt; settings.kind(*letter), kind);
         }
@@ -171,7 +180,7 @@ fn names_by_their_settings(rt: HostRuntime) -> Result<(), Fail> {
         (b":s 005 Me CASEMAPPING :text", CaseMapping::Ascii),
     ];
     for (text, mapping) in mappings {
-        assert_eq!(rt; settings(rt.alloc(), &[text])?.mapping(), mapping);
+        assert_eq!(rt; settings(rt.alloc(), text)?.mapping(), mapping);
     }
     let channels: [(&[u8], &[u8], bool); 10] = [
         (b":s 005 Me A :text", b"#c", true),
@@ -186,7 +195,7 @@ fn names_by_their_settings(rt: HostRuntime) -> Result<(), Fail> {
         (b":s 005 Me CHANTYPES :text", b"#c", false),
     ];
     for (text, name, is_channel) in channels {
-        assert_eq!(rt; settings(rt.alloc(), &[text])?.is_channel(name), is_channel);
+        assert_eq!(rt; settings(rt.alloc(), text)?.is_channel(name), is_channel);
     }
     Ok(())
 }
@@ -230,7 +239,7 @@ fn changes_of_a_line(rt: HostRuntime) -> Result<(), Fail> {
         (b":s 324 Me #c", &[]),
         (b":s 329 Me #c +kl key 9", &[]),
     ];
-    let settings = settings(rt.alloc(), &[])?;
+    let settings = Support::new(rt.alloc())?;
     for (text, wanted) in rows {
         let line = line(rt.alloc(), text)?;
         let mut wanted = wanted.iter();
@@ -243,38 +252,48 @@ fn changes_of_a_line(rt: HostRuntime) -> Result<(), Fail> {
     Ok(())
 }
 
+/// Whether a member is this word, whose symbols stand highest first.
+fn is_member(settings: &Support, ranks: Ranks, nick: &[u8], word: &[u8]) -> bool {
+    let mut rest = word;
+    for rank in 0..20 {
+        if ranks.has(rank) {
+            match rest {
+                [first, more @ ..] if settings.symbol(rank) == Some(*first) => rest = more,
+                _ => return false,
+            }
+        }
+    }
+    rest == nick
+}
+
 #[test]
 fn members_of_a_name_list(rt: HostRuntime) -> Result<(), Fail> {
-    let rows: [(&[u8], Members<'_>); 8] = [
+    let rows: [(&[u8], &[&[u8]]); 8] = [
         (
             b":s 353 Me = #c :Me @+bob  +eve!e@h ",
-            &[(b"", b"Me"), (b"@+", b"bob"), (b"+", b"eve")],
+            &[b"Me", b"@+bob", b"+eve"],
         ),
-        (b":s 353 Me = #c :+@+bob", &[(b"@+", b"bob")]),
-        (b":s 353 Me = #c :%bob @", &[(b"", b"%bob"), (b"@", b"")]),
-        (b":s 353 Me = #c @bob", &[(b"@", b"bob")]),
+        (b":s 353 Me = #c :+@+bob", &[b"@+bob"]),
+        (b":s 353 Me = #c :%bob @", &[b"%bob", b"@"]),
+        (b":s 353 Me = #c @bob", &[b"@bob"]),
         (b":s 353 Me = #c :", &[]),
         (b":s 353 Me = #c", &[]),
         (b":s 353 Me #c :@bob", &[]),
         (b":s 366 Me = #c :@bob", &[]),
     ];
-    let settings = settings(rt.alloc(), &[])?;
-    for (text, wanted) in rows {
+    let settings = Support::new(rt.alloc())?;
+    for (text, words) in rows {
         let line = line(rt.alloc(), text)?;
-        let mut wanted = wanted.iter();
+        let mut words = words.iter();
         for (ranks, nick) in names(&settings, &line) {
-            let (symbols, name) = wanted.next().copied().ok_or("no more members")?;
-            assert!(rt; nick == name);
-            for rank in 0..20 {
-                let is_shown = match settings.symbol(rank) {
-                    Some(symbol) => symbols.contains(&symbol),
-                    None => false,
-                };
-                assert_eq!(rt; ranks.has(rank), is_shown);
-            }
+            let word = words.next().copied().ok_or("no more members")?;
+            assert!(rt; is_member(&settings, ranks, nick, word));
         }
-        assert!(rt; wanted.next().is_none());
+        assert!(rt; words.next().is_none());
     }
+    let (ranks, name) = settings.split_symbols(b"+@bob!b@h");
+    assert!(rt; ranks == Ranks::none().with(0).with(1));
+    assert!(rt; name == b"bob!b@h".as_slice());
     Ok(())
 }
 
