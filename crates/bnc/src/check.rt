@@ -104,6 +104,11 @@ mod tests {
     }
 
     #[test]
+    fn a_file_that_is_not_there(rt: HostRuntime) {
+        assert!(rt; matches!(check_file(&rt, "missing.toml"), Err(Fault::CannotRead)));
+    }
+
+    #[test]
     fn texts_of_faults(rt: HostRuntime) -> Result<(), Fail> {
         let rows = [
             (Fault::CannotRead, "cannot read"),

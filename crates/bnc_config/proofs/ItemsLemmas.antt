@@ -1,11 +1,10 @@
 -- The items of a list in a tree.
-use Rattle.std.proofs.Common.{◌≡◌, refl, ap, sym, ℕ, suc, ◌+◌, ◌<◌, Bool, false, true, List, [], ◌∷◌, length, drop, get_or, ◌&&◌, Option, Some, None}
+use Rattle.std.proofs.Common.{◌≡◌, refl, ap, ℕ, suc, ◌+◌, ◌<◌, Bool, false, true, List, [], ◌∷◌, length, drop, get_or, ◌&&◌, Option, Some, None}
 use Rattle.std.specs.List.{list_all}
 use Rattle.toml.proofs.Views.{items_view-drop}
 use Rattle.toml.specs.Data.{Data, string, integer, float, boolean, datetime, array, table, Items, item, Members, as_array, as_table}
 use Rattle.toml.specs.View.{view, items_view}
 use Rattle.toml.specs.declared.value.Value.{Value}
-use Rattle.bnc_config.specs.declared.fault.ConfigFault.{ConfigFault}
 use Rattle.bnc_config.specs.declared.fault.ConfigFault.TheVariants.{BadValue}
 use Rattle.bnc_config.specs.declared.key.Key.{Key}
 use Rattle.bnc_config.specs.Document.{all_items, fault_at, is_list_where, is_table, item_count, tables_of}

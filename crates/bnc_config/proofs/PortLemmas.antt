@@ -1,5 +1,5 @@
 -- A port as `parse` reads it.
-use Rattle.std.proofs.Common.{◌≡◌, refl, sym, ℕ, ◌<◌, ◌≤◌, ◌^◌, Bool, true, false, List, [], ◌∷◌, length, Result, Err, rules, arith}
+use Rattle.std.proofs.Common.{◌≡◌, refl, sym, ℕ, ◌<◌, ◌^◌, true, false, List, [], ◌∷◌, Err, rules, arith}
 use Rattle.std.proofs.lemmas.Bool.Decides.{nat_tests}
 use Rattle.std.proofs.lemmas.Str.Parse.{IsNumeralModel, numerals_by_value, parse_digits}
 use Rattle.std.specs.Char.{is_ascii_digit}

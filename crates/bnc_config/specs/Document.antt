@@ -2,11 +2,11 @@
 use Rattle.std.specs.Prelude.{◌≡◌, ◌⊎◌, ℕ, suc, Bool, true, false, ◌&&◌, nat_le, pos, List, [], ◌∷◌, ◌++◌, map, Option, Some, None, Result, Ok, Err, unwrap_or, is_some, option_and_then, if◌then◌else◌, IsUtf8}
 use Rattle.std.specs.List.{list_any}
 use Rattle.std.specs.Option.{option_or}
-use Rattle.std.specs.Result.{result_ok, result_unwrap_or}
+use Rattle.std.specs.Result.{result_unwrap_or}
 use Rattle.std.specs.Str.{bytes_eq}
 use Rattle.hex.specs.Hex.{decode_of}
 use Rattle.irc_names.specs.Nick.{is_nameable}
-use Rattle.toml.specs.Data.{Data, string, integer, float, boolean, datetime, array, table, Items, no_items, item, Members, get_member, as_str, as_table}
+use Rattle.toml.specs.Data.{Data, string, integer, array, table, Items, no_items, item, Members, get_member, as_str, as_table}
 use Rattle.toml.specs.Parse.{parse_document}
 use Rattle.bnc_config.specs.Key.{word_of}
 use Rattle.bnc_config.specs.Settings.{Settings, UserSettings, NetworkSettings}

@@ -1,9 +1,9 @@
-use Rattle.std.proofs.Common.{◌≡◌, ◌∙◌, refl, sym, ap, ◌++◌, ◌∷◌, [], List, ℕ, ◌+◌, drop, map, inl, inr, append_assoc, arith}
+use Rattle.std.proofs.Common.{◌≡◌, ◌∙◌, refl, ◌++◌, ◌∷◌, [], map, inl, inr, append_assoc}
 use Rattle.std.proofs.lemmas.List.{map-append}
 use Rattle.std.proofs.lemmas.Result.{err_from_is_err_and}
-use Rattle.toml.specs.View.{items_view, table_view}
+use Rattle.toml.specs.View.{table_view}
 use Rattle.bnc_config.proofs.ItemsLemmas.{tables_of-table, tables_of-other}
-use Rattle.bnc_config.specs.Document.{network_in, networks_fault, tables_of, text_at}
+use Rattle.bnc_config.specs.Document.{network_in, text_at}
 use Rattle.bnc_config.specs.Settings.{NetworkSettings}
 use Rattle.bnc_config.specs.declared.key.Key.TheVariants.{NetworkName}
 use Rattle.bnc_config.proofs.networks.read_networks.Goals.{in-Some+in_ok-read+in_ok-push, in_default}
