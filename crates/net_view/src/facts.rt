@@ -23,34 +23,52 @@ ghost use Rattle.net_view.specs.Sound.{IsSound};
 /// What is found by looking back, in a reader's words: the last item that speaks of a matter or of a person
 /// says it, and all since are silent; of what is known of a person, who was in sight ever since.
 pub fn the_last_word<A>()
-    ensures matter { (says : (Text → Bool) → Told → Option A) (items : List Reading) (answer : A) → (last says items ≡ Some answer) ↔ IsSaidLast says items answer }
-    ensures person { (says : (Text → Bool) → Told → Text → Option A) (items : List Reading) (n : Text) (answer : A) → (last_of says items n ≡ Some answer) ↔ IsSaidLastOf says items n answer }
-    ensures fact { (says : Says) (items : List Reading) (n answer : Text) → (known says items n ≡ Some answer) ↔ IsKnown says items n answer }
+    ensures matter { (says : (Text → Bool) → Told → Option A) (items : List Reading) (answer : A) →
+        (last says items ≡ Some answer) ↔ IsSaidLast says items answer }
+    ensures person { (says : (Text → Bool) → Told → Text → Option A) (items : List Reading) (n : Text) (answer : A) →
+        (last_of says items n ≡ Some answer) ↔ IsSaidLastOf says items n answer }
+    ensures fact { (says : Says) (items : List Reading) (n answer : Text) →
+        (known says items n ≡ Some answer) ↔ IsKnown says items n answer }
 {}
 
 /// What every network view is like. A channel that we are on has the name of our own JOIN, and nothing since
 /// took us off it.
 pub fn views_are_sound()
     ensures sound { (items : List Arrival) → IsSound (view_of items) }
-    ensures joined { (items : List Arrival) (c : Text) (channel : Channel) → get (view_of items).channels c ≡ Some channel → IsSaidLast (says_on c) (readings_of (reverse items)) (Some channel.name) }
+    ensures joined { (items : List Arrival) (c : Text) (channel : Channel) →
+        get (view_of items).channels c ≡ Some channel →
+        IsSaidLast (says_on c) (readings_of (reverse items)) (Some channel.name) }
 {}
 
 /// Once ready, we stay so, and the settings stay, until the next welcome.
 pub fn settings_stay()
-    ensures ready { (items : List Arrival) (x : Arrival) → IsTrue (view_of items).ready → ((nick : Text) → told (view_of items).settings x ≢ Welcomed nick) → IsTrue (view_of (items ++ x ∷ [])).ready }
-    ensures same { (items : List Arrival) (x : Arrival) → IsTrue (view_of items).ready → ((nick : Text) → told (view_of items).settings x ≢ Welcomed nick) → (view_of (items ++ x ∷ [])).settings ≡ (view_of items).settings }
+    ensures ready { (items : List Arrival) (x : Arrival) → IsTrue (view_of items).ready →
+        ((nick : Text) → told (view_of items).settings x ≢ Welcomed nick) →
+        IsTrue (view_of (items ++ x ∷ [])).ready }
+    ensures same { (items : List Arrival) (x : Arrival) → IsTrue (view_of items).ready →
+        ((nick : Text) → told (view_of items).settings x ≢ Welcomed nick) →
+        (view_of (items ++ x ∷ [])).settings ≡ (view_of items).settings }
 {}
 
 /// What a name is worth. Two names with one key are one person, at every boundary. A NICK that counts and its
 /// way back are inverse, but for who held the new name. After a QUIT nobody of that name is there, and after
 /// a welcome nobody at all (after a loss neither: `a_loss_empties_the_view`).
 pub fn a_name_is_a_person()
-    ensures known { (v : View) (a b : Text) → key_by v.settings a ≡ key_by v.settings b → account_shown v a ≡ account_shown v b }
-    ensures traced { (settings : List Token) (items : List Reading) (a b : Text) → key_by settings a ≡ key_by settings b → name_traced items (key_by settings a) ≡ name_traced items (key_by settings b) }
-    ensures there_and_back { (s : Standing) (a : Text) (b c : Name) (n : Text) → key_by s.settings b.spelled ≡ b.key → c.key ≡ a → IsTrue (counts (is_us s) a b.key) → n ≢ b.key →
-        name_traced (record { before = standing_after (Renamed a b) s; told = Renamed b.key c } ∷ record { before = s; told = Renamed a b } ∷ []) n ≡ Some n }
-    ensures quit { (items : List Arrival) (x : Arrival) (n : Text) → told (view_of items).settings x ≡ Quits n → is_seen (view_of (items ++ x ∷ [])).channels n ≡ false }
-    ensures welcome { (items : List Arrival) (x : Arrival) (nick : Text) → told (view_of items).settings x ≡ Welcomed nick → view_of (items ++ x ∷ []) ≡ welcomed_view nick }
+    ensures known { (v : View) (a b : Text) → key_by v.settings a ≡ key_by v.settings b →
+        account_shown v a ≡ account_shown v b }
+    ensures traced { (settings : List Token) (items : List Reading) (a b : Text) →
+        key_by settings a ≡ key_by settings b →
+        name_traced items (key_by settings a) ≡ name_traced items (key_by settings b) }
+    ensures there_and_back { (s : Standing) (a : Text) (b c : Name) (n : Text) →
+        key_by s.settings b.spelled ≡ b.key → c.key ≡ a → IsTrue (counts (is_us s) a b.key) → n ≢ b.key →
+        name_traced (
+        record { before = standing_after (Renamed a b) s; told = Renamed b.key c }
+        ∷ record { before = s; told = Renamed a b }
+        ∷ []) n ≡ Some n }
+    ensures quit { (items : List Arrival) (x : Arrival) (n : Text) → told (view_of items).settings x ≡ Quits n →
+        is_seen (view_of (items ++ x ∷ [])).channels n ≡ false }
+    ensures welcome { (items : List Arrival) (x : Arrival) (nick : Text) →
+        told (view_of items).settings x ≡ Welcomed nick → view_of (items ++ x ∷ []) ≡ welcomed_view nick }
 {}
 
 /// A client that holds all four capabilities sees the whole view, whenever it came.
@@ -62,7 +80,10 @@ pub fn all_capabilities_see_all()
 /// cut into lines between any words.
 pub fn name_lists_add_up()
     ensures lists { (items : List Arrival) (whole first second : Arrival) (c : Text) (a b : List Listing) →
-        told (view_of items).settings whole ≡ Present c (a ++ b) → told (view_of items).settings first ≡ Present c a → told (view_of items).settings second ≡ Present c b →
+        told (view_of items).settings whole ≡ Present c (a ++ b) →
+        told (view_of items).settings first ≡ Present c a →
+        told (view_of items).settings second ≡ Present c b →
         view_of (items ++ whole ∷ []) ≡ view_of ((items ++ first ∷ []) ++ second ∷ []) }
-    ensures words { (settings : List Token) (a b : Text) → listings_of settings (a ++ 32 ∷ b) ≡ listings_of settings a ++ listings_of settings b }
+    ensures words { (settings : List Token) (a b : Text) →
+        listings_of settings (a ++ 32 ∷ b) ≡ listings_of settings a ++ listings_of settings b }
 {}

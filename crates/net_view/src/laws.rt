@@ -8,7 +8,8 @@ ghost use Rattle.net_view.specs.Step.{after};
 
 /// A view is a state: what comes next makes one view of two transcripts that had one.
 pub fn a_view_is_a_state()
-    ensures { (items others : List Arrival) (x : Arrival) → view_of items ≡ view_of others → view_of (items ++ x ∷ []) ≡ view_of (others ++ x ∷ []) }
+    ensures { (items others : List Arrival) (x : Arrival) → view_of items ≡ view_of others →
+        view_of (items ++ x ∷ []) ≡ view_of (others ++ x ∷ []) }
 {}
 
 /// The view goes step by step: it begins empty, and the view after an item is a function of the view before
@@ -20,7 +21,8 @@ pub fn views_go_by_steps()
 
 /// What is no state line changes nothing.
 pub fn only_state_items_count()
-    ensures { (items : List Arrival) (x : Arrival) → is_state_item x ≡ false → view_of (items ++ x ∷ []) ≡ view_of items }
+    ensures { (items : List Arrival) (x : Arrival) → is_state_item x ≡ false →
+        view_of (items ++ x ∷ []) ≡ view_of items }
 {}
 
 /// A loss leaves own nick and settings, no channel and nobody known.

@@ -23,7 +23,8 @@ pub trait NetworkView {
     /// Takes the next item. Only a state line, as `:bob!b@h JOIN #c`, may need memory; without it the view
     /// stays as it was.
     fn take<A: Allocator>(&mut self, item: &Item<A>) -> Result<(), OutOfMemory>
-        ensures taken { (items : List Arrival) → view self.old ≡ view_of items → OnOk result (view self.new ≡ view_of (items ++ arrival_of item.now ∷ [])) }
+        ensures taken { (items : List Arrival) → view self.old ≡ view_of items →
+            OnOk result (view self.new ≡ view_of (items ++ arrival_of item.now ∷ [])) }
         ensures kept { OnErr result (view self.new ≡ view self.old) }
         ensures free { may_need_memory (arrival_of item.now) ≡ false → IsOk result };
 
@@ -45,7 +46,8 @@ pub trait NetworkView {
 
     /// The channel at place `i`; `None` from `channel_count` on.
     fn channel_at(&self, i: usize) -> Option<Channel<'_>>
-        ensures name { option_map (λ channel. channel.name.now) result ≡ option_map (λ channel. channel.name) (channel_shown (view self.now) i) };
+        ensures name { option_map (λ channel. channel.name.now) result
+            ≡ option_map (λ channel. channel.name) (channel_shown (view self.now) i) };
 
     /// How many members the channel at place `i` has, we among them; 0 from `channel_count` on.
     fn member_count(&self, i: usize) -> usize
@@ -53,5 +55,6 @@ pub trait NetworkView {
 
     /// The member at place `j` of the channel at place `i`; `None` from `member_count` on.
     fn member_at(&self, i: usize, j: usize) -> Option<Member<'_>>
-        ensures nick { option_map (λ member. member.nick.now) result ≡ option_map (λ member. member.nick) (member_shown (view self.now) i j) };
+        ensures nick { option_map (λ member. member.nick.now) result
+            ≡ option_map (λ member. member.nick) (member_shown (view self.now) i j) };
 }
