@@ -29,3 +29,11 @@ mod MemberRows
 mod FactRows
 mod LineRows
 mod SeenRows
+pub mod TapeTests
+pub mod ReadCommands
+pub mod TapeBack
+pub mod TapeMembers
+pub mod TapeTake
+pub mod Places
+pub mod NextShown
+pub mod ShownPlaces

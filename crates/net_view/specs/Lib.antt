@@ -27,3 +27,7 @@ pub mod Readers
 pub mod Seen
 pub mod Sound
 pub mod Found
+pub mod Tells
+pub mod Tape
+pub mod Least
+pub mod Shown

@@ -6,6 +6,9 @@ mod facts;
 mod item;
 mod laws;
 mod network_view;
+mod tape;
+mod tape_view;
+mod told;
 
 pub use channel::{Channel, Member};
 pub use facts::{

@@ -1,0 +1,31 @@
+use Rattle.std.proofs.Common.{◌≡◌, ◌∷◌, ◌++◌, [], false, refl, sym, ap, ◌∙◌, arith}
+use Rattle.std.proofs.lemmas.Bool.Decides.{nat_tests}
+use Rattle.net_view.specs.View.{view_back, view_of}
+use Rattle.net_view.specs.Arrival.{Received, arrival_of}
+use Rattle.net_view.specs.Tape.{tape_of}
+use Rattle.net_view.proofs.StepLaw.{view_unchanged}
+use Rattle.net_view.proofs.TapeTake.{line_taken, loss_taken, loss_of_nothing}
+use Rattle.net_view.proofs.tape_view.TapeView.take.Goals as goal
+
+pub returns-in_ok-push-in-Line-clause-taken : goal.returns-in_ok-push-in-Line-clause-taken
+returns-in_ok-push-in-Line-clause-taken g c items e =
+    let before : view_back (tape_of c.self.inside.kept.items) ≡ view_of items = ap view_back c.self.view_is ∙ e in
+    line_taken items c.self.inside.kept.items c.push.new.self.items (record { line = c.in_ok-line-in-Line.line; lost = false }) c.in-Line.line c.in_ok-push-in-Line.ensures.items refl c.in_ok-line-in-Line.ensures before
+    ∙ ap (λ x. view_of (items ++ arrival_of x ∷ [])) (sym c.in-Line.is)
+
+pub returns-else-is_state_line-clause-taken : goal.returns-else-is_state_line-clause-taken
+returns-else-is_state_line-clause-taken g c items e =
+    e ∙ sym (view_unchanged items (Received c.in-Line.line) (sym c.is_state_line.ensures ∙ c.if-is_state_line.false))
+    ∙ ap (λ x. view_of (items ++ arrival_of x ∷ [])) (sym c.in-Line.is)
+
+pub returns-then-not-is_empty-clause-taken : goal.returns-then-not-is_empty-clause-taken
+returns-then-not-is_empty-clause-taken g c items e =
+    let before : view_back (tape_of c.self.inside.kept.items) ≡ view_of items = ap view_back c.self.view_is ∙ e in
+    loss_taken items c.self.inside.kept.items _ c.index_mut.result.now (grind (arith, nat_tests, c.self.inside.kept.ok.0)) c.index_mut.ensures.value before
+    ∙ ap (λ x. view_of (items ++ arrival_of x ∷ [])) (sym c.in-Lost.is)
+
+pub returns-else-not-is_empty-clause-taken : goal.returns-else-not-is_empty-clause-taken
+returns-else-not-is_empty-clause-taken g c items e =
+    let before : view_back (tape_of c.self.inside.kept.items) ≡ view_of items = ap view_back c.self.view_is ∙ e in
+    ap view_back (sym c.self.view_is) ∙ loss_of_nothing items c.self.inside.kept.items (grind (arith, nat_tests, c.self.inside.kept.ok.0)) before
+    ∙ ap (λ x. view_of (items ++ arrival_of x ∷ [])) (sym c.in-Lost.is)

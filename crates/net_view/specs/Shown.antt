@@ -1,0 +1,40 @@
+-- What is shown by place: channels, or the members of a channel.
+use Rattle.std.specs.Prelude.{ℕ, Bool, List, [], ◌∷◌, is_some, length, slice_get}
+use Rattle.std.specs.Option.{option_map}
+use Rattle.std.specs.FinMap as map
+use Rattle.std.proofs.Common.{Option, Some, None}
+use Rattle.net_view.specs.Text.{Text}
+use Rattle.net_view.specs.Settings.{key_by}
+use Rattle.net_view.specs.Told as spec
+use Rattle.net_view.specs.Transcript.{Reading}
+use Rattle.net_view.specs.Presence.{name_on}
+use Rattle.net_view.specs.Members.{is_member}
+use Rattle.net_view.specs.Named.{channels_in, people_in}
+use Rattle.net_view.specs.View.{channels_of, members_of}
+use Rattle.net_view.specs.declared.tape.Shown.{Shown}
+use Rattle.net_view.specs.declared.tape.Shown.TheVariants.{Channels, Members}
+
+-- the key of a name, as a list
+abbrev pub key_list : Option Text → List Text
+key_list None = []
+key_list (Some name) = key_by [] name ∷ []
+
+-- the keys that an item names
+abbrev pub names_in : Shown → spec.Told → List Text
+names_in Channels t = channels_in t
+names_in (Members channel) t = people_in t
+
+-- whether what has this key is there
+abbrev pub is_shown : Shown → List Reading → Text → Bool
+is_shown Channels rs k = is_some (name_on rs k)
+is_shown (Members channel) rs k = is_member rs (key_by [] channel.now) k
+
+-- the key at a place
+abbrev pub shown_key : Shown → List Reading → ℕ → Option Text
+shown_key Channels rs i = option_map (λ e. e.0) (slice_get (map.entries (channels_of rs)) i)
+shown_key (Members channel) rs i = option_map (λ e. e.0) (slice_get (map.entries (members_of rs (key_by [] channel.now))) i)
+
+-- how many there are
+abbrev pub shown_len : Shown → List Reading → ℕ
+shown_len Channels rs = length (map.entries (channels_of rs))
+shown_len (Members channel) rs = length (map.entries (members_of rs (key_by [] channel.now)))

@@ -1,0 +1,328 @@
+//! The kept state lines, and what is found by looking back through them.
+
+ghost use Rattle.std.specs.Prelude.{◌≡◌, ◌<◌, ◌^◌, length, ◌==◌, ◌&&◌, not, ℕ, IsTrue, true, false, List, [], is_some, option_map, unwrap_or};
+ghost use Rattle.std.specs.List.{list_any};
+ghost use Rattle.irc_support.specs.Text.{has_byte};
+ghost use Rattle.irc_support.specs.Settings.{is_channel, key_by, channel_types, is_outside_channel};
+ghost use Rattle.std.specs.Ordering.{is_lt};
+ghost use Rattle.net_view.specs.Names.{same, bytes_cmp};
+ghost use Rattle.net_view.specs.Least.{above, considered, lesser, key_in, IsNext};
+ghost use Rattle.net_view.specs.Shown.{key_list, names_in, is_shown, shown_key, shown_len};
+ghost use Rattle.net_view.specs.Transcript.{own_nick, is_ready, readings_of};
+ghost use Rattle.net_view.specs.LookBack.{last_of};
+ghost use Rattle.net_view.specs.Presence.{name_on, says_on};
+ghost use Rattle.net_view.specs.Members.{is_member, says_member};
+ghost use Rattle.net_view.specs.Facts.{in_sight, spelling_of};
+ghost use Rattle.net_view.specs.Tells.{us_of, plain_told};
+ghost use Rattle.net_view.specs.Tape.{tape_of};
+
+use crate::told::{Telling, told};
+use irc_line::Line;
+use irc_names::CaseMapping;
+use std::alloc::Allocator;
+
+/// A state line, and whether the connection was lost before the next one.
+#[derive(Drop)]
+pub(crate) struct Kept<A: Allocator> {
+    pub(crate) line: Line<A>,
+    pub(crate) lost: bool,
+}
+
+/// Whether the two are one name, by the default mapping.
+fn is_same(a: &[u8], b: &[u8]) -> bool
+    ensures { result ≡ same (key_by [] a.now) (key_by [] b.now) }
+{
+    CaseMapping::Rfc1459.same(a, b)
+}
+
+/// How a channel's name can begin.
+fn begins_channel(byte: u8) -> bool
+    ensures { result ≡ (has_byte (channel_types []) byte && not (byte == 58)) }
+{
+    matches!(byte, b'#' | b'&')
+}
+
+fn has_barred(name: &[u8]) -> bool
+    ensures { result ≡ list_any is_outside_channel name.now }
+{
+    name.iter().any(|byte| matches!(*byte, b' ' | b',' | 7))
+}
+
+/// Whether this is a channel's name, by the default settings.
+fn is_channel_name(name: &[u8]) -> bool
+    ensures { result ≡ is_channel [] name.now }
+{
+    match name {
+        [] => false,
+        [first, ..] => begins_channel(*first) && !has_barred(name),
+    }
+}
+
+/// Whether the nick is our own.
+fn is_us(own: Option<&[u8]>, nick: &[u8]) -> bool
+    ensures { result ≡ us_of (option_map (λ o. o.now) own.entry) (key_by [] nick.now) }
+{
+    match own {
+        Some(own) => is_same(own, nick),
+        None => false,
+    }
+}
+
+/// What a line says of our being on a channel: nothing, that we are not on it, or its name.
+fn says_on<'a>(telling: Telling<'a>, own: Option<&[u8]>, channel: &[u8]) -> Option<Option<&'a [u8]>>
+    ensures { option_map (λ said. option_map (λ name. name.now) said) result ≡ says_on (key_by [] channel.now) (us_of (option_map (λ o. o.now) own.entry)) (plain_told telling.entry) }
+{
+    match telling {
+        Telling::Welcomed(_) => Some(None),
+        Telling::Joined(name, who) => {
+            if is_us(own, who) && is_channel_name(name) && is_same(channel, name) {
+                Some(Some(name))
+            } else {
+                None
+            }
+        }
+        Telling::Parted(name, who) => {
+            if is_us(own, who) && is_same(channel, name) {
+                Some(None)
+            } else {
+                None
+            }
+        }
+        _ => None,
+    }
+}
+
+/// What a line says of a person's being a member of a channel.
+fn says_member(
+    telling: Telling<'_>,
+    own: Option<&[u8]>,
+    channel: &[u8],
+    nick: &[u8],
+) -> Option<bool>
+    ensures { result ≡ says_member (key_by [] channel.now) (us_of (option_map (λ o. o.now) own.entry)) (plain_told telling.entry) (key_by [] nick.now) }
+{
+    match telling {
+        Telling::Joined(name, who) => {
+            if !is_same(channel, name) {
+                return None;
+            }
+            if is_us(own, who) {
+                return if is_channel_name(name) {
+                    Some(is_same(nick, who))
+                } else {
+                    None
+                };
+            }
+            if is_same(nick, who) { Some(true) } else { None }
+        }
+        Telling::Parted(name, who) => {
+            if is_same(channel, name) && is_same(nick, who) {
+                Some(false)
+            } else {
+                None
+            }
+        }
+        _ => None,
+    }
+}
+
+/// Our nick after these lines.
+pub(crate) fn own_in<A: Allocator>(kept: &[Kept<A>]) -> Option<&[u8]>
+    ensures { option_map (λ nick. nick.now) result ≡ own_nick (tape_of kept.now) }
+{
+    let mut i = kept.len();
+    while i > 0 {
+        i -= 1;
+        let entry = &kept[i];
+        if let Some(nick) = told(&entry.line).welcome() {
+            return Some(nick);
+        }
+    }
+    None
+}
+
+/// The name of a channel, where we are on it after these lines.
+pub(crate) fn name_on<'a, A: Allocator>(kept: &'a [Kept<A>], channel: &[u8]) -> Option<&'a [u8]>
+    ensures { option_map (λ name. name.now) result ≡ name_on (readings_of (tape_of kept.now)) (key_by [] channel.now) }
+{
+    let own = own_in(kept);
+    let mut i = kept.len();
+    while i > 0 {
+        i -= 1;
+        let entry = &kept[i];
+        if entry.lost {
+            return None;
+        }
+        if let Some(answer) = says_on(told(&entry.line), own, channel) {
+            return answer;
+        }
+    }
+    None
+}
+
+/// Whether settings are fixed after these lines: whether a JOIN came after the last welcome.
+pub(crate) fn ready_in<A: Allocator>(kept: &[Kept<A>]) -> bool
+    ensures { result ≡ is_ready (tape_of kept.now) }
+{
+    let mut i = kept.len();
+    while i > 0 {
+        i -= 1;
+        let entry = &kept[i];
+        if let Some(settles) = told(&entry.line).settles() {
+            return settles && own_in(&kept[..i]).is_some();
+        }
+    }
+    false
+}
+
+/// Whether the person was made a member of the channel, and of its last line that speaks of both.
+fn was_made_member<A: Allocator>(kept: &[Kept<A>], channel: &[u8], nick: &[u8]) -> bool
+    ensures { result ≡ unwrap_or (last_of (says_member (key_by [] channel.now)) (readings_of (tape_of kept.now)) (key_by [] nick.now)) false }
+{
+    let own = own_in(kept);
+    let mut i = kept.len();
+    while i > 0 {
+        i -= 1;
+        let entry = &kept[i];
+        if entry.lost {
+            return false;
+        }
+        let telling = told(&entry.line);
+        if telling.welcome().is_some() {
+            return false;
+        }
+        if let Some(answer) = says_member(telling, own, channel, nick) {
+            return answer;
+        }
+    }
+    false
+}
+
+/// Whether the person is a member of the channel, on which we are, after these lines.
+pub(crate) fn is_member<A: Allocator>(kept: &[Kept<A>], channel: &[u8], nick: &[u8]) -> bool
+    ensures { result ≡ is_member (readings_of (tape_of kept.now)) (key_by [] channel.now) (key_by [] nick.now) }
+{
+    name_on(kept, channel).is_some() && was_made_member(kept, channel, nick)
+}
+
+/// What is looked for by place: the channels that we are on, or the members of the channel of this name.
+#[derive(Clone, Copy)]
+pub(crate) enum Shown<'a> {
+    Channels,
+    Members(&'a [u8]),
+}
+
+/// The name that a line brings up: a channel's or a person's.
+fn named_by<'a>(shown: Shown<'_>, telling: Telling<'a>) -> Option<&'a [u8]>
+    ensures { key_list (option_map (λ name. name.now) result) ≡ names_in shown.entry (plain_told telling.entry) }
+{
+    match (shown, telling) {
+        (Shown::Channels, Telling::Joined(name, _)) => Some(name),
+        (Shown::Members(_), Telling::Joined(_, who)) => Some(who),
+        _ => None,
+    }
+}
+
+/// Whether what has this name is there.
+fn is_there<A: Allocator>(kept: &[Kept<A>], shown: Shown<'_>, name: &[u8]) -> bool
+    ensures { result ≡ is_shown shown.entry (readings_of (tape_of kept.now)) (key_by [] name.now) }
+{
+    match shown {
+        Shown::Channels => name_on(kept, name).is_some(),
+        Shown::Members(channel) => is_member(kept, channel, name),
+    }
+}
+
+/// Whether a name's key stands before another's.
+fn is_before(a: &[u8], b: &[u8]) -> bool
+    ensures { result ≡ is_lt (bytes_cmp (key_by [] a.now) (key_by [] b.now)) }
+{
+    CaseMapping::Rfc1459.order(a, b).is_lt()
+}
+
+/// Whether a name's key stands above that of the one that was given, if any.
+fn is_above(after: Option<&[u8]>, name: &[u8]) -> bool
+    ensures { result ≡ above (key_in (option_map (λ a. a.now) after.entry)) (key_by [] name.now) }
+{
+    match after {
+        Some(after) => is_before(after, name),
+        None => true,
+    }
+}
+
+/// The one of two names that stands before the other.
+fn lesser<'a>(best: Option<&'a [u8]>, name: &'a [u8]) -> Option<&'a [u8]>
+    ensures { key_in (option_map (λ n. n.now) result) ≡ lesser (key_in (option_map (λ b. b.now) best.entry)) (key_by [] name.now) }
+{
+    match best {
+        Some(best) if !is_before(name, best) => Some(best),
+        _ => Some(name),
+    }
+}
+
+/// The best so far, or what a line names where that is there, above the given one and before the best.
+fn consider<'a, A: Allocator>(
+    kept: &[Kept<A>],
+    shown: Shown<'_>,
+    after: Option<&[u8]>,
+    best: Option<&'a [u8]>,
+    telling: Telling<'a>,
+) -> Option<&'a [u8]>
+    ensures { key_in (option_map (λ n. n.now) result) ≡ considered (is_shown shown.entry (readings_of (tape_of kept.now))) (key_in (option_map (λ a. a.now) after.entry)) (key_in (option_map (λ b. b.now) best.entry)) (names_in shown.entry (plain_told telling.entry)) }
+{
+    let Some(name) = named_by(shown, telling) else {
+        return best;
+    };
+    if is_above(after, name) && is_there(kept, shown, name) {
+        lesser(best, name)
+    } else {
+        best
+    }
+}
+
+/// The name with the least key above the given one, among what is there.
+pub(crate) fn next_shown<'a, A: Allocator>(
+    kept: &'a [Kept<A>],
+    shown: Shown<'_>,
+    after: Option<&[u8]>,
+) -> Option<&'a [u8]>
+    ensures { IsNext (is_shown shown.entry (readings_of (tape_of kept.now))) (key_in (option_map (λ a. a.now) after.entry)) (key_in (option_map (λ n. n.now) result)) }
+{
+    let mut best = None;
+    for entry in kept {
+        best = consider(kept, shown, after, best, told(&entry.line));
+    }
+    best
+}
+
+/// The name at a place, counted from 0, in the order of the keys.
+pub(crate) fn shown_at<'a, A: Allocator>(
+    kept: &'a [Kept<A>],
+    shown: Shown<'_>,
+    place: usize,
+) -> Option<&'a [u8]>
+    ensures { key_in (option_map (λ n. n.now) result) ≡ shown_key shown.entry (readings_of (tape_of kept.now)) place }
+{
+    let mut at = next_shown(kept, shown, None);
+    for _place in 0..place {
+        match at {
+            Some(name) => at = next_shown(kept, shown, Some(name)),
+            None => return None,
+        }
+    }
+    at
+}
+
+/// How many there are.
+pub(crate) fn shown_count<A: Allocator>(kept: &[Kept<A>], shown: Shown<'_>) -> usize
+    requires { length kept.now < 2 ^ 64 }
+    ensures { result ≡ shown_len shown.entry (readings_of (tape_of kept.now)) }
+{
+    let mut count = 0;
+    let mut at = next_shown(kept, shown, None);
+    while let Some(name) = at {
+        count += 1;
+        at = next_shown(kept, shown, Some(name));
+    }
+    count
+}
