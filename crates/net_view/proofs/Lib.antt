@@ -37,3 +37,6 @@ pub mod TapeTake
 pub mod Places
 pub mod NextShown
 pub mod ShownPlaces
+pub mod InSight
+pub mod TapeSpelling
+pub mod TapePlaces

@@ -37,7 +37,7 @@ member_seen items c n =
 pub member_found : (items : List Reading) (c n : Text) → is_some (old_member (fin.get (channels_of items) c) n) ≡ is_member items c n
 member_found items c n = ap (λ o. is_some (old_member o n)) (channels_get items c) ∙ member_seen items c n
 
-in_named : (items : List Reading) (c n : Text) → is_member items c n ≡ true → list_any (same c) (named channels_in items) ≡ true
+pub in_named : (items : List Reading) (c n : Text) → is_member items c n ≡ true → list_any (same c) (named channels_in items) ≡ true
 in_named items c n m =
     not_false (list_any (same c) (named channels_in items)) (λ h.
     false_true (is_member items c n) (ap (λ (o : Option Text). is_some o && unwrap_or (last_of (says_member c) items n) false) (covers_on items c h)) m)

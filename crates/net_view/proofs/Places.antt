@@ -23,7 +23,7 @@ abbrev first_above : {X : Type 0} → Option Text → List (Text × X) → Optio
 first_above after [] = None
 first_above after (e ∷ es) = cond (above after e.0) (Some e) (first_above after es)
 
-and_last : (a b : Bool) → (a && b) ≡ true → b ≡ true
+pub and_last : (a b : Bool) → (a && b) ≡ true → b ≡ true
 and_last a b e = (and_parts a b e).1
 
 less : (o : Ordering) → is_lt o ≡ true → o ≡ Less
@@ -43,11 +43,11 @@ false_unless false f = refl
 
 -- ---- entries whose keys rise
 
-first_and : (a b : Bool) → (a && b) ≡ true → a ≡ true
+pub first_and : (a b : Bool) → (a && b) ≡ true → a ≡ true
 first_and true b e = refl
 first_and false b e = absurd (no_true e)
 
-below_found : {X : Type 0} (k b : Text) (es : List (Text × X)) → below_all bytes_cmp k es ≡ true → is_some (fin.find bytes_cmp b es) ≡ true → is_lt (bytes_cmp k b) ≡ true
+pub below_found : {X : Type 0} (k b : Text) (es : List (Text × X)) → below_all bytes_cmp k es ≡ true → is_some (fin.find bytes_cmp b es) ≡ true → is_lt (bytes_cmp k b) ≡ true
 below_found k b [] h f = absurd (no_true f)
 below_found k b (e ∷ es) h f =
     elim (same b e.0) as (λ v. same b e.0 ≡ v → is_some (cond v (Some e.1) (fin.find bytes_cmp b es)) ≡ true → is_lt (bytes_cmp k b) ≡ true) [
@@ -55,7 +55,7 @@ below_found k b (e ∷ es) h f =
       | false ↦ λ q g. below_found k b es (and_last (is_lt (bytes_cmp k e.0)) (below_all bytes_cmp k es) h) g
     ] refl f
 
-same_itself : (k : Text) → same k k ≡ true
+pub same_itself : (k : Text) → same k k ≡ true
 same_itself k = (eq_by_cmp_equiv nat_list_cmp_total).refl k
 
 -- what holds of the best of these entries
@@ -99,7 +99,7 @@ is_first (e ∷ es) after best sorted h =
       | false ↦ λ ab. is_first es after best (and_last (below_all bytes_cmp e.0 es) (fin.is_sorted bytes_cmp es) sorted) (best_later e es after best h ab)
     ] refl
 
-T_true : (b : Bool) → T b → b ≡ true
+pub T_true : (b : Bool) → T b → b ≡ true
 T_true true h = refl
 T_true false h = absurd h
 
@@ -107,7 +107,7 @@ is_some_mapped : {A B : Type 0} (f : A → B) (o : Option A) → is_some (option
 is_some_mapped f None = refl
 is_some_mapped f (Some x) = refl
 
-none_mapped : {A B : Type 0} (f : A → B) (o : Option A) → None ≡ option_map f o → o ≡ None
+pub none_mapped : {A B : Type 0} (f : A → B) (o : Option A) → None ≡ option_map f o → o ≡ None
 none_mapped f None e = refl
 none_mapped f (Some x) e = absurd (none-some (f x) e)
 
@@ -126,7 +126,7 @@ all_above k (e ∷ es) h = ap (λ b. cond b (Some e) (first_above (Some k) es)) 
 not_both : (a b : Text) → is_lt (bytes_cmp a b) ≡ true → is_lt (bytes_cmp b a) ≡ false
 not_both a b h = false_unless (is_lt (bytes_cmp b a)) (λ e. no_true (sym (not_before_itself a) ∙ before_trans a b a h e))
 
-find_at : {X : Type 0} (es : List (Text × X)) (j : ℕ) (x : Text × X) → slice_get es j ≡ Some x → is_some (fin.find bytes_cmp x.0 es) ≡ true
+pub find_at : {X : Type 0} (es : List (Text × X)) (j : ℕ) (x : Text × X) → slice_get es j ≡ Some x → is_some (fin.find bytes_cmp x.0 es) ≡ true
 find_at [] j x e = absurd (none-some x e)
 find_at (y ∷ es) zero x e = subst (λ (z : Text × _). is_some (fin.find bytes_cmp z.0 (y ∷ es)) ≡ true) (same_Some y x e) (found_here y es)
 find_at (y ∷ es) (suc j) x e = found_later y es x.0 (find_at es j x e)
@@ -148,7 +148,7 @@ none_later (y ∷ es) zero i e h = absurd (none-some y (sym e))
 none_later (y ∷ es) (suc j) zero e h = absurd (omega arith)
 none_later (y ∷ es) (suc j) (suc i) e h = none_later es j i e (omega arith)
 
-at_key : {X : Type 0} (o : Option (Text × X)) (k : Text) → Some k ≡ option_map (λ e. e.0) o → (x : Text × X) × (o ≡ Some x) × (x.0 ≡ k)
+pub at_key : {X : Type 0} (o : Option (Text × X)) (k : Text) → Some k ≡ option_map (λ e. e.0) o → (x : Text × X) × (o ≡ Some x) × (x.0 ≡ k)
 at_key None k e = absurd (none-some k (sym e))
 at_key (Some x) k e = (x, refl, sym (same_Some k x.0 e))
 

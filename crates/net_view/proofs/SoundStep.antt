@@ -139,7 +139,7 @@ sound_step v t sound told =
       known = λ n. ap is_some (get-people_after us t cs v.people n) ∙ is_some_when (is_seen cs n) (person_from us t cs v.people n);
     }
 
-sound_back : (items : List Arrival) → IsSound (view_back items)
+pub sound_back : (items : List Arrival) → IsSound (view_back items)
 unfolding after table
 sound_back [] = empty_sound
 sound_back (x ∷ older) =

@@ -21,3 +21,4 @@ pub use laws::{
 };
 pub use network_view::NetworkView;
 pub use std::alloc::AllocError as OutOfMemory;
+pub use tape_view::TapeView;

@@ -1,8 +1,8 @@
 //! The kept state lines, and what is found by looking back through them.
 
-ghost use Rattle.std.specs.Prelude.{◌≡◌, ◌<◌, ◌^◌, length, ◌==◌, ◌&&◌, not, ℕ, IsTrue, true, false, List, [], is_some, option_map, unwrap_or};
+ghost use Rattle.std.specs.Prelude.{◌≡◌, ◌<◌, ◌^◌, length, ◌==◌, ◌&&◌, not, ℕ, Bool, IsTrue, Some, true, false, List, [], is_some, option_map, unwrap_or};
 ghost use Rattle.std.specs.List.{list_any};
-ghost use Rattle.irc_support.specs.Text.{has_byte};
+ghost use Rattle.irc_support.specs.Text.{Text, has_byte};
 ghost use Rattle.irc_support.specs.Settings.{is_channel, key_by, channel_types, is_outside_channel};
 ghost use Rattle.std.specs.Ordering.{is_lt};
 ghost use Rattle.net_view.specs.Names.{same, bytes_cmp};
@@ -10,9 +10,9 @@ ghost use Rattle.net_view.specs.Least.{above, considered, lesser, key_in, IsNext
 ghost use Rattle.net_view.specs.Shown.{key_list, names_in, is_shown, shown_key, shown_len};
 ghost use Rattle.net_view.specs.Transcript.{own_nick, is_ready, readings_of};
 ghost use Rattle.net_view.specs.LookBack.{last_of};
-ghost use Rattle.net_view.specs.Presence.{name_on, says_on};
+ghost use Rattle.net_view.specs.Presence.{is_on, name_on, says_on};
 ghost use Rattle.net_view.specs.Members.{is_member, says_member};
-ghost use Rattle.net_view.specs.Facts.{in_sight, spelling_of};
+ghost use Rattle.net_view.specs.Facts.{in_sight, says_spelling, spelling_of};
 ghost use Rattle.net_view.specs.Tells.{us_of, plain_told};
 ghost use Rattle.net_view.specs.Tape.{tape_of};
 
@@ -325,4 +325,45 @@ pub(crate) fn shown_count<A: Allocator>(kept: &[Kept<A>], shown: Shown<'_>) -> u
         at = next_shown(kept, shown, Some(name));
     }
     count
+}
+
+/// The nick of this person, where the last of these lines, which tells this, spells it.
+fn spelled_by<'a, A: Allocator>(
+    kept: &[Kept<A>],
+    telling: Telling<'a>,
+    nick: &[u8],
+) -> Option<&'a [u8]>
+    ensures { (us : Text → Bool) → option_map (λ spelled. Some spelled.now) result
+        ≡ says_spelling us (is_on (readings_of (tape_of kept.now))) (plain_told telling.entry) (key_by [] nick.now) }
+{
+    match telling {
+        Telling::Joined(channel, who) => {
+            if is_same(nick, who) && name_on(kept, channel).is_some() {
+                Some(who)
+            } else {
+                None
+            }
+        }
+        _ => None,
+    }
+}
+
+/// The nick of a person in sight, as spelled last.
+pub(crate) fn spelling_in<'a, A: Allocator>(
+    kept: &'a [Kept<A>],
+    nick: &[u8],
+) -> Option<&'a [u8]>
+    ensures { in_sight (readings_of (tape_of kept.now)) (key_by [] nick.now) ≡ true →
+        option_map (λ spelled. spelled.now) result ≡ spelling_of (readings_of (tape_of kept.now)) (key_by [] nick.now) }
+{
+    let mut i = kept.len();
+    while i > 0 {
+        let lines = &kept[..i];
+        i -= 1;
+        let entry = &kept[i];
+        if let Some(spelled) = spelled_by(lines, told(&entry.line), nick) {
+            return Some(spelled);
+        }
+    }
+    None
 }

@@ -3,18 +3,21 @@
 ghost use Rattle.std.specs.Prelude.{◌≡◌, [], IfOk};
 
 use crate::OutOfMemory;
+use crate::channel::{Channel, Member};
 use crate::item::Item;
-use crate::tape::Kept;
+use crate::network_view::NetworkView;
+use crate::tape::{Kept, Shown, name_on, own_in, ready_in, shown_at, shown_count, spelling_in};
 use crate::told::is_state_line;
 use std::alloc::{Allocator, Global};
 use std::marker::Model;
 
-/// A view that keeps the state lines in a list, to search them backwards. A loss of the connection is a mark
-/// beside the last kept line.
+/// A view that keeps the state lines in a list, and searches them backwards. A loss of the connection is a
+/// mark beside the last kept line.
 ///
-/// It takes items; its readers by place are not there yet, so it does not serve as a `NetworkView`.
+/// Readers take no memory. They are slow: the time of one by place grows with a power of the number of the
+/// kept lines. The lines of a network that is long connected are kept all.
 #[derive(Drop)]
-pub(crate) struct TapeView<A: Allocator = Global> {
+pub struct TapeView<A: Allocator = Global> {
     kept: Vec<Kept<A>, A>,
 }
 
@@ -30,7 +33,7 @@ impl<A: Allocator> Model for TapeView<A> {
 
 impl<A: Allocator> TapeView<A> {
     /// A view to which nothing came.
-    pub(crate) fn new(alloc: A) -> Result<TapeView<A>, OutOfMemory>
+    pub fn new(alloc: A) -> Result<TapeView<A>, OutOfMemory>
         ensures { IfOk result (λ v. v ≡ []) }
     {
         Ok(TapeView {
@@ -39,18 +42,12 @@ impl<A: Allocator> TapeView<A> {
     }
 }
 
-impl<A: Allocator + Copy> TapeView<A> {
-    ghost use Rattle.std.specs.Prelude.{◌≡◌, ◌∷◌, ◌++◌, [], List, false, is_some, OnOk, OnErr, IsOk};
-    ghost use Rattle.net_view.specs.Arrival.{Arrival, arrival_of};
-    ghost use Rattle.net_view.specs.StateLines.{may_need_memory};
-    ghost use Rattle.net_view.specs.View.{view_back, view_of};
+impl<A: Allocator + Copy> NetworkView for TapeView<A> {
+    ghost use Rattle.net_view.specs.View.{view_back};
 
-    /// Takes the next item, as `NetworkView::take` has it.
-    pub(crate) fn take<B: Allocator>(&mut self, item: &Item<B>) -> Result<(), OutOfMemory>
-        ensures taken { (items : List Arrival) → view_back self.old ≡ view_of items → OnOk result (view_back self.new ≡ view_of (items ++ arrival_of item.now ∷ [])) }
-        ensures kept { OnErr result (view_back self.new ≡ view_back self.old) }
-        ensures free { may_need_memory (arrival_of item.now) ≡ false → IsOk result }
-    {
+    ghost view = { view_back };
+
+    fn take<B: Allocator>(&mut self, item: &Item<B>) -> Result<(), OutOfMemory> {
         match item {
             Item::Line(line) => {
                 if is_state_line(line) {
@@ -66,5 +63,41 @@ impl<A: Allocator + Copy> TapeView<A> {
             }
         }
         Ok(())
+    }
+
+    fn welcomed(&self) -> bool {
+        own_in(&self.kept).is_some()
+    }
+
+    fn ready(&self) -> bool {
+        ready_in(&self.kept)
+    }
+
+    fn own(&self) -> Option<&[u8]> {
+        own_in(&self.kept)
+    }
+
+    fn channel_count(&self) -> usize {
+        shown_count(&self.kept, Shown::Channels)
+    }
+
+    fn channel_at(&self, i: usize) -> Option<Channel<'_>> {
+        let channel = shown_at(&self.kept, Shown::Channels, i)?;
+        let name = name_on(&self.kept, channel)?;
+        Some(Channel { name })
+    }
+
+    fn member_count(&self, i: usize) -> usize {
+        match shown_at(&self.kept, Shown::Channels, i) {
+            Some(channel) => shown_count(&self.kept, Shown::Members(channel)),
+            None => 0,
+        }
+    }
+
+    fn member_at(&self, i: usize, j: usize) -> Option<Member<'_>> {
+        let channel = shown_at(&self.kept, Shown::Channels, i)?;
+        let member = shown_at(&self.kept, Shown::Members(channel), j)?;
+        let nick = spelling_in(&self.kept, member)?;
+        Some(Member { nick })
     }
 }

@@ -5,7 +5,7 @@ use Rattle.net_view.specs.Arrival.{Received, arrival_of}
 use Rattle.net_view.specs.Tape.{tape_of}
 use Rattle.net_view.proofs.StepLaw.{view_unchanged}
 use Rattle.net_view.proofs.TapeTake.{line_taken, loss_taken, loss_of_nothing}
-use Rattle.net_view.proofs.tape_view.TapeView.take.Goals as goal
+use Rattle.net_view.proofs.tape_view.TapeViewNetworkView.take.Goals as goal
 
 pub returns-in_ok-push-in-Line-clause-taken : goal.returns-in_ok-push-in-Line-clause-taken
 returns-in_ok-push-in-Line-clause-taken g c items e =

@@ -1,0 +1,25 @@
+use Rattle.std.proofs.Common.{◌≡◌, ◌-◌, ◌<◌, ◌≤◌, true, false, Some, None, [], take, refl, sym, ap, ◌∙◌, arith, rules}
+use Rattle.std.specs.Option.{option_map}
+use Rattle.irc_support.specs.Settings.{key_by}
+use Rattle.net_view.specs.Transcript.{readings_of}
+use Rattle.net_view.specs.Presence.{name_on}
+use Rattle.net_view.specs.Facts.{in_sight, spelling_of}
+use Rattle.net_view.specs.View.{Channel, view_back}
+use Rattle.net_view.specs.Readers.{MemberParts, channel_shown, member_shown, members_shown}
+use Rattle.net_view.specs.Least.{key_in}
+use Rattle.net_view.specs.Shown.{shown_key, shown_len}
+use Rattle.net_view.specs.Tape.{tape_of}
+use Rattle.net_view.specs.declared.tape.Shown.TheVariants.{Channels, Members}
+use Rattle.net_view.proofs.TapePlaces as places
+use Rattle.net_view.proofs.tape_view.TapeViewNetworkView.member_count.Goals as goal
+
+pub returns-in-Some : goal.returns-in-Some
+returns-in-Some g c =
+    let items = tape_of c.self.inside.kept.items in
+    let channel = key_by [] c.in-Some.channel.now in
+    let channel_key : Some channel ≡ shown_key Channels (readings_of (tape_of c.self.inside.kept.items)) c.args.i =
+    ap (λ o. key_in (option_map (λ n. n.now) o)) (sym c.in-Some.is) ∙ c.shown_at.ensures ∙ ap (λ ks. shown_key Channels (readings_of (tape_of ks)) c.args.i) c.deref.ensures.value in
+    c.shown_count.ensures
+    ∙ ap (λ ks. shown_len (Members c.in-Some.channel) (readings_of (tape_of ks))) c.deref-in-Some.ensures.value
+    ∙ sym (places.members_counted items c.args.i channel channel_key)
+    ∙ ap (λ v. members_shown (view_back v) c.args.i) c.self.view_is
