@@ -1,9 +1,9 @@
 -- The least of what is shown above a key, found among all that was named.
-use Rattle.std.specs.Prelude.{◌≡◌, ℕ, ◌+◌, ◌<◌, Bool, true, false, cond, ◌&&◌, ◌||◌, List, [], ◌∷◌, ◌++◌, take, length, get_or, is_some, ◌⊎◌}
+use Rattle.std.specs.Prelude.{◌≡◌, ℕ, ◌+◌, ◌<◌, ◌≤◌, Bool, true, false, cond, ◌&&◌, ◌||◌, List, [], ◌∷◌, ◌++◌, take, length, get_or, is_some, ◌⊎◌}
 use Rattle.std.specs.List.{list_any}
 use Rattle.std.specs.Option.{IfSome, MatchOption}
 use Rattle.std.specs.Ordering.{is_lt}
-use Rattle.std.proofs.Common.{Option, Some, None, refl, sym, ap, ◌∙◌, subst, inl, inr, ⊎_elim}
+use Rattle.std.proofs.Common.{Option, Some, None, refl, sym, ap, ◌∙◌, subst, arith, inl, inr, ⊎_elim}
 use Rattle.std.proofs.lemmas.Option.{none-some, same_Some}
 use Rattle.irc_line.specs.Line.{Parts}
 use Rattle.net_view.specs.Text.{Text}
@@ -11,14 +11,13 @@ use Rattle.net_view.specs.declared.tape.Kept.{Kept}
 use Rattle.net_view.specs.declared.tape.Shown.{Shown}
 use Rattle.net_view.specs.declared.tape.Shown.TheVariants.{Channels, Members}
 use Rattle.net_view.specs.declared.told.Telling.{Telling}
-use Rattle.net_view.specs.declared.told.Telling.TheVariants as telling
 use Rattle.net_view.specs.Names.{same, bytes_cmp}
-use Rattle.net_view.specs.Told.{Told, Disconnected}
+use Rattle.net_view.specs.Told.{Told, Joined, Renamed, Present, Disconnected}
 use Rattle.net_view.specs.Arrival.{Arrival, Received}
 use Rattle.net_view.specs.StateLines.{told}
 use Rattle.net_view.specs.Transcript.{standing, Reading, readings_of}
 use Rattle.net_view.specs.Named.{named}
-use Rattle.net_view.specs.Tells.{Tells, plain_told}
+use Rattle.net_view.specs.Tells.{meant}
 use Rattle.net_view.specs.Tape.{with_lost, tape_of}
 use Rattle.net_view.specs.Least.{above, lesser, considered, IsNext}
 use Rattle.net_view.specs.Shown.{names_in, is_shown}
@@ -26,6 +25,7 @@ use Rattle.net_view.proofs.Tests.{no_true, and_parts, and_false}
 use Rattle.net_view.proofs.Keys.{is_same}
 use Rattle.net_view.proofs.Covers.{covers_on, covers_member}
 use Rattle.net_view.proofs.Places.{before_trans, not_before_itself, false_unless}
+use Rattle.net_view.proofs.ReadCommands.{IsRead, told_read}
 use Rattle.net_view.proofs.TapeBack.{tape_more, readings_line}
 
 -- the same of the keys that were brought up so far
@@ -81,13 +81,13 @@ names_lost : (shown : Shown) → names_in shown Disconnected ≡ []
 names_lost Channels = refl
 names_lost (Members channel) = refl
 
-names_plain : (shown : Shown) (r : Telling) (t : Told) → Tells r t → names_in shown t ≡ names_in shown (plain_told r)
-names_plain shown telling.Silent t e = ap (names_in shown) e
-names_plain shown (telling.Welcomed nick) t e = ap (names_in shown) e
-names_plain shown telling.Settles t e = ap (names_in shown) e
-names_plain Channels (telling.Joined channel who) t e = ap (names_in Channels) e.1
-names_plain (Members c) (telling.Joined channel who) t e = ap (names_in (Members c)) e.1
-names_plain shown (telling.Parted channel who) t e = ap (names_in shown) e
+pub one_named : (shown : Shown) (t : Told) → IsRead t → length (names_in shown t) ≤ 1
+one_named Channels (Joined channel valid who account) r = omega arith
+one_named (Members c) (Joined channel valid who account) r = omega arith
+one_named (Members c) (Renamed old new) r = omega arith
+one_named Channels _ r = omega arith
+one_named (Members c) (Present channel listings) r = absurd r
+one_named (Members c) _ r = omega arith
 
 named_line : (shown : Shown) (b : Bool) (l : Parts) (older : List Arrival) → named (names_in shown) (readings_of (with_lost b (Received l ∷ older))) ≡ names_in shown (told [] (Received l)) ++ named (names_in shown) (readings_of older)
 named_line shown b l older =
@@ -104,25 +104,20 @@ named_more {A} shown ks i k lt at =
     ap (λ items. named (names_in shown) (readings_of items)) (tape_more ks i k lt ∙ ap (λ (j : Kept A). with_lost j.lost (Received j.line ∷ tape_of (take i ks))) (sym at))
     ∙ named_line shown k.lost k.line (tape_of (take i ks))
 
-next_named : (there : Text → Bool) (shown : Shown) (r : Telling) (seen : List Text) (after best : Option Text) → IsNextOf there seen after best → IsNextOf there (names_in shown (plain_told r) ++ seen) after (considered there after best (names_in shown (plain_told r)))
-next_named there Channels telling.Silent seen after best old = old
-next_named there Channels (telling.Welcomed nick) seen after best old = old
-next_named there Channels telling.Settles seen after best old = old
-next_named there Channels (telling.Joined channel who) seen after best old = next_considered there seen after best _ old
-next_named there Channels (telling.Parted channel who) seen after best old = old
-next_named there (Members c) telling.Silent seen after best old = old
-next_named there (Members c) (telling.Welcomed nick) seen after best old = old
-next_named there (Members c) telling.Settles seen after best old = old
-next_named there (Members c) (telling.Joined channel who) seen after best old = next_considered there seen after best _ old
-next_named there (Members c) (telling.Parted channel who) seen after best old = old
+next_named : (there : Text → Bool) (names seen : List Text) (after best : Option Text) → length names ≤ 1 → IsNextOf there seen after best → IsNextOf there (names ++ seen) after (considered there after best names)
+next_named there [] seen after best one old = old
+next_named there (c ∷ []) seen after best one old = next_considered there seen after best c old
+next_named there (c ∷ d ∷ names) seen after best one old = absurd (omega (arith, one))
 
 pub next_loop : {A : Type 0} (there : Text → Bool) (shown : Shown) (ks : List (Kept A)) (i : ℕ) (k : Kept A) (r : Telling) (after best new : Option Text) →
-    IsNextOf there (named (names_in shown) (readings_of (tape_of (take i ks)))) after best → i < length ks → k ≡ get_or ks i k → Tells r (told [] (Received k.line)) → new ≡ considered there after best (names_in shown (plain_told r)) →
+    IsNextOf there (named (names_in shown) (readings_of (tape_of (take i ks)))) after best → i < length ks → k ≡ get_or ks i k → meant r ≡ told [] (Received k.line) → new ≡ considered there after best (names_in shown (meant r)) →
     IsNextOf there (named (names_in shown) (readings_of (tape_of (take (i + 1) ks)))) after new
 next_loop there shown ks i k r after best new old lt at tells is =
     let seen = named (names_in shown) (readings_of (tape_of (take i ks))) in
-    let more = named_more shown ks i k lt at ∙ ap (λ xs. xs ++ seen) (names_plain shown r (told [] (Received k.line)) tells) in
-    subst (λ s. IsNextOf there s after new) (sym more) (subst (λ b. IsNextOf there (names_in shown (plain_told r) ++ seen) after b) (sym is) (next_named there shown r seen after best old))
+    let t = told [] (Received k.line) in
+    let whole = is ∙ ap (λ u. considered there after best (names_in shown u)) tells in
+    subst (λ s. IsNextOf there s after new) (sym (named_more shown ks i k lt at))
+        (subst (λ b. IsNextOf there (names_in shown t ++ seen) after b) (sym whole) (next_named there (names_in shown t) seen after best (one_named shown t (told_read [] k.line)) old))
 
 -- what is shown was named
 covers_shown : (shown : Shown) (rs : List Reading) (c : Text) → list_any (same c) (named (names_in shown) rs) ≡ false → is_shown shown rs c ≡ false

@@ -1,39 +1,125 @@
 -- What the lines that are read tell, by their commands.
-use Rattle.std.specs.Prelude.{◌≡◌, Bool, true, false, cond, List}
-use Rattle.std.proofs.Common.{codes, refl, ap}
-use Rattle.std.specs.Str.{str_eq_ignore_ascii_case, str_to_ascii_lowercase, bytes_eq}
-use Rattle.std.proofs.lemmas.Slice.Eq.{bytes_eq-Decides}
+use Rattle.std.specs.Prelude.{◌≡◌, ◌||◌, Bool, true, false, cond, IfSome, List, slice_get}
+use Rattle.std.specs.List.{list_any}
+use Rattle.std.specs.Str.{str_eq_ignore_ascii_case}
+use Rattle.std.specs.Option.{option_and_then, option_map, unwrap_or}
+use Rattle.std.proofs.Common.{Option, Some, None, codes, refl, sym, ap, ◌∙◌, subst, ◌⊎◌, inl, inr}
 use Rattle.irc_line.specs.Line.{Parts, has_command}
+use Rattle.irc_names.specs.Nick.{is_nameable}
 use Rattle.irc_support.specs.Text.{Text}
 use Rattle.irc_support.specs.Tokens.{Token}
-use Rattle.net_view.specs.Told.{Told, Silent}
+use Rattle.irc_support.specs.Settings.{is_channel, key_by}
+use Rattle.net_view.specs.Names.{Name, name_of, nameable}
+use Rattle.net_view.specs.Told.{Told, Silent, Welcomed, Settles, Joined, Parted, Kicked, Quits, Renamed}
 use Rattle.net_view.specs.Arrival.{Received}
-use Rattle.net_view.specs.StateLines.{commands_read, told, told_by_welcome, told_by_join, told_by_part}
+use Rattle.net_view.specs.StateLines.{commands_read, told, with, actor, account_said, or_silent, told_by_any_line, told_by_welcome, told_by_join, told_by_part, told_by_kick, told_by_quit, told_by_nick}
+use Rattle.net_view.proofs.Holds.{of_next, of_test}
+use Rattle.net_view.proofs.Commands.{is_state_line-named, told-read, told-unread, told_of_welcome, told_of_join, told_of_part, told_of_kick, told_of_quit, told_of_nick}
 
--- a line has one command
-pub one_command : (line : Parts) (a b : Text) → has_command line a ≡ true → has_command line b ≡ str_eq_ignore_ascii_case a b
-one_command line a b e =
-    let same : str_to_ascii_lowercase line.command ≡ str_to_ascii_lowercase a = (bytes_eq-Decides (str_to_ascii_lowercase line.command) (str_to_ascii_lowercase a)).0 e in
-    ap (λ c. bytes_eq c (str_to_ascii_lowercase b)) same
-
--- the line is read by the command that it has
-abbrev pub by_command : List Token → Parts → Bool → Bool → Bool → Told
-by_command settings line welcome join part = cond welcome (told_by_welcome settings line) (cond join (told_by_join settings line) (cond part (told_by_part settings line) Silent))
+-- a line of a command that is read is read as any line
+read_as : (settings : List Token) (line : Parts) (name : Text) → has_command line name ≡ true → list_any (str_eq_ignore_ascii_case name) commands_read ≡ true → told settings (Received line) ≡ told_by_any_line settings line
+read_as settings line name e among = told-read settings line (is_state_line-named line name e ∙ among)
 
 pub welcome_told : (settings : List Token) (line : Parts) → has_command line (codes "001") ≡ true → told settings (Received line) ≡ told_by_welcome settings line
-unfolding told commands_read
-welcome_told settings line e = rw e refl
+unfolding commands_read
+welcome_told settings line e = read_as settings line (codes "001") e refl ∙ told_of_welcome settings line e
 
 pub join_told : (settings : List Token) (line : Parts) → has_command line (codes "JOIN") ≡ true → told settings (Received line) ≡ told_by_join settings line
-unfolding told commands_read
-join_told settings line e =
-    rw (one_command line (codes "JOIN") (codes "001") e, e, one_command line (codes "JOIN") (codes "005") e, one_command line (codes "JOIN") (codes "376") e, one_command line (codes "JOIN") (codes "422") e) refl
+unfolding commands_read
+join_told settings line e = read_as settings line (codes "JOIN") e refl ∙ told_of_join settings line e
 
 pub part_told : (settings : List Token) (line : Parts) → has_command line (codes "PART") ≡ true → told settings (Received line) ≡ told_by_part settings line
-unfolding told commands_read
-part_told settings line e =
-    rw (one_command line (codes "PART") (codes "001") e, one_command line (codes "PART") (codes "JOIN") e, e, one_command line (codes "PART") (codes "005") e, one_command line (codes "PART") (codes "376") e, one_command line (codes "PART") (codes "422") e) refl
+unfolding commands_read
+part_told settings line e = read_as settings line (codes "PART") e refl ∙ told_of_part settings line e
 
-pub none_told : (settings : List Token) (line : Parts) → has_command line (codes "001") ≡ false → has_command line (codes "JOIN") ≡ false → has_command line (codes "PART") ≡ false → told settings (Received line) ≡ Silent
-unfolding told commands_read
-none_told settings line e f g = rw (e, f, g) refl
+pub kick_told : (settings : List Token) (line : Parts) → has_command line (codes "KICK") ≡ true → told settings (Received line) ≡ told_by_kick settings line
+unfolding commands_read
+kick_told settings line e = read_as settings line (codes "KICK") e refl ∙ told_of_kick settings line e
+
+pub quit_told : (settings : List Token) (line : Parts) → has_command line (codes "QUIT") ≡ true → told settings (Received line) ≡ told_by_quit settings line
+unfolding commands_read
+quit_told settings line e = read_as settings line (codes "QUIT") e refl ∙ told_of_quit settings line e
+
+pub nick_told : (settings : List Token) (line : Parts) → has_command line (codes "NICK") ≡ true → told settings (Received line) ≡ told_by_nick settings line
+unfolding commands_read
+nick_told settings line e = read_as settings line (codes "NICK") e refl ∙ told_of_nick settings line e
+
+pub none_told : (settings : List Token) (line : Parts) → has_command line (codes "001") ≡ false → has_command line (codes "JOIN") ≡ false → has_command line (codes "PART") ≡ false →
+    has_command line (codes "KICK") ≡ false → has_command line (codes "QUIT") ≡ false → has_command line (codes "NICK") ≡ false → told settings (Received line) ≡ Silent
+unfolding commands_read
+none_told settings line welcome join part kick quit nick = told-unread settings line (rw (welcome, join, part, kick, quit, nick) refl)
+
+-- ---- what they can tell
+
+-- what the lines that are read can tell
+abbrev pub IsRead : Told → Type 0
+IsRead Silent = Unit {0}
+IsRead (Welcomed nick) = Unit {0}
+IsRead Settles = Unit {0}
+IsRead (Joined channel valid who account) = Unit {0}
+IsRead (Parted channel who) = Unit {0}
+IsRead (Kicked channel who) = Unit {0}
+IsRead (Quits who) = Unit {0}
+IsRead (Renamed old new) = Unit {0}
+IsRead _ = ⊥
+
+read_or : (o : Option Told) (t : Told) → IsRead t → IfSome o IsRead → IsRead (unwrap_or o t)
+read_or None t d h = d
+read_or (Some u) t d h = h
+
+of_map : {X : Type 0} (f : X → Told) (o : Option X) → ((x : X) → IsRead (f x)) → IfSome (option_map f o) IsRead
+of_map f None h = tt
+of_map f (Some x) h = h x
+
+read_welcome : (s : List Token) (l : Parts) → IsRead (told_by_welcome s l)
+read_welcome s l = read_or (with l 0 (λ nick. cond (is_nameable nick) (Some (Welcomed nick)) None)) Silent tt (of_next IsRead (slice_get l.params 0) (λ nick. cond (is_nameable nick) (Some (Welcomed nick)) None) (λ nick. of_test IsRead (is_nameable nick) (Some (Welcomed nick)) (λ _. tt)))
+
+read_join : (s : List Token) (l : Parts) → IsRead (told_by_join s l)
+read_join s l =
+    let of : Text → Name → Told = λ c who. Joined (name_of s c) (is_channel s c) who (with l 1 account_said) in
+    read_or (with l 0 (λ c. option_map (of c) (actor s l))) Settles tt (of_next IsRead (slice_get l.params 0) (λ c. option_map (of c) (actor s l)) (λ c. of_map (of c) (actor s l) (λ who. tt)))
+
+read_part : (s : List Token) (l : Parts) → IsRead (told_by_part s l)
+read_part s l =
+    let of : Text → Name → Told = λ c who. Parted (key_by s c) who.key in
+    read_or (with l 0 (λ c. option_map (of c) (actor s l))) Silent tt (of_next IsRead (slice_get l.params 0) (λ c. option_map (of c) (actor s l)) (λ c. of_map (of c) (actor s l) (λ who. tt)))
+
+read_kick : (s : List Token) (l : Parts) → IsRead (told_by_kick s l)
+read_kick s l =
+    let of : Text → Name → Told = λ c who. Kicked (key_by s c) who.key in
+    let more : Text → Option Told = λ c. with l 1 (λ nick. option_map (of c) (nameable s nick)) in
+    read_or (with l 0 more) Silent tt (of_next IsRead (slice_get l.params 0) more (λ c. of_next IsRead (slice_get l.params 1) (λ nick. option_map (of c) (nameable s nick)) (λ nick. of_map (of c) (nameable s nick) (λ who. tt))))
+
+read_quit : (s : List Token) (l : Parts) → IsRead (told_by_quit s l)
+read_quit s l = read_or (option_map (λ (who : Name). Quits who.key) (actor s l)) Silent tt (of_map (λ (who : Name). Quits who.key) (actor s l) (λ who. tt))
+
+read_nick : (s : List Token) (l : Parts) → IsRead (told_by_nick s l)
+read_nick s l =
+    let of : Name → Name → Told = λ old new. Renamed old.key new in
+    let more : Text → Option Told = λ nick. option_and_then (λ (old : Name). option_map (of old) (nameable s nick)) (actor s l) in
+    read_or (with l 0 more) Silent tt (of_next IsRead (slice_get l.params 0) more (λ nick. of_next IsRead (actor s l) (λ (old : Name). option_map (of old) (nameable s nick)) (λ old. of_map (of old) (nameable s nick) (λ new. tt))))
+
+sure : (b : Bool) → (b ≡ true) ⊎ (b ≡ false)
+sure true = inl refl
+sure false = inr refl
+
+pub told_read : (s : List Token) (l : Parts) → IsRead (told s (Received l))
+told_read s l = elim (sure (has_command l (codes "001"))) [
+  | inl e ↦ subst IsRead (sym (welcome_told s l e)) (read_welcome s l)
+  | inr welcome ↦ elim (sure (has_command l (codes "JOIN"))) [
+    | inl e ↦ subst IsRead (sym (join_told s l e)) (read_join s l)
+    | inr join ↦ elim (sure (has_command l (codes "PART"))) [
+      | inl e ↦ subst IsRead (sym (part_told s l e)) (read_part s l)
+      | inr part ↦ elim (sure (has_command l (codes "KICK"))) [
+        | inl e ↦ subst IsRead (sym (kick_told s l e)) (read_kick s l)
+        | inr kick ↦ elim (sure (has_command l (codes "QUIT"))) [
+          | inl e ↦ subst IsRead (sym (quit_told s l e)) (read_quit s l)
+          | inr quit ↦ elim (sure (has_command l (codes "NICK"))) [
+            | inl e ↦ subst IsRead (sym (nick_told s l e)) (read_nick s l)
+            | inr nick ↦ subst IsRead (sym (none_told s l welcome join part kick quit nick)) tt
+          ]
+        ]
+      ]
+    ]
+  ]
+]

@@ -10,7 +10,7 @@ use Rattle.net_view.specs.declared.tape.Kept.{Kept}
 use Rattle.net_view.specs.declared.tape.Shown.{Shown}
 use Rattle.net_view.specs.declared.tape.Shown.TheVariants.{Channels, Members}
 use Rattle.net_view.specs.Names.{bytes_cmp}
-use Rattle.net_view.specs.Told.{Told, Joined, Renamed, Present}
+use Rattle.net_view.specs.Told.{Told}
 use Rattle.net_view.specs.Arrival.{Received}
 use Rattle.net_view.specs.StateLines.{told}
 use Rattle.net_view.specs.Transcript.{Reading, readings_of}
@@ -24,9 +24,9 @@ use Rattle.net_view.specs.Least.{IsNext}
 use Rattle.net_view.specs.Shown.{names_in, is_shown, shown_key, shown_len}
 use Rattle.net_view.proofs.Channels.{channels_get, members_get}
 use Rattle.net_view.proofs.TapeTests.{is_some_map}
-use Rattle.net_view.proofs.TapeBack.{IsRead, told_read}
+use Rattle.net_view.proofs.ReadCommands.{told_read}
 use Rattle.net_view.proofs.Places as places
-use Rattle.net_view.proofs.NextShown.{named_more}
+use Rattle.net_view.proofs.NextShown.{named_more, one_named}
 
 some_where : {X : Type 0} (b : Bool) (x : X) → is_some (cond b (Some x) None) ≡ b
 some_where true x = refl
@@ -72,14 +72,6 @@ table_len (k ∷ ks) f = put_len (table bytes_cmp ks f) k (f k) (length ks) (tab
 len_few : (shown : Shown) (rs : List Reading) → shown_len shown rs ≤ length (named (names_in shown) rs)
 len_few Channels rs = rw (← fin.len-entries (channels_of rs)) (table_len (named channels_in rs) (channel_of rs))
 len_few (Members channel) rs = rw (← fin.len-entries (members_of rs (key_by [] channel.now))) (table_len (named people_in rs) (member_of rs (key_by [] channel.now)))
-
-one_named : (shown : Shown) (t : Told) → IsRead t → length (names_in shown t) ≤ 1
-one_named Channels (Joined channel valid who account) r = omega arith
-one_named (Members c) (Joined channel valid who account) r = omega arith
-one_named Channels _ r = omega arith
-one_named (Members c) (Renamed old new) r = absurd r
-one_named (Members c) (Present channel listings) r = absurd r
-one_named (Members c) _ r = omega arith
 
 named_few : {A : Type 0} (shown : Shown) (ks : List (Kept A)) (i : ℕ) → i ≤ length ks → length (named (names_in shown) (readings_of (tape_of (take i ks)))) ≤ i
 unfolding tape_of

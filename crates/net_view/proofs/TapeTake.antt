@@ -1,17 +1,22 @@
 -- A tape after one more item.
 use Rattle.std.specs.Prelude.{◌≡◌, ℕ, zero, suc, Bool, true, false, List, [], ◌∷◌, ◌++◌, length, set, get_or}
-use Rattle.std.proofs.Common.{refl, sym, ap, ◌∙◌, arith}
+use Rattle.std.proofs.Common.{Option, refl, sym, ap, ◌∙◌, arith, subst}
 use Rattle.std.proofs.lemmas.List.{reverse-append, get_or_default}
 use Rattle.irc_line.specs.Line.{Parts}
 use Rattle.net_view.specs.declared.tape.Kept.{Kept}
 use Rattle.net_view.specs.Arrival.{Arrival, Received, Lost}
 use Rattle.net_view.specs.View.{view_back, view_of, lost_view}
 use Rattle.net_view.specs.Step.{after}
-use Rattle.net_view.specs.Tape.{with_lost, played_back, tape_of}
+use Rattle.irc_support.specs.Text.{Text}
+use Rattle.net_view.specs.declared.told.Telling.{Telling}
+use Rattle.net_view.specs.Transcript.{standing, own_nick, is_us}
+use Rattle.net_view.specs.Tells.{meant, us_of, IsMarked}
+use Rattle.net_view.specs.Tape.{with_lost, played_back, tape_of, AreMarked, IsMarkedTape}
 use Rattle.net_view.proofs.StepLaw.{view_step, view_back_step}
 use Rattle.net_view.specs.Table.{table}
 use Rattle.net_view.specs.Told.{Disconnected}
 use Rattle.net_view.specs.StateLines.{told}
+use Rattle.net_view.proofs.TapeBack.{no_settings, plain_us, marked_split}
 use Rattle.net_view.proofs.Emptied.{view_lost, emptied}
 
 tape_push : {A : Type 0} (ks : List (Kept A)) (k : Kept A) → tape_of (ks ++ k ∷ []) ≡ with_lost k.lost (Received k.line ∷ tape_of ks)
@@ -55,9 +60,9 @@ split_last (k ∷ j ∷ ks) (suc i) x e =
     record { front = k ∷ r.front; last = r.last; whole = ap (λ s. k ∷ s) r.whole; marked = ap (λ s. k ∷ s) r.marked; is = r.is }
 
 pub loss_taken : {A : Type 0} (items : List Arrival) (ks : List (Kept A)) (i : ℕ) (k : Kept A) → suc i ≡ length ks → k ≡ get_or ks i k → view_back (tape_of ks) ≡ view_of items →
-    view_back (tape_of (set ks i (record { line = k.line; lost = true }))) ≡ view_of (items ++ Lost ∷ [])
+    view_back (tape_of (set ks i (record { line = k.line; marks = k.marks; lost = true }))) ≡ view_of (items ++ Lost ∷ [])
 loss_taken {A} items ks i k last at e =
-    let x : Kept A = record { line = k.line; lost = true } in
+    let x : Kept A = record { line = k.line; marks = k.marks; lost = true } in
     let r = split_last ks i x last in
     let same_k : k ≡ r.last = at ∙ get_or_default ks i k x (omega arith) ∙ r.is in
     ap (λ s. view_back (tape_of s)) r.marked
@@ -83,3 +88,27 @@ loss_of_nothing {A} items ks none e =
 pub tape_none : (A : Type 0) → tape_of {A = A} [] ≡ []
 unfolding tape_of
 tape_none A = refl
+
+-- ---- marks
+
+-- one more line, marked by who we are
+marked_push : {A : Type 0} (front : List (Kept A)) (k : Kept A) → IsMarked (is_us (standing (tape_of front))) (told [] (Received k.line)) k.marks → IsMarkedTape front → IsMarkedTape (front ++ k ∷ [])
+unfolding tape_of IsMarkedTape
+marked_push front k here marked = subst AreMarked (sym (reverse-append front (k ∷ []))) (here, marked)
+
+pub line_marked : {A : Type 0} (ks ls : List (Kept A)) (k : Kept A) (r : Telling) (own : Option Text) → ls ≡ ks ++ k ∷ [] → IsMarkedTape ks → meant r ≡ told [] (Received k.line) → own ≡ own_nick (tape_of ks) → IsMarked (us_of own) (meant r) k.marks → IsMarkedTape ls
+line_marked ks ls k r own pushed marked tells is here =
+    let us : us_of own ≡ is_us (standing (tape_of ks)) = ap us_of is ∙ sym (plain_us (standing (tape_of ks)) (no_settings (tape_of ks))) in
+    subst IsMarkedTape (sym pushed) (marked_push ks k (subst (λ (u : Text → Bool). IsMarked u (told [] (Received k.line)) k.marks) us (subst (λ t. IsMarked (us_of own) t k.marks) tells here)) marked)
+
+pub loss_marked : {A : Type 0} (ks : List (Kept A)) (i : ℕ) (k : Kept A) → suc i ≡ length ks → k ≡ get_or ks i k → IsMarkedTape ks → IsMarkedTape (set ks i (record { line = k.line; marks = k.marks; lost = true }))
+loss_marked {A} ks i k last at marked =
+    let x : Kept A = record { line = k.line; marks = k.marks; lost = true } in
+    let r = split_last ks i x last in
+    let same_k : k ≡ r.last = at ∙ get_or_default ks i k x (omega arith) ∙ r.is in
+    let parts = marked_split r.front r.last (subst IsMarkedTape r.whole marked) in
+    subst IsMarkedTape (sym r.marked) (marked_push r.front x (subst (λ (j : Kept A). IsMarked (is_us (standing (tape_of r.front))) (told [] (Received j.line)) j.marks) (sym same_k) (parts.0)) (parts.1))
+
+pub none_marked : (A : Type 0) → IsMarkedTape {A = A} []
+unfolding IsMarkedTape
+none_marked A = tt

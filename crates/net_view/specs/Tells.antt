@@ -1,40 +1,58 @@
--- What a line tells, with names as they are spelled, as the definitions have it.
-use Rattle.std.specs.Prelude.{◌≡◌, Bool, true, false, []}
+-- What a line tells, with names as they are spelled, and what it means; and the marks of who is us.
+use Rattle.std.specs.Prelude.{◌≡◌, Bool, true, false, [], if◌then◌else◌}
+use Rattle.std.specs.Option.{option_map, option_map_or}
 use Rattle.std.proofs.Common.{Option, Some, None}
 use Rattle.irc_support.specs.Text.{Text}
 use Rattle.irc_support.specs.Settings.{is_channel, key_by}
 use Rattle.net_view.specs.Names.{name_of, same}
 use Rattle.net_view.specs.Told as spec
+use Rattle.net_view.specs.declared.told.Marks.{Marks}
 use Rattle.net_view.specs.declared.told.Telling.{Telling}
-use Rattle.net_view.specs.declared.told.Telling.TheVariants.{Silent, Welcomed, Settles, Joined, Parted}
+use Rattle.net_view.specs.declared.told.Telling.TheVariants.{Silent, Welcomed, Settles, Joined, Parted, Kicked, Quits, Renamed}
 
-abbrev pub Tells : Telling → spec.Told → Type 0
-Tells Silent t = t ≡ spec.Silent
-Tells (Welcomed nick) t = t ≡ spec.Welcomed nick.now
-Tells Settles t = t ≡ spec.Settles
-Tells (Joined channel who) t = (account : Option (Option Text)) × (t ≡ spec.Joined (name_of [] channel.now) (is_channel [] channel.now) (name_of [] who.now) account)
-Tells (Parted channel who) t = t ≡ spec.Parted (key_by [] channel.now) (key_by [] who.now)
+-- what it means under the default settings
+abbrev pub meant : Telling → spec.Told
+meant Silent = spec.Silent
+meant (Welcomed nick) = spec.Welcomed nick.now
+meant Settles = spec.Settles
+meant (Joined channel who account) = spec.Joined (name_of [] channel.now) (is_channel [] channel.now) (name_of [] who.now) (option_map (option_map (λ name. name.now)) account)
+meant (Parted channel who) = spec.Parted (key_by [] channel.now) (key_by [] who.now)
+meant (Kicked channel who) = spec.Kicked (key_by [] channel.now) (key_by [] who.now)
+meant (Quits who) = spec.Quits (key_by [] who.now)
+meant (Renamed old new) = spec.Renamed (key_by [] old.now) (name_of [] new.now)
 
 -- whether a key is that of this nick of ours, under the default settings
 abbrev pub us_of : Option Text → Text → Bool
 us_of own key = elim own [ None ↦ false | Some nick ↦ same (key_by [] nick) key ]
 
--- the same, as a telling that leaves the account out
-abbrev pub plain_told : Telling → spec.Told
-plain_told Silent = spec.Silent
-plain_told (Welcomed nick) = spec.Welcomed nick.now
-plain_told Settles = spec.Settles
-plain_told (Joined channel who) = spec.Joined (name_of [] channel.now) (is_channel [] channel.now) (name_of [] who.now) None
-plain_told (Parted channel who) = spec.Parted (key_by [] channel.now) (key_by [] who.now)
+-- the person that a line comes from, where it turns on that
+abbrev pub doer : spec.Told → Option Text
+doer (spec.Joined channel valid who account) = Some who.key
+doer (spec.Parted channel who) = Some who
+doer (spec.Quits who) = Some who
+doer (spec.Renamed old new) = Some old
+doer _ = None
 
--- the nick under which it welcomes us
-abbrev pub welcome_said : Telling → Option Text
-welcome_said (Welcomed nick) = Some nick.now
-welcome_said _ = None
+-- the person that a line names, where it turns on that
+abbrev pub person_named : spec.Told → Option Text
+person_named (spec.Kicked channel who) = Some who
+person_named (spec.Renamed old new) = Some new.key
+person_named _ = None
+
+-- the marks of a line: whether it comes from us, and whether it names us
+pub record IsMarked (us : Text → Bool) (t : spec.Told) (marks : Marks) : Type 0 where
+  pub by_us : marks.by_us ≡ option_map_or us (doer t) false
+  pub names_us : marks.names_us ≡ option_map_or us (person_named t) false
+
+-- the nick that is ours from here on, where it says one
+abbrev pub own_said : Marks → Telling → Option Text
+own_said marks (Welcomed nick) = Some nick.now
+own_said marks (Renamed old new) = if marks.by_us then Some new.now else None
+own_said marks _ = None
 
 -- whether it fixes the settings: Some false where it takes us in, and all starts anew
 abbrev pub settles_said : Telling → Option Bool
 settles_said (Welcomed nick) = Some false
 settles_said Settles = Some true
-settles_said (Joined channel who) = Some true
+settles_said (Joined channel who account) = Some true
 settles_said _ = None

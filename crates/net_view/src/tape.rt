@@ -2,6 +2,7 @@
 
 ghost use Rattle.std.specs.Prelude.{◌≡◌, ◌<◌, ◌^◌, length, ◌==◌, ◌&&◌, not, ℕ, Bool, IsTrue, Some, true, false, List, [], is_some, option_map, unwrap_or};
 ghost use Rattle.std.specs.List.{list_any};
+ghost use Rattle.std.specs.Option.{option_map_or};
 ghost use Rattle.irc_support.specs.Text.{Text, has_byte};
 ghost use Rattle.irc_support.specs.Settings.{is_channel, key_by, channel_types, is_outside_channel};
 ghost use Rattle.std.specs.Ordering.{is_lt};
@@ -9,22 +10,24 @@ ghost use Rattle.net_view.specs.Names.{same, bytes_cmp};
 ghost use Rattle.net_view.specs.Least.{above, considered, lesser, key_in, IsNext};
 ghost use Rattle.net_view.specs.Shown.{key_list, names_in, is_shown, shown_key, shown_len};
 ghost use Rattle.net_view.specs.Transcript.{own_nick, is_ready, readings_of};
-ghost use Rattle.net_view.specs.LookBack.{last_of};
+ghost use Rattle.net_view.specs.LookBack.{last_of, name_before};
 ghost use Rattle.net_view.specs.Presence.{is_on, name_on, says_on};
 ghost use Rattle.net_view.specs.Members.{is_member, says_member};
 ghost use Rattle.net_view.specs.Facts.{in_sight, says_spelling, spelling_of};
-ghost use Rattle.net_view.specs.Tells.{us_of, plain_told};
-ghost use Rattle.net_view.specs.Tape.{tape_of};
+ghost use Rattle.net_view.specs.Tells.{us_of, meant, IsMarked};
+ghost use Rattle.net_view.specs.Tape.{tape_of, IsMarkedTape};
 
-use crate::told::{Telling, told};
+use crate::told::{Marks, Telling, told};
 use irc_line::Line;
 use irc_names::CaseMapping;
 use std::alloc::Allocator;
 
-/// A state line, and whether the connection was lost before the next one.
+/// A state line, whether it comes from us or names us, and whether the connection was lost before the next
+/// one.
 #[derive(Drop)]
 pub(crate) struct Kept<A: Allocator> {
     pub(crate) line: Line<A>,
+    pub(crate) marks: Marks,
     pub(crate) lost: bool,
 }
 
@@ -58,31 +61,56 @@ fn is_channel_name(name: &[u8]) -> bool
     }
 }
 
-/// Whether the nick is our own.
-fn is_us(own: Option<&[u8]>, nick: &[u8]) -> bool
-    ensures { result ≡ us_of (option_map (λ o. o.now) own.entry) (key_by [] nick.now) }
+/// Whether this is a nick of ours.
+fn is_us(own: Option<&[u8]>, nick: Option<&[u8]>) -> bool
+    ensures { result ≡ option_map_or (us_of (option_map (λ o. o.now) own.entry)) (option_map (λ n. key_by [] n.now) nick.entry) false }
 {
-    match own {
-        Some(own) => is_same(own, nick),
-        None => false,
+    match (own, nick) {
+        (Some(own), Some(nick)) => is_same(own, nick),
+        _ => false,
+    }
+}
+
+/// Whether what a line tells comes from us, and whether it names us, where this was our nick before it.
+pub(crate) fn marks_of(telling: Telling<'_>, own: Option<&[u8]>) -> Marks
+    ensures { IsMarked (us_of (option_map (λ o. o.now) own.entry)) (meant telling.entry) result }
+{
+    Marks {
+        by_us: is_us(own, telling.doer()),
+        names_us: is_us(own, telling.person_named()),
     }
 }
 
 /// What a line says of our being on a channel: nothing, that we are not on it, or its name.
-fn says_on<'a>(telling: Telling<'a>, own: Option<&[u8]>, channel: &[u8]) -> Option<Option<&'a [u8]>>
-    ensures { option_map (λ said. option_map (λ name. name.now) said) result ≡ says_on (key_by [] channel.now) (us_of (option_map (λ o. o.now) own.entry)) (plain_told telling.entry) }
+fn says_on<'a>(telling: Telling<'a>, marks: Marks, channel: &[u8]) -> Option<Option<&'a [u8]>>
+    ensures { (us : Text → Bool) → IsMarked us (meant telling.entry) marks →
+        option_map (λ said. option_map (λ name. name.now) said) result ≡ says_on (key_by [] channel.now) us (meant telling.entry) }
 {
     match telling {
         Telling::Welcomed(_) => Some(None),
-        Telling::Joined(name, who) => {
-            if is_us(own, who) && is_channel_name(name) && is_same(channel, name) {
+        Telling::Joined(name, _, _) => {
+            if marks.by_us && is_channel_name(name) && is_same(channel, name) {
                 Some(Some(name))
             } else {
                 None
             }
         }
-        Telling::Parted(name, who) => {
-            if is_us(own, who) && is_same(channel, name) {
+        Telling::Parted(name, _) => {
+            if marks.by_us && is_same(channel, name) {
+                Some(None)
+            } else {
+                None
+            }
+        }
+        Telling::Kicked(name, _) => {
+            if marks.names_us && is_same(channel, name) {
+                Some(None)
+            } else {
+                None
+            }
+        }
+        Telling::Quits(_) => {
+            if marks.by_us {
                 Some(None)
             } else {
                 None
@@ -95,18 +123,19 @@ fn says_on<'a>(telling: Telling<'a>, own: Option<&[u8]>, channel: &[u8]) -> Opti
 /// What a line says of a person's being a member of a channel.
 fn says_member(
     telling: Telling<'_>,
-    own: Option<&[u8]>,
+    marks: Marks,
     channel: &[u8],
     nick: &[u8],
 ) -> Option<bool>
-    ensures { result ≡ says_member (key_by [] channel.now) (us_of (option_map (λ o. o.now) own.entry)) (plain_told telling.entry) (key_by [] nick.now) }
+    ensures { (us : Text → Bool) → IsMarked us (meant telling.entry) marks →
+        result ≡ says_member (key_by [] channel.now) us (meant telling.entry) (key_by [] nick.now) }
 {
     match telling {
-        Telling::Joined(name, who) => {
+        Telling::Joined(name, who, _) => {
             if !is_same(channel, name) {
                 return None;
             }
-            if is_us(own, who) {
+            if marks.by_us {
                 return if is_channel_name(name) {
                     Some(is_same(nick, who))
                 } else {
@@ -115,7 +144,7 @@ fn says_member(
             }
             if is_same(nick, who) { Some(true) } else { None }
         }
-        Telling::Parted(name, who) => {
+        Telling::Parted(name, who) | Telling::Kicked(name, who) => {
             if is_same(channel, name) && is_same(nick, who) {
                 Some(false)
             } else {
@@ -126,15 +155,43 @@ fn says_member(
     }
 }
 
+/// The name that a person had before a line; `None` where nobody of before is that person.
+fn name_before<'a>(telling: Telling<'a>, marks: Marks, nick: &'a [u8]) -> Option<&'a [u8]>
+    ensures { (us : Text → Bool) → IsMarked us (meant telling.entry) marks →
+        option_map (λ name. key_by [] name.now) result ≡ name_before us (meant telling.entry) (key_by [] nick.now) }
+{
+    match telling {
+        Telling::Renamed(old, new) => {
+            if marks.names_us && !marks.by_us {
+                return Some(nick);
+            }
+            if is_same(nick, new) {
+                return Some(old);
+            }
+            if is_same(nick, old) { None } else { Some(nick) }
+        }
+        Telling::Quits(gone) => {
+            if is_same(nick, gone) {
+                None
+            } else {
+                Some(nick)
+            }
+        }
+        Telling::Welcomed(_) => None,
+        _ => Some(nick),
+    }
+}
+
 /// Our nick after these lines.
 pub(crate) fn own_in<A: Allocator>(kept: &[Kept<A>]) -> Option<&[u8]>
+    requires { IsMarkedTape kept.now }
     ensures { option_map (λ nick. nick.now) result ≡ own_nick (tape_of kept.now) }
 {
     let mut i = kept.len();
     while i > 0 {
         i -= 1;
         let entry = &kept[i];
-        if let Some(nick) = told(&entry.line).welcome() {
+        if let Some(nick) = told(&entry.line).own(entry.marks) {
             return Some(nick);
         }
     }
@@ -143,9 +200,9 @@ pub(crate) fn own_in<A: Allocator>(kept: &[Kept<A>]) -> Option<&[u8]>
 
 /// The name of a channel, where we are on it after these lines.
 pub(crate) fn name_on<'a, A: Allocator>(kept: &'a [Kept<A>], channel: &[u8]) -> Option<&'a [u8]>
+    requires { IsMarkedTape kept.now }
     ensures { option_map (λ name. name.now) result ≡ name_on (readings_of (tape_of kept.now)) (key_by [] channel.now) }
 {
-    let own = own_in(kept);
     let mut i = kept.len();
     while i > 0 {
         i -= 1;
@@ -153,7 +210,7 @@ pub(crate) fn name_on<'a, A: Allocator>(kept: &'a [Kept<A>], channel: &[u8]) -> 
         if entry.lost {
             return None;
         }
-        if let Some(answer) = says_on(told(&entry.line), own, channel) {
+        if let Some(answer) = says_on(told(&entry.line), entry.marks, channel) {
             return answer;
         }
     }
@@ -162,6 +219,7 @@ pub(crate) fn name_on<'a, A: Allocator>(kept: &'a [Kept<A>], channel: &[u8]) -> 
 
 /// Whether settings are fixed after these lines: whether a JOIN came after the last welcome.
 pub(crate) fn ready_in<A: Allocator>(kept: &[Kept<A>]) -> bool
+    requires { IsMarkedTape kept.now }
     ensures { result ≡ is_ready (tape_of kept.now) }
 {
     let mut i = kept.len();
@@ -175,11 +233,16 @@ pub(crate) fn ready_in<A: Allocator>(kept: &[Kept<A>]) -> bool
     false
 }
 
-/// Whether the person was made a member of the channel, and of its last line that speaks of both.
-fn was_made_member<A: Allocator>(kept: &[Kept<A>], channel: &[u8], nick: &[u8]) -> bool
-    ensures { result ≡ unwrap_or (last_of (says_member (key_by [] channel.now)) (readings_of (tape_of kept.now)) (key_by [] nick.now)) false }
+/// Whether the person was made a member of the channel, and of its last line that speaks of both. The person is
+/// followed back under earlier names.
+fn was_made_member<'a, A: Allocator>(
+    kept: &'a [Kept<A>],
+    channel: &[u8],
+    mut nick: &'a [u8],
+) -> bool
+    requires { IsMarkedTape kept.now }
+    ensures { result ≡ unwrap_or (last_of (says_member (key_by [] channel.now)) (readings_of (tape_of kept.now)) (key_by [] nick.entry.now)) false }
 {
-    let own = own_in(kept);
     let mut i = kept.len();
     while i > 0 {
         i -= 1;
@@ -188,11 +251,12 @@ fn was_made_member<A: Allocator>(kept: &[Kept<A>], channel: &[u8], nick: &[u8]) 
             return false;
         }
         let telling = told(&entry.line);
-        if telling.welcome().is_some() {
-            return false;
-        }
-        if let Some(answer) = says_member(telling, own, channel, nick) {
+        if let Some(answer) = says_member(telling, entry.marks, channel, nick) {
             return answer;
+        }
+        match name_before(telling, entry.marks, nick) {
+            Some(name) => nick = name,
+            None => return false,
         }
     }
     false
@@ -200,6 +264,7 @@ fn was_made_member<A: Allocator>(kept: &[Kept<A>], channel: &[u8], nick: &[u8]) 
 
 /// Whether the person is a member of the channel, on which we are, after these lines.
 pub(crate) fn is_member<A: Allocator>(kept: &[Kept<A>], channel: &[u8], nick: &[u8]) -> bool
+    requires { IsMarkedTape kept.now }
     ensures { result ≡ is_member (readings_of (tape_of kept.now)) (key_by [] channel.now) (key_by [] nick.now) }
 {
     name_on(kept, channel).is_some() && was_made_member(kept, channel, nick)
@@ -214,17 +279,18 @@ pub(crate) enum Shown<'a> {
 
 /// The name that a line brings up: a channel's or a person's.
 fn named_by<'a>(shown: Shown<'_>, telling: Telling<'a>) -> Option<&'a [u8]>
-    ensures { key_list (option_map (λ name. name.now) result) ≡ names_in shown.entry (plain_told telling.entry) }
+    ensures { key_list (option_map (λ name. name.now) result) ≡ names_in shown.entry (meant telling.entry) }
 {
     match (shown, telling) {
-        (Shown::Channels, Telling::Joined(name, _)) => Some(name),
-        (Shown::Members(_), Telling::Joined(_, who)) => Some(who),
+        (Shown::Channels, Telling::Joined(name, _, _)) => Some(name),
+        (Shown::Members(_), Telling::Joined(_, who, _) | Telling::Renamed(_, who)) => Some(who),
         _ => None,
     }
 }
 
 /// Whether what has this name is there.
 fn is_there<A: Allocator>(kept: &[Kept<A>], shown: Shown<'_>, name: &[u8]) -> bool
+    requires { IsMarkedTape kept.now }
     ensures { result ≡ is_shown shown.entry (readings_of (tape_of kept.now)) (key_by [] name.now) }
 {
     match shown {
@@ -268,7 +334,8 @@ fn consider<'a, A: Allocator>(
     best: Option<&'a [u8]>,
     telling: Telling<'a>,
 ) -> Option<&'a [u8]>
-    ensures { key_in (option_map (λ n. n.now) result) ≡ considered (is_shown shown.entry (readings_of (tape_of kept.now))) (key_in (option_map (λ a. a.now) after.entry)) (key_in (option_map (λ b. b.now) best.entry)) (names_in shown.entry (plain_told telling.entry)) }
+    requires { IsMarkedTape kept.now }
+    ensures { key_in (option_map (λ n. n.now) result) ≡ considered (is_shown shown.entry (readings_of (tape_of kept.now))) (key_in (option_map (λ a. a.now) after.entry)) (key_in (option_map (λ b. b.now) best.entry)) (names_in shown.entry (meant telling.entry)) }
 {
     let Some(name) = named_by(shown, telling) else {
         return best;
@@ -286,6 +353,7 @@ pub(crate) fn next_shown<'a, A: Allocator>(
     shown: Shown<'_>,
     after: Option<&[u8]>,
 ) -> Option<&'a [u8]>
+    requires { IsMarkedTape kept.now }
     ensures { IsNext (is_shown shown.entry (readings_of (tape_of kept.now))) (key_in (option_map (λ a. a.now) after.entry)) (key_in (option_map (λ n. n.now) result)) }
 {
     let mut best = None;
@@ -301,6 +369,7 @@ pub(crate) fn shown_at<'a, A: Allocator>(
     shown: Shown<'_>,
     place: usize,
 ) -> Option<&'a [u8]>
+    requires { IsMarkedTape kept.now }
     ensures { key_in (option_map (λ n. n.now) result) ≡ shown_key shown.entry (readings_of (tape_of kept.now)) place }
 {
     let mut at = next_shown(kept, shown, None);
@@ -315,7 +384,8 @@ pub(crate) fn shown_at<'a, A: Allocator>(
 
 /// How many there are.
 pub(crate) fn shown_count<A: Allocator>(kept: &[Kept<A>], shown: Shown<'_>) -> usize
-    requires { length kept.now < 2 ^ 64 }
+    requires marked { IsMarkedTape kept.now }
+    requires few { length kept.now < 2 ^ 64 }
     ensures { result ≡ shown_len shown.entry (readings_of (tape_of kept.now)) }
 {
     let mut count = 0;
@@ -331,15 +401,24 @@ pub(crate) fn shown_count<A: Allocator>(kept: &[Kept<A>], shown: Shown<'_>) -> u
 fn spelled_by<'a, A: Allocator>(
     kept: &[Kept<A>],
     telling: Telling<'a>,
+    marks: Marks,
     nick: &[u8],
 ) -> Option<&'a [u8]>
-    ensures { (us : Text → Bool) → option_map (λ spelled. Some spelled.now) result
-        ≡ says_spelling us (is_on (readings_of (tape_of kept.now))) (plain_told telling.entry) (key_by [] nick.now) }
+    requires { IsMarkedTape kept.now }
+    ensures { (us : Text → Bool) → IsMarked us (meant telling.entry) marks → option_map (λ spelled. Some spelled.now) result
+        ≡ says_spelling us (is_on (readings_of (tape_of kept.now))) (meant telling.entry) (key_by [] nick.now) }
 {
     match telling {
-        Telling::Joined(channel, who) => {
+        Telling::Joined(channel, who, _) => {
             if is_same(nick, who) && name_on(kept, channel).is_some() {
                 Some(who)
+            } else {
+                None
+            }
+        }
+        Telling::Renamed(_, new) => {
+            if is_same(nick, new) && (marks.by_us || !marks.names_us) {
+                Some(new)
             } else {
                 None
             }
@@ -349,10 +428,8 @@ fn spelled_by<'a, A: Allocator>(
 }
 
 /// The nick of a person in sight, as spelled last.
-pub(crate) fn spelling_in<'a, A: Allocator>(
-    kept: &'a [Kept<A>],
-    nick: &[u8],
-) -> Option<&'a [u8]>
+pub(crate) fn spelling_in<'a, A: Allocator>(kept: &'a [Kept<A>], nick: &[u8]) -> Option<&'a [u8]>
+    requires { IsMarkedTape kept.now }
     ensures { in_sight (readings_of (tape_of kept.now)) (key_by [] nick.now) ≡ true →
         option_map (λ spelled. spelled.now) result ≡ spelling_of (readings_of (tape_of kept.now)) (key_by [] nick.now) }
 {
@@ -361,7 +438,7 @@ pub(crate) fn spelling_in<'a, A: Allocator>(
         let lines = &kept[..i];
         i -= 1;
         let entry = &kept[i];
-        if let Some(spelled) = spelled_by(lines, told(&entry.line), nick) {
+        if let Some(spelled) = spelled_by(lines, told(&entry.line), entry.marks, nick) {
             return Some(spelled);
         }
     }

@@ -6,8 +6,8 @@ use crate::OutOfMemory;
 use crate::channel::{Channel, Member};
 use crate::item::Item;
 use crate::network_view::NetworkView;
-use crate::tape::{Kept, Shown, name_on, own_in, ready_in, shown_at, shown_count, spelling_in};
-use crate::told::is_state_line;
+use crate::tape::{Kept, Shown, marks_of, name_on, own_in, ready_in, shown_at, shown_count, spelling_in};
+use crate::told::{is_state_line, told};
 use std::alloc::{Allocator, Global};
 use std::marker::Model;
 
@@ -24,11 +24,13 @@ pub struct TapeView<A: Allocator = Global> {
 impl<A: Allocator> Model for TapeView<A> {
     ghost use Rattle.std.specs.Prelude.{List};
     ghost use Rattle.net_view.specs.Arrival.{Arrival};
-    ghost use Rattle.net_view.specs.Tape.{tape_of};
+    ghost use Rattle.net_view.specs.Tape.{tape_of, IsMarkedTape};
 
     ghost Value = { List Arrival };
 
     ghost view = { λ v. tape_of v.kept.items };
+
+    ghost invariant = { λ v. IsMarkedTape v.kept.items };
 }
 
 impl<A: Allocator> TapeView<A> {
@@ -51,8 +53,9 @@ impl<A: Allocator + Copy> NetworkView for TapeView<A> {
         match item {
             Item::Line(line) => {
                 if is_state_line(line) {
+                    let marks = marks_of(told(line), own_in(&self.kept));
                     let line = line.copy_in(*self.kept.allocator())?;
-                    self.kept.push(Kept { line, lost: false })?;
+                    self.kept.push(Kept { line, marks, lost: false })?;
                 }
             }
             Item::Lost => {

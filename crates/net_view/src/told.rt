@@ -1,14 +1,22 @@
 //! What one line tells, as far as views read it.
 
 ghost use Rattle.std.specs.Prelude.{◌≡◌, [], option_map};
+ghost use Rattle.irc_support.specs.Text.{is_word};
 ghost use Rattle.irc_support.specs.Settings.{is_channel, key_by};
 ghost use Rattle.net_view.specs.Arrival.{Received};
-ghost use Rattle.net_view.specs.StateLines.{told, told_by_welcome, told_by_join, told_by_part, actor_nick, is_state_line};
-ghost use Rattle.net_view.specs.Tells.{Tells};
+ghost use Rattle.net_view.specs.StateLines.{told, told_by_welcome, told_by_join, told_by_part, told_by_kick, told_by_quit, told_by_nick, account_said, actor_nick, is_state_line};
+ghost use Rattle.net_view.specs.Tells.{meant};
 
 use irc_line::Line;
 use irc_names::is_nameable;
 use std::alloc::Allocator;
+
+/// Whether a line comes from us, and whether it names us, by our nick before it.
+#[derive(Clone, Copy)]
+pub(crate) struct Marks {
+    pub(crate) by_us: bool,
+    pub(crate) names_us: bool,
+}
 
 /// What a line tells, with names as they are spelled.
 #[derive(Clone, Copy)]
@@ -19,22 +27,31 @@ pub(crate) enum Telling<'a> {
     Welcomed(&'a [u8]),
     /// A JOIN without a channel or a nameable actor: the settings are fixed from here on.
     Settles,
-    /// `:bob!b@h JOIN #c`: channel and person.
-    Joined(&'a [u8], &'a [u8]),
+    /// `:bob!b@h JOIN #c bobacc :Bob`: channel and person; the account, where the line tells one, or that
+    /// there is none.
+    Joined(&'a [u8], &'a [u8], Option<Option<&'a [u8]>>),
     /// `:bob!b@h PART #c`: channel and person.
     Parted(&'a [u8], &'a [u8]),
+    /// `:s KICK #c bob`: channel and person.
+    Kicked(&'a [u8], &'a [u8]),
+    /// `:bob!b@h QUIT`: person.
+    Quits(&'a [u8]),
+    /// `:bob!b@h NICK rob`: the old name and the new one.
+    Renamed(&'a [u8], &'a [u8]),
 }
 
 impl<'a> Telling<'a> {
-    ghost use Rattle.std.specs.Prelude.{◌≡◌, option_map};
-    ghost use Rattle.net_view.specs.Tells.{settles_said, welcome_said};
+    ghost use Rattle.std.specs.Prelude.{◌≡◌, [], option_map};
+    ghost use Rattle.irc_support.specs.Settings.{key_by};
+    ghost use Rattle.net_view.specs.Tells.{doer, meant, own_said, person_named, settles_said};
 
-    /// The nick under which it welcomes us.
-    pub(crate) fn welcome(self) -> Option<&'a [u8]>
-        ensures { option_map (λ nick. nick.now) result ≡ welcome_said self.entry }
+    /// The nick that is ours from here on, where it says one.
+    pub(crate) fn own(self, marks: Marks) -> Option<&'a [u8]>
+        ensures { option_map (λ nick. nick.now) result ≡ own_said marks self.entry }
     {
         match self {
             Telling::Welcomed(nick) => Some(nick),
+            Telling::Renamed(_, new) if marks.by_us => Some(new),
             _ => None,
         }
     }
@@ -45,7 +62,30 @@ impl<'a> Telling<'a> {
     {
         match self {
             Telling::Welcomed(_) => Some(false),
-            Telling::Joined(_, _) | Telling::Settles => Some(true),
+            Telling::Joined(_, _, _) | Telling::Settles => Some(true),
+            _ => None,
+        }
+    }
+
+    /// The person that the line comes from, where it turns on that.
+    pub(crate) fn doer(self) -> Option<&'a [u8]>
+        ensures { option_map (λ nick. key_by [] nick.now) result ≡ doer (meant self.entry) }
+    {
+        match self {
+            Telling::Joined(_, who, _)
+            | Telling::Parted(_, who)
+            | Telling::Quits(who)
+            | Telling::Renamed(who, _) => Some(who),
+            _ => None,
+        }
+    }
+
+    /// The person that the line names, where it turns on that.
+    pub(crate) fn person_named(self) -> Option<&'a [u8]>
+        ensures { option_map (λ nick. key_by [] nick.now) result ≡ person_named (meant self.entry) }
+    {
+        match self {
+            Telling::Kicked(_, who) | Telling::Renamed(_, who) => Some(who),
             _ => None,
         }
     }
@@ -55,7 +95,12 @@ impl<'a> Telling<'a> {
 pub(crate) fn is_state_line<A: Allocator>(line: &Line<A>) -> bool
     ensures { result ≡ is_state_line line.now }
 {
-    line.is(b"001") || line.is(b"JOIN") || line.is(b"PART")
+    line.is(b"001")
+        || line.is(b"JOIN")
+        || line.is(b"PART")
+        || line.is(b"KICK")
+        || line.is(b"QUIT")
+        || line.is(b"NICK")
 }
 
 /// The nick of the source, where it is nameable.
@@ -68,7 +113,7 @@ fn actor<A: Allocator>(line: &Line<A>) -> Option<&[u8]>
 
 /// What a `001` tells.
 fn told_by_welcome<A: Allocator>(line: &Line<A>) -> Telling<'_>
-    ensures { Tells result (told_by_welcome [] line.now) }
+    ensures { meant result ≡ told_by_welcome [] line.now }
 {
     let Some(nick) = line.param(0) else {
         return Telling::Silent;
@@ -80,9 +125,33 @@ fn told_by_welcome<A: Allocator>(line: &Line<A>) -> Telling<'_>
     }
 }
 
+/// Whether the text can stand as a parameter with others behind it.
+fn is_word(text: &[u8]) -> bool
+    ensures { result ≡ is_word text.now }
+{
+    match text {
+        [] | [b':', ..] => false,
+        _ => !text.contains(&b' '),
+    }
+}
+
+/// The account that a parameter tells, where it is a word; `*` tells that there is none.
+fn account_said(text: &[u8]) -> Option<Option<&[u8]>>
+    ensures { option_map (option_map (λ name. name.now)) result ≡ account_said text.now }
+{
+    if !is_word(text) {
+        return None;
+    }
+    if text == b"*".as_slice() {
+        Some(None)
+    } else {
+        Some(Some(text))
+    }
+}
+
 /// What a JOIN tells.
 fn told_by_join<A: Allocator>(line: &Line<A>) -> Telling<'_>
-    ensures { Tells result (told_by_join [] line.now) }
+    ensures { meant result ≡ told_by_join [] line.now }
 {
     let Some(channel) = line.param(0) else {
         return Telling::Settles;
@@ -90,12 +159,16 @@ fn told_by_join<A: Allocator>(line: &Line<A>) -> Telling<'_>
     let Some(who) = actor(line) else {
         return Telling::Settles;
     };
-    Telling::Joined(channel, who)
+    let account = match line.param(1) {
+        Some(text) => account_said(text),
+        None => None,
+    };
+    Telling::Joined(channel, who, account)
 }
 
 /// What a PART tells.
 fn told_by_part<A: Allocator>(line: &Line<A>) -> Telling<'_>
-    ensures { Tells result (told_by_part [] line.now) }
+    ensures { meant result ≡ told_by_part [] line.now }
 {
     let Some(channel) = line.param(0) else {
         return Telling::Silent;
@@ -106,9 +179,53 @@ fn told_by_part<A: Allocator>(line: &Line<A>) -> Telling<'_>
     Telling::Parted(channel, who)
 }
 
+/// What a KICK tells.
+fn told_by_kick<A: Allocator>(line: &Line<A>) -> Telling<'_>
+    ensures { meant result ≡ told_by_kick [] line.now }
+{
+    let Some(channel) = line.param(0) else {
+        return Telling::Silent;
+    };
+    let Some(nick) = line.param(1) else {
+        return Telling::Silent;
+    };
+    if is_nameable(nick) {
+        Telling::Kicked(channel, nick)
+    } else {
+        Telling::Silent
+    }
+}
+
+/// What a QUIT tells.
+fn told_by_quit<A: Allocator>(line: &Line<A>) -> Telling<'_>
+    ensures { meant result ≡ told_by_quit [] line.now }
+{
+    match actor(line) {
+        Some(who) => Telling::Quits(who),
+        None => Telling::Silent,
+    }
+}
+
+/// What a NICK tells.
+fn told_by_nick<A: Allocator>(line: &Line<A>) -> Telling<'_>
+    ensures { meant result ≡ told_by_nick [] line.now }
+{
+    let Some(nick) = line.param(0) else {
+        return Telling::Silent;
+    };
+    let Some(who) = actor(line) else {
+        return Telling::Silent;
+    };
+    if is_nameable(nick) {
+        Telling::Renamed(who, nick)
+    } else {
+        Telling::Silent
+    }
+}
+
 /// What the line tells under the default settings.
 pub(crate) fn told<A: Allocator>(line: &Line<A>) -> Telling<'_>
-    ensures { Tells result (told [] (Received line.now)) }
+    ensures { meant result ≡ told [] (Received line.now) }
 {
     if line.is(b"001") {
         return told_by_welcome(line);
@@ -118,6 +235,15 @@ pub(crate) fn told<A: Allocator>(line: &Line<A>) -> Telling<'_>
     }
     if line.is(b"PART") {
         return told_by_part(line);
+    }
+    if line.is(b"KICK") {
+        return told_by_kick(line);
+    }
+    if line.is(b"QUIT") {
+        return told_by_quit(line);
+    }
+    if line.is(b"NICK") {
+        return told_by_nick(line);
     }
     Telling::Silent
 }

@@ -1,11 +1,12 @@
 use Rattle.std.proofs.Common.{◌≡◌, ◌≤◌, take, length}
 use Rattle.net_view.specs.Transcript.{is_ready}
-use Rattle.net_view.specs.Tape.{tape_of}
+use Rattle.net_view.specs.Tape.{tape_of, IsMarkedTape}
 use Rattle.net_view.proofs.tape.ready_in.Given as goal
 
 abbrev pub invariant-loop-i : goal.invariant-loop-i
 invariant-loop-i g l = record {
   within : l.i ≤ length l.kept;
+  marked : IsMarkedTape (take l.i l.kept);
   rest : is_ready (tape_of l.kept) ≡ is_ready (tape_of (take l.i l.kept));
 }
 

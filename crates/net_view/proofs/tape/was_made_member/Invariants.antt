@@ -1,8 +1,7 @@
 use Rattle.std.proofs.Common.{◌≡◌, ◌≤◌, [], take, length}
-use Rattle.std.specs.Option.{option_map}
 use Rattle.irc_support.specs.Settings.{key_by}
-use Rattle.net_view.specs.Transcript.{own_nick, readings_of}
-use Rattle.net_view.specs.Tape.{tape_of}
+use Rattle.net_view.specs.Transcript.{readings_of}
+use Rattle.net_view.specs.Tape.{tape_of, IsMarkedTape}
 use Rattle.net_view.proofs.TapeMembers.{was_made}
 use Rattle.net_view.proofs.TapeBack.{line_at}
 use Rattle.net_view.proofs.tape.was_made_member.Given as goal
@@ -10,8 +9,8 @@ use Rattle.net_view.proofs.tape.was_made_member.Given as goal
 abbrev pub invariant-loop-i : goal.invariant-loop-i
 invariant-loop-i g l = record {
   within : l.i ≤ length l.kept;
-  own : option_map (λ o. o.now) l.own ≡ own_nick (tape_of (take l.i l.kept));
-  rest : was_made (readings_of (tape_of l.kept)) (key_by [] l.channel) (key_by [] l.nick) ≡ was_made (line_at l.kept l.i) (key_by [] l.channel) (key_by [] l.nick);
+  marked : IsMarkedTape (take l.i l.kept);
+  rest : was_made (readings_of (tape_of l.kept)) (key_by [] l.channel) (key_by [] l.initial.nick) ≡ was_made (line_at l.kept l.i) (key_by [] l.channel) (key_by [] l.nick);
 }
 
 abbrev pub decreases-loop-i : goal.decreases-loop-i
