@@ -23,7 +23,7 @@ stays_on x older c none on =
     let said : Option Text → Bool → Option (Option Text) = λ begun ended. cond ended (Some None) (option_map Some begun) in
     let answer : Option (Option Text) → Bool = λ s. is_some (unwrap_or (option_or s (last (says_on c) older)) None) in
     elim (ends (ours x) x.told c) as (λ b. answer (said None b) ≡ true → is_on older c ≡ true) [ true ↦ λ e. absurd (no_true e) | false ↦ λ e. e ]
-        (ap (λ o. answer (said o (ends (ours x) x.told c))) (sym none) ∙ on)
+    (ap (λ o. answer (said o (ends (ours x) x.told c))) (sym none) ∙ on)
 
 -- ---- a member of a channel
 

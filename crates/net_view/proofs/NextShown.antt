@@ -117,7 +117,7 @@ next_loop there shown ks i k r after best new old lt at tells is =
     let t = told [] (Received k.line) in
     let whole = is ∙ ap (λ u. considered there after best (names_in shown u)) tells in
     subst (λ s. IsNextOf there s after new) (sym (named_more shown ks i k lt at))
-        (subst (λ b. IsNextOf there (names_in shown t ++ seen) after b) (sym whole) (next_named there (names_in shown t) seen after best (one_named shown t (told_read [] k.line)) old))
+    (subst (λ b. IsNextOf there (names_in shown t ++ seen) after b) (sym whole) (next_named there (names_in shown t) seen after best (one_named shown t (told_read [] k.line)) old))
 
 -- what is shown was named
 covers_shown : (shown : Shown) (rs : List Reading) (c : Text) → list_any (same c) (named (names_in shown) rs) ≡ false → is_shown shown rs c ≡ false

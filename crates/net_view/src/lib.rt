@@ -22,3 +22,6 @@ pub use laws::{
 pub use network_view::NetworkView;
 pub use std::alloc::AllocError as OutOfMemory;
 pub use tape_view::TapeView;
+
+#[cfg(test)]
+mod tests;

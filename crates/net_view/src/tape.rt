@@ -109,24 +109,13 @@ fn says_on<'a>(telling: Telling<'a>, marks: Marks, channel: &[u8]) -> Option<Opt
                 None
             }
         }
-        Telling::Quits(_) => {
-            if marks.by_us {
-                Some(None)
-            } else {
-                None
-            }
-        }
+        Telling::Quits(_) => { if marks.by_us { Some(None) } else { None } }
         _ => None,
     }
 }
 
 /// What a line says of a person's being a member of a channel.
-fn says_member(
-    telling: Telling<'_>,
-    marks: Marks,
-    channel: &[u8],
-    nick: &[u8],
-) -> Option<bool>
+fn says_member(telling: Telling<'_>, marks: Marks, channel: &[u8], nick: &[u8]) -> Option<bool>
     ensures { (us : Text → Bool) → IsMarked us (meant telling.entry) marks →
         result ≡ says_member (key_by [] channel.now) us (meant telling.entry) (key_by [] nick.now) }
 {

@@ -6,7 +6,9 @@ use crate::OutOfMemory;
 use crate::channel::{Channel, Member};
 use crate::item::Item;
 use crate::network_view::NetworkView;
-use crate::tape::{Kept, Shown, marks_of, name_on, own_in, ready_in, shown_at, shown_count, spelling_in};
+use crate::tape::{
+    Kept, Shown, marks_of, name_on, own_in, ready_in, shown_at, shown_count, spelling_in,
+};
 use crate::told::{is_state_line, told};
 use std::alloc::{Allocator, Global};
 use std::marker::Model;
@@ -55,7 +57,11 @@ impl<A: Allocator + Copy> NetworkView for TapeView<A> {
                 if is_state_line(line) {
                     let marks = marks_of(told(line), own_in(&self.kept));
                     let line = line.copy_in(*self.kept.allocator())?;
-                    self.kept.push(Kept { line, marks, lost: false })?;
+                    self.kept.push(Kept {
+                        line,
+                        marks,
+                        lost: false,
+                    })?;
                 }
             }
             Item::Lost => {
