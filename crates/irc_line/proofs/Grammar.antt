@@ -8,16 +8,13 @@ use Rattle.std.specs.Char.{is_ascii_digit, is_ascii_alphabetic}
 use Rattle.irc_line.specs.Line.{Parts, is_space, is_line_byte, is_command}
 use Rattle.irc_line.specs.Reading.{trimmed, token, after_token, marked, after_marked, params_at, untagged, body, parts_of, is_line, line_of}
 use Rattle.irc_line.specs.Grammar.{AreSpaces, IsGap, IsWord, SpellsMarked, SpellsParams, Spells}
-use Rattle.irc_line.proofs.Params.{sure, params-in_word}
+use Rattle.irc_line.proofs.ParamScan.{sure, params-in_word}
 use Rattle.irc_line.proofs.Tokens.{token-append}
 
 -- what follows a token: nothing, or a space first
 abbrev pub Stops : List ℕ → Type 0
 Stops [] = Unit {0}
 Stops (b ∷ bs) = is_space b ≡ true
-
-NoSpace : List ℕ → Type 0
-NoSpace text = AllByRecursion (λ b. is_space b ≡ false) text
 
 -- FROM THE GRAMMAR: what a text of the grammar is read as
 

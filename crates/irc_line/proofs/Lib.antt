@@ -1,6 +1,6 @@
 pub mod First
 pub mod Tokens
-pub mod Params
+pub mod ParamScan
 pub mod Segments
 pub mod Pieces
 pub mod Grammar

@@ -5,7 +5,7 @@ use Rattle.std.proofs.lemmas.Bool.{lt-ltb, le-ltb, ltb-false, eqb-true, false_fr
 use Rattle.std.proofs.lemmas.List.{length-take-le, get_or-take, take-append-drop}
 use Rattle.std.specs.List.{list_any}
 use Rattle.irc_line.specs.Lines.{HasNoLf, segments_of, rest_of, the_last, line_limit, is_too_long}
-use Rattle.irc_line.proofs.Params.{sure}
+use Rattle.irc_line.proofs.ParamScan.{sure}
 use Rattle.irc_line.proofs.Segments.{segments-some, segments-behind}
 
 abbrev pub is_long : List ℕ → Bool

@@ -7,7 +7,7 @@ use Rattle.std.proofs.lemmas.List.Sums.{sum_by-cons}
 use Rattle.std.specs.List.{position, position_or_len, slice_split, onto_first, cons_option}
 use Rattle.irc_line.specs.Reading.{line_of}
 use Rattle.irc_line.specs.Lines.{HasNoLf, segments_of, all_but_last, the_last, ended_of, rest_of, lines_of, skipped_of, without_cr, is_skipped}
-use Rattle.irc_line.proofs.Params.{sure}
+use Rattle.irc_line.proofs.ParamScan.{sure}
 use Rattle.irc_line.proofs.Tokens.{none-at, some-at}
 
 -- the place of a byte is its first, and within the text

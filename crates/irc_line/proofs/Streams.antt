@@ -3,7 +3,7 @@ use Rattle.std.proofs.Common.{◌≡◌, ℕ, List, [], ◌∷◌, ◌++◌, ref
 use Rattle.std.proofs.lemmas.Bool.{eqb-true}
 use Rattle.std.specs.List.{AllByRecursion, flat_map}
 use Rattle.irc_line.specs.Lines.{HasNoLf, with_lf, segments_of, all_but_last, the_last, ended_of, rest_of}
-use Rattle.irc_line.proofs.Params.{sure}
+use Rattle.irc_line.proofs.ParamScan.{sure}
 use Rattle.irc_line.proofs.Segments.{segments-some, segments-behind, ended-cons, last-cons}
 
 -- what was cut is put together again

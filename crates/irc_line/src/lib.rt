@@ -3,12 +3,14 @@
 
 pub mod laws;
 mod line;
+mod param_list;
 mod scan;
 mod splitter;
 mod tags;
 mod writing;
 
 pub use line::{Line, MakeError};
+pub use param_list::Params;
 pub use splitter::{FeedError, LINE_LIMIT, Splitter};
 pub use std::alloc::AllocError as OutOfMemory;
 

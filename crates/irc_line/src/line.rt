@@ -9,6 +9,7 @@ ghost use Rattle.irc_line.specs.Tags.{time_of};
 ghost use Rattle.irc_line.specs.Writing.{param_text, text_of, written, is_writable, untagged_line, retagged, is_part};
 
 use crate::OutOfMemory;
+use crate::param_list::Params;
 use crate::scan::{
     count_params, is_a_command, is_clean, nick, nth_param, split_marked, split_token, trim,
 };
@@ -181,8 +182,16 @@ impl<A: Allocator> Line<A> {
         self.command().eq_ignore_ascii_case(command)
     }
 
+    /// The parameters in order, a last one without its colon: of `PRIVMSG #c :hi all` those are `#c` and
+    /// `hi all`. It takes no memory, and going over all of them is one pass over the line.
+    pub fn params(&self) -> Params<'_>
+        ensures { result ≡ self.now.params }
+    {
+        Params::of(split_token(&self.text[self.command_at..]).1)
+    }
+
     /// The parameter at this place, counted from 0, a last one without its colon; `None` from
-    /// `param_count` on.
+    /// `param_count` on. It looks from the first parameter on: to go over all, take `params`.
     pub fn param(&self, place: usize) -> Option<&[u8]>
         ensures { option_map (λ param. param.now) result ≡ slice_get self.now.params place }
     {

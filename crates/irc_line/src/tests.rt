@@ -4,7 +4,7 @@ use super::*;
 use std::alloc::Global;
 use std::test::Fail;
 
-type Params = &'static [&'static [u8]];
+type Texts = &'static [&'static [u8]];
 
 fn line(alloc: Global, text: &[u8]) -> Result<Line, Fail> {
     let line = Line::<Global>::read(alloc, text)?;
@@ -19,7 +19,7 @@ fn written(alloc: Global, line: &Line) -> Result<Vec<u8>, Fail> {
 
 #[test]
 fn texts_and_their_parts(rt: HostRuntime) -> Result<(), Fail> {
-    let rows: [(&[u8], Option<&[u8]>, Option<&[u8]>, &[u8], Params); 14] = [
+    let rows: [(&[u8], Option<&[u8]>, Option<&[u8]>, &[u8], Texts); 14] = [
         (b"PING", None, None, b"PING", &[]),
         (b"PING x", None, None, b"PING", &[b"x"]),
         (b"001", None, None, b"001", &[]),
@@ -52,6 +52,11 @@ fn texts_and_their_parts(rt: HostRuntime) -> Result<(), Fail> {
         assert!(rt; line.tags() == tags);
         assert!(rt; line.source() == source);
         assert!(rt; line.command() == command);
+        let mut left = params.iter();
+        for param in line.params() {
+            assert!(rt; left.next().copied() == Some(param));
+        }
+        assert!(rt; left.next().is_none());
         assert_eq!(rt; line.param_count(), params.len());
         for place in 0..16 {
             assert!(rt; line.param(place) == params.get(place).copied());
@@ -186,7 +191,7 @@ fn a_line_at_the_limit_and_one_above(rt: HostRuntime) -> Result<(), Fail> {
 
 #[test]
 fn lines_made_and_written(rt: HostRuntime) -> Result<(), Fail> {
-    let rows: [(Option<&[u8]>, &[u8], Params, &[u8]); 7] = [
+    let rows: [(Option<&[u8]>, &[u8], Texts, &[u8]); 7] = [
         (None, b"PING", &[], b"PING\r\n"),
         (
             Some(b"a"),
@@ -214,7 +219,7 @@ fn lines_made_and_written(rt: HostRuntime) -> Result<(), Fail> {
 
 #[test]
 fn parts_that_are_no_line(rt: HostRuntime) {
-    let rows: [(Option<&[u8]>, &[u8], Params); 11] = [
+    let rows: [(Option<&[u8]>, &[u8], Texts); 11] = [
         (None, b"PRIVMSG", &[b"#a b", b"x"]),
         (None, b"PRIVMSG", &[b"", b"x"]),
         (None, b"PRIVMSG", &[b":a", b"x"]),

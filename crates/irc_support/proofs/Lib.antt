@@ -5,5 +5,5 @@ pub mod WordCuts
 pub mod SymbolRun
 pub mod Spelling
 pub mod TokenTable
-pub mod ParamRest
+pub mod PreparedEdits
 mod Rows

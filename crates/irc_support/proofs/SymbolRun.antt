@@ -1,5 +1,5 @@
 -- The symbols at the front of a word, one by one.
-use Rattle.std.proofs.Common.{◌≡◌, ℕ, suc, ◌-◌, ◌<◌, Bool, true, false, ◌||◌, ◌==◌, List, [], ◌∷◌, ◌++◌, length, get_or, take, drop, Some, None, is_some, sym, ap, ◌∙◌, arith, refl, append_assoc, append-nil}
+use Rattle.std.proofs.Common.{◌≡◌, ℕ, suc, ◌-◌, ◌<◌, Bool, true, false, ◌||◌, ◌==◌, List, [], ◌∷◌, ◌++◌, length, get_or, take, drop, Some, is_some, sym, ap, ◌∙◌, arith, refl, append_assoc}
 use Rattle.std.specs.Option.{option_map_or}
 use Rattle.std.proofs.lemmas.List.{take_all}
 use Rattle.std.proofs.lemmas.List.Sums.{take_while-cons}
@@ -9,7 +9,7 @@ use Rattle.irc_support.specs.Tokens.{Token}
 use Rattle.irc_support.specs.Ranking.{rank_of_symbol}
 use Rattle.irc_support.specs.Ranks.{ranks_that, has_rank}
 use Rattle.irc_support.specs.NamesReply.{is_rank_symbol, symbols_before, after_symbols, shows_rank}
-use Rattle.irc_support.proofs.RankSets.{ranks_that_agree, ranks_that_none, has_rank-ranks_that}
+use Rattle.irc_support.proofs.RankSets.{ranks_that_agree, has_rank-ranks_that}
 
 -- the symbols that were read, and what is left of the word
 pub record Reads (settings : List Token) (word : Text) (ranks : List ℕ) (rest read : Text) : Type 0 where
@@ -19,16 +19,6 @@ pub record Reads (settings : List Token) (word : Text) (ranks : List ℕ) (rest 
 
 abbrev pub ReadsSome : List Token → Text → List ℕ → Text → Type 0
 ReadsSome settings word ranks rest = (read : Text) × Reads settings word ranks rest read
-
-pub reads_none : (settings : List Token) (word : Text) (ranks : List ℕ) → ranks ≡ [] → ReadsSome settings word ranks word
-reads_none settings word ranks none = (
-  [],
-  record {
-    symbols = refl;
-    behind = refl;
-    shown = none ∙ sym (ranks_that_none (shows_rank settings []) (λ r small. refl));
-  },
-)
 
 is_symbol : (settings : List Token) (b rank : ℕ) → rank_of_symbol settings b ≡ Some rank → is_rank_symbol settings b ≡ true
 is_symbol settings b rank found = ap is_some found
@@ -59,18 +49,6 @@ reads_more settings word ranks rest b more rank ranks' is found put so_far =
         shown = put ∙ ranks_that_agree _ _ (λ r small. rw (so_far.1.shown, has_rank-ranks_that (shows_rank settings read) r small) (shows_rank-push settings read b rank r found));
       },
     )
-
--- no symbol is left at the front
-pub reads_all : (settings : List Token) (word : Text) (ranks : List ℕ) (rest : Text) → symbols_before settings rest ≡ [] → ReadsSome settings word ranks rest → (ranks ≡ ranks_that (shows_rank settings (symbols_before settings word))) × (rest ≡ after_symbols settings word)
-reads_all settings word ranks rest none so_far =
-    let read = so_far.0 in
-    let whole : symbols_before settings word ≡ read = so_far.1.symbols ∙ ap (λ (t : Text). read ++ t) none ∙ append-nil read in
-    (so_far.1.shown ∙ ap (λ (t : Text). ranks_that (shows_rank settings t)) (sym whole), sym (so_far.1.behind ∙ ap (λ (t : Text). drop (length t) rest) none))
-
-pub none_before : (settings : List Token) (rest : Text) (b : ℕ) (more : Text) → rest ≡ b ∷ more → rank_of_symbol settings b ≡ None → symbols_before settings rest ≡ []
-none_before settings rest b more is none =
-    let no_symbol : is_rank_symbol settings b ≡ false = ap is_some none in
-    rw (is, take_while-cons (is_rank_symbol settings) b more, no_symbol) refl
 
 -- a text by its first byte
 pub uncons : (text : Text) (d : ℕ) → 0 < length text → text ≡ get_or text 0 d ∷ take (length text - 1) (drop 1 text)

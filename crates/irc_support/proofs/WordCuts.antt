@@ -39,7 +39,3 @@ words_between-cut text = elim (sure (nat_lt (position_or_len is_gap text) (lengt
 pub cut_word : (text word rest : Text) → word ≡ (cut_at 32 text).0 → rest ≡ unwrap_or (cut_at 32 text).1 [] → (length word == 0) ≡ false → words_between text ≡ word ∷ words_between rest
 cut_word text word rest w r some =
     words_between-cut text ∙ rw (← w, ← r, some) refl
-
-pub cut_gap : (text word rest : Text) → word ≡ (cut_at 32 text).0 → rest ≡ unwrap_or (cut_at 32 text).1 [] → (length word == 0) ≡ true → words_between text ≡ words_between rest
-cut_gap text word rest w r none =
-    words_between-cut text ∙ rw (← w, ← r, none) refl

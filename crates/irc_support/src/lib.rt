@@ -8,7 +8,6 @@ mod laws;
 mod mode_changes;
 mod name_list;
 mod names_reply;
-mod params;
 mod prefix;
 mod ranks;
 mod support;

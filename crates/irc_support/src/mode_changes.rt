@@ -1,6 +1,6 @@
 //! The changes of MODE (RFC 2812, section 3.2.3) and of 324 RPL_CHANNELMODEIS (section 5.1).
 
-ghost use Rattle.std.specs.Prelude.{◌≡◌, ◌≤◌, true, drop};
+ghost use Rattle.std.specs.Prelude.{◌≡◌, true, drop};
 ghost use Rattle.std.specs.Iterator.{YieldsFirstBy, item_count};
 ghost use Rattle.irc_support.specs.ModeChanges as parsed;
 ghost use Rattle.irc_support.specs.ModeChanges.{signed, with_params};
@@ -8,8 +8,7 @@ ghost use Rattle.irc_support.specs.Line.{changes_in};
 ghost use Rattle.irc_support.specs.ChangeShown.{shown_change};
 
 use crate::Support;
-use crate::params::{next_param, param_or_empty};
-use irc_line::Line;
+use irc_line::{Line, Params};
 use std::alloc::{Allocator, Global};
 use std::marker::Model;
 
@@ -26,29 +25,24 @@ pub struct Change<'a> {
 
 /// The changes that a line lists, in their order. See [`changes`].
 #[derive(Drop)]
-pub struct ModeChanges<'a, A: Allocator = Global, B: Allocator = Global> {
+pub struct ModeChanges<'a, A: Allocator = Global> {
     support: &'a Support<A>,
-    // the sign and the letters that are left
+    // the sign, and the letters and the parameters that are left
     plus: bool,
     letters: &'a [u8],
-    line: &'a Line<B>,
-    // where the next parameter stands, and how many there are
-    place: usize,
-    count: usize,
+    params: Params<'a>,
 }
 
-impl<'a, A: Allocator, B: Allocator> Model for ModeChanges<'a, A, B> {
-    ghost use Rattle.std.specs.Prelude.{◌≡◌, List, drop, length};
+impl<'a, A: Allocator> Model for ModeChanges<'a, A> {
+    ghost use Rattle.std.specs.Prelude.{List};
     ghost use Rattle.irc_support.specs.ModeChanges.{ChangeParts, signed, with_params};
 
     ghost Value = { List ChangeParts };
 
-    ghost view = { λ s. with_params s.support.now (signed s.plus s.letters.now) (drop s.place s.line.now.params) };
-
-    ghost invariant = { λ s. s.count ≡ length s.line.now.params };
+    ghost view = { λ s. with_params s.support.now (signed s.plus s.letters.now) s.params };
 }
 
-impl<'a, A: Allocator, B: Allocator> Iterator for ModeChanges<'a, A, B> {
+impl<'a, A: Allocator> Iterator for ModeChanges<'a, A> {
     type Item = Change<'a>;
 
     ghost next_gives = { YieldsFirstBy shown_change (λ left. left) };
@@ -65,7 +59,7 @@ impl<'a, A: Allocator, B: Allocator> Iterator for ModeChanges<'a, A, B> {
                     let plus = self.plus;
                     let mut param = None;
                     if self.support.kind(letter).takes_parameter(plus) {
-                        (param, self.place) = next_param(self.line, self.place, self.count);
+                        param = self.params.next();
                     }
                     return Some(Change {
                         plus,
@@ -79,22 +73,19 @@ impl<'a, A: Allocator, B: Allocator> Iterator for ModeChanges<'a, A, B> {
     }
 }
 
-/// The changes of these letters, which take what stands from this place on.
-fn changes_of<'a, A: Allocator, B: Allocator>(
+/// The changes of these letters, which take these parameters.
+fn changes_of<'a, A: Allocator>(
     support: &'a Support<A>,
     letters: &'a [u8],
-    line: &'a Line<B>,
-    place: usize,
-) -> ModeChanges<'a, A, B>
-    ensures { result ≡ with_params support.now (signed true letters.now) (drop place line.now.params) }
+    params: Params<'a>,
+) -> ModeChanges<'a, A>
+    ensures { result ≡ with_params support.now (signed true letters.now) params.entry }
 {
     ModeChanges {
         support,
         plus: true,
         letters,
-        line,
-        place,
-        count: line.param_count(),
+        params,
     }
 }
 
@@ -103,11 +94,12 @@ fn changes_from<'a, A: Allocator, B: Allocator>(
     support: &'a Support<A>,
     line: &'a Line<B>,
     place: usize,
-) -> ModeChanges<'a, A, B>
-    requires { place ≤ 2 }
+) -> ModeChanges<'a, A>
     ensures { result ≡ parsed.changes support.now (drop place line.now.params) }
 {
-    changes_of(support, param_or_empty(line, place), line, place + 1)
+    let mut params = line.params();
+    let letters = params.nth(place).unwrap_or(&[]);
+    changes_of(support, letters, params)
 }
 
 /// The changes that a MODE or a 324 line lists, read by these settings: none for any other line. It takes
@@ -120,7 +112,7 @@ fn changes_from<'a, A: Allocator, B: Allocator>(
 pub fn changes<'a, A: Allocator, B: Allocator>(
     support: &'a Support<A>,
     line: &'a Line<B>,
-) -> ModeChanges<'a, A, B>
+) -> ModeChanges<'a, A>
     ensures { result ≡ changes_in support.now line.now }
 {
     if line.is(b"MODE") {
@@ -128,6 +120,6 @@ pub fn changes<'a, A: Allocator, B: Allocator>(
     } else if line.is(b"324") {
         changes_from(support, line, 2)
     } else {
-        changes_of(support, b"", line, 0)
+        changes_of(support, b"", line.params())
     }
 }

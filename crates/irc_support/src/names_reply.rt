@@ -5,7 +5,6 @@ ghost use Rattle.irc_support.specs.Line.{words_in};
 
 use crate::Support;
 use crate::name_list::Names;
-use crate::params::param_or_empty;
 use irc_line::Line;
 use std::alloc::Allocator;
 
@@ -23,7 +22,7 @@ pub fn names<'a, A: Allocator, B: Allocator>(
     ensures { result ≡ words_in support.now line.now }
 {
     if line.is(b"353") {
-        Names::of(support, param_or_empty(line, 3))
+        Names::of(support, line.param(3).unwrap_or(&[]))
     } else {
         Names::of(support, &[])
     }

@@ -59,11 +59,10 @@ pub fn edits<A: Allocator + Copy, B: Allocator>(
     ensures { IfOk result (λ edits. (settings : List Token) → fold edited settings edits.items ≡ fold after_param settings (token_params line.now.params)) }
 {
     let mut edits = Vec::new(alloc);
-    for place in 1..line.param_count().saturating_sub(1) {
-        if let Some(param) = line.param(place) {
-            if let Some(edit) = edit_of(alloc, param)? {
-                edits.push(edit)?;
-            }
+    let count = line.param_count().saturating_sub(2);
+    for param in line.params().skip(1).take(count) {
+        if let Some(edit) = edit_of(alloc, param)? {
+            edits.push(edit)?;
         }
     }
     Ok(edits)

@@ -1,7 +1,7 @@
-use Rattle.std.proofs.Common.{◌∙◌}
-use Rattle.irc_support.proofs.ChangesLeft.{changes_left-start}
+use Rattle.std.proofs.Common.{◌∙◌, refl}
+use Rattle.irc_support.proofs.ChangesLeft.{changes-nth}
 use Rattle.irc_support.proofs.mode_changes.changes_from.Goals as goal
 
 pub returns : goal.returns
 returns g c =
-    c.changes_of.ensures ∙ changes_left-start c.args.support.now c.args.line.now.params c.args.place _ c.param_or_empty.ensures
+    c.changes_of.ensures ∙ rw (c.unwrap_or-letters.ensures, ← c.params-params.ensures) (changes-nth c.args.support.now c.params-params.result c.args.place c.nth.result c.nth.new.self _ refl c.nth.ensures.ran)

@@ -1,5 +1,6 @@
-use Rattle.irc_support.proofs.ParamRest.{Prepares}
+use Rattle.std.proofs.Common.{map}
+use Rattle.irc_support.proofs.PreparedEdits.{Prepares}
 use Rattle.irc_support.proofs.tokens.edits.Given as goal
 
-abbrev pub invariant-loop-place : goal.invariant-loop-place
-invariant-loop-place g l = Prepares l.edits.items l.place l.line.params
+abbrev pub invariant-loop-param : goal.invariant-loop-param
+invariant-loop-param g l = Prepares l.edits.items (map (λ p. p.now) l.yielded)

@@ -1,6 +1,5 @@
 -- The parameters of a text, taken one by one from its front.
-use Rattle.std.proofs.Common.{◌≡◌, ℕ, suc, ◌+◌, ◌-◌, ◌<◌, ◌≤◌, Bool, true, false, List, [], ◌∷◌, length, drop, get_or, refl, ap, sym, ◌∙◌, arith, ◌==◌, ◌⊎◌, inl, inr}
-use Rattle.std.specs.Prelude.{slice_get}
+use Rattle.std.proofs.Common.{◌≡◌, ℕ, ◌<◌, ◌≤◌, Bool, true, false, List, [], ◌∷◌, length, drop, get_or, refl, ap, sym, ◌∙◌, arith, ◌==◌, ◌⊎◌, inl, inr}
 use Rattle.std.proofs.lemmas.Bool.{ne_eqb}
 use Rattle.irc_line.specs.Line.{is_space}
 use Rattle.irc_line.specs.Reading.{token, after_token, trimmed, params_at}
@@ -59,8 +58,3 @@ after_token-shorter text (b ∷ bs) e some =
     let short : length (b ∷ bs) ≤ length text = omega (arith, ap length e, EndsIn-length text (trimmed text) (trimmed-ends text)) in
     let behind : length (after_token bs) ≤ length bs = EndsIn-length bs (after_token bs) (after_token-ends bs) in
     rw space (omega arith)
-
--- the parameter at a place, from the parameters behind the first
-pub get-behind : (param : List ℕ) (params : List (List ℕ)) (place passed : ℕ) → passed < place → slice_get (param ∷ params) (place - passed) ≡ slice_get params (place - (passed + 1))
-get-behind param params place passed h =
-    let one : place - passed ≡ suc (place - (passed + 1)) = omega arith in rw one refl
