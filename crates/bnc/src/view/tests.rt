@@ -85,7 +85,7 @@ fn who_parts_is_gone(rt: HostRuntime) -> Result<(), Fail> {
     let alloc = rt.alloc();
     let input = format!(in alloc; "{JOINED}:bob!b@h PART #c\r\n")?;
     let report = report_on(alloc, input.as_bytes())?;
-    assert!(rt; report.as_slice() == b"nick Me\nchannel #c\nmember Me\n");
+    assert!(rt; report.as_slice() == "nick Me\nchannel #c\nmember Me\n".as_bytes());
     Ok(())
 }
 
@@ -94,7 +94,7 @@ fn names_that_differ_in_case_are_one(rt: HostRuntime) -> Result<(), Fail> {
     let input =
         b":s 001 Me :hi\r\n:s 005 Me PREFIX=(ov)@+ CHANTYPES=# :are supported\r\n:s 376 Me :end\r\n:Me!m@h JOIN #c\r\n:a[b!x@h JOIN #c\r\n:A{B!x@h PART #c\r\n";
     let report = report_on(rt.alloc(), input)?;
-    assert!(rt; report.as_slice() == b"nick Me\nchannel #c\nmember Me\n");
+    assert!(rt; report.as_slice() == "nick Me\nchannel #c\nmember Me\n".as_bytes());
     Ok(())
 }
 
@@ -110,7 +110,7 @@ fn an_input_in_two_pieces(rt: HostRuntime) -> Result<(), Fail> {
         };
         let mut out = Vec::new(alloc);
         run_view(alloc, &mut reader, &mut out)?;
-        assert!(rt; out.as_slice() == b"nick Me\n");
+        assert!(rt; out.as_slice() == "nick Me\n".as_bytes());
     }
     Ok(())
 }
@@ -125,7 +125,7 @@ fn lines_that_lie_across_pieces(rt: HostRuntime) -> Result<(), Fail> {
     input.push_str(":Me!m@h JOIN #c\r\n")?;
     assert!(rt; input.len() > 2 * PIECE);
     let report = report_on(alloc, input.as_bytes())?;
-    assert!(rt; report.as_slice() == b"nick Me\nchannel #c\nmember Me\n");
+    assert!(rt; report.as_slice() == "nick Me\nchannel #c\nmember Me\n".as_bytes());
     Ok(())
 }
 
@@ -142,7 +142,7 @@ fn a_line_may_have_16384_bytes(rt: HostRuntime) -> Result<(), Fail> {
         let done = run_view(alloc, &mut input.as_bytes(), &mut out);
         if is_short {
             assert!(rt; done.is_ok());
-            assert!(rt; out.as_slice() == b"no welcome\n");
+            assert!(rt; out.as_slice() == "no welcome\n".as_bytes());
         } else {
             assert!(rt; matches!(done, Err(Fault::LineTooLong)));
             assert!(rt; out.is_empty());
@@ -187,6 +187,6 @@ fn a_write_that_fails(rt: HostRuntime) -> Result<(), Fail> {
         limit: 100,
     };
     run_view(alloc, &mut JOINED.as_bytes(), &mut out)?;
-    assert!(rt; out.taken.as_slice() == b"nick Me\nchannel #c\nmember bob\nmember Me\n");
+    assert!(rt; out.taken.as_slice() == "nick Me\nchannel #c\nmember bob\nmember Me\n".as_bytes());
     Ok(())
 }
