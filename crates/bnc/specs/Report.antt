@@ -27,7 +27,10 @@ channels_lines v = flat_map (λ entry. channel_lines v entry.1) (entries v.chann
 
 -- our nick and our channels, where a network took us in
 abbrev pub view_lines : View → List Text
-view_lines v = elim v.own [ None ↦ codes "no welcome" ∷ [] | Some nick ↦ (codes "nick " ++ nick) ∷ channels_lines v ]
+view_lines v = elim v.own [
+  | None ↦ codes "no welcome" ∷ []
+  | Some nick ↦ (codes "nick " ++ nick) ∷ channels_lines v
+]
 
 -- how many lines were skipped, where there were any
 abbrev pub skipped_lines : ℕ → List Text

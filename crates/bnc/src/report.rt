@@ -4,7 +4,8 @@ ghost use Rattle.std.specs.Prelude.{◌≡◌, ◌++◌, [], IfOk, OnOk};
 ghost use Rattle.std.specs.Option.{option_map_or};
 ghost use Rattle.irc_line.specs.Lines.{with_lf};
 ghost use Rattle.net_view.specs.Readers.{channel_shown};
-ghost use Rattle.bnc.specs.Report.{channel_lines, channels_lines, member_lines, report_of, skipped_lines, text_of};
+ghost use Rattle.bnc.specs.Report.{channel_lines, channels_lines, member_lines};
+ghost use Rattle.bnc.specs.Report.{report_of, skipped_lines, text_of};
 
 use net_view::{NetworkView, OutOfMemory};
 use std::alloc::Global;
@@ -22,7 +23,8 @@ fn push_line(report: &mut Vec<u8>, label: &[u8], text: &[u8]) -> Result<(), OutO
 /// Adds the members of the channel at place `i`.
 fn push_members<V: NetworkView>(report: &mut Vec<u8>, view: &V, i: usize) -> Result<(), OutOfMemory>
     ensures { OnOk result (report.new.items ≡ report.old.items
-        ++ option_map_or (λ channel. text_of (member_lines (V.view view.now) channel)) (channel_shown (V.view view.now) i) []) }
+        ++ option_map_or (λ channel. text_of (member_lines (V.view view.now) channel))
+        (channel_shown (V.view view.now) i) []) }
 {
     for j in 0..view.member_count(i) {
         if let Some(member) = view.member_at(i, j) {
@@ -35,7 +37,8 @@ fn push_members<V: NetworkView>(report: &mut Vec<u8>, view: &V, i: usize) -> Res
 /// Adds the channel at place `i` with its members.
 fn push_channel<V: NetworkView>(report: &mut Vec<u8>, view: &V, i: usize) -> Result<(), OutOfMemory>
     ensures { OnOk result (report.new.items ≡ report.old.items
-        ++ option_map_or (λ channel. text_of (channel_lines (V.view view.now) channel)) (channel_shown (V.view view.now) i) []) }
+        ++ option_map_or (λ channel. text_of (channel_lines (V.view view.now) channel))
+        (channel_shown (V.view view.now) i) []) }
 {
     if let Some(channel) = view.channel_at(i) {
         push_line(report, b"channel ", channel.name)?;
@@ -46,7 +49,8 @@ fn push_channel<V: NetworkView>(report: &mut Vec<u8>, view: &V, i: usize) -> Res
 
 /// Adds all channels.
 fn push_channels<V: NetworkView>(report: &mut Vec<u8>, view: &V) -> Result<(), OutOfMemory>
-    ensures { OnOk result (report.new.items ≡ report.old.items ++ text_of (channels_lines (V.view view.now))) }
+    ensures { OnOk result (report.new.items
+        ≡ report.old.items ++ text_of (channels_lines (V.view view.now))) }
 {
     for i in 0..view.channel_count() {
         push_channel(report, view, i)?;

@@ -1,6 +1,6 @@
 //! `bnc view`: reads what a network sent, and reports what that says of the network.
 
-ghost use Rattle.std.specs.Prelude.{◌≡◌, ◌≢◌, ◌++◌, ◌∷◌, [], ℕ, List, false, map, IfErr, IfOk, OnOk, OnErr};
+ghost use Rattle.std.specs.Prelude.{◌≡◌, ◌≢◌, ◌++◌, [], ℕ, List, false, map, IfErr, IfOk, OnOk};
 ghost use Rattle.std.specs.Io.KnownBytes.{Appends, Consumes, IsAtEnd};
 ghost use Rattle.irc_line.specs.Lines.{counted, fed, is_too_long, skipped_of, start};
 ghost use Rattle.net_view.specs.Arrival.{Arrival, Received};
@@ -41,14 +41,15 @@ fn take_piece<V: NetworkView>(
     piece: &[u8],
 ) -> Result<(), Fault>
     requires no_lines { lines.old.items ≡ [] }
-    ensures taken { (bytes : List ℕ) → splitter.old ≡ fed start bytes → V.view view.old ≡ view_of (transcript_of bytes) →
+    ensures taken { (bytes : List ℕ) → splitter.old ≡ fed start bytes →
+        V.view view.old ≡ view_of (transcript_of bytes) →
         OnOk result (V.view view.new ≡ view_of (transcript_of (bytes ++ piece.now))) }
     ensures split { (bytes : List ℕ) → splitter.old ≡ fed start bytes →
         OnOk result (splitter.new ≡ fed start (bytes ++ piece.now)) }
-    ensures short { (bytes : List ℕ) → splitter.old ≡ fed start bytes → is_too_long bytes ≡ false →
-        OnOk result (is_too_long (bytes ++ piece.now) ≡ false) }
-    ensures refused { (bytes : List ℕ) → splitter.old ≡ fed start bytes → is_too_long bytes ≡ false →
-        IfErr result (IsRefusal (bytes ++ piece.now)) }
+    ensures short { (bytes : List ℕ) → splitter.old ≡ fed start bytes →
+        is_too_long bytes ≡ false → OnOk result (is_too_long (bytes ++ piece.now) ≡ false) }
+    ensures refused { (bytes : List ℕ) → splitter.old ≡ fed start bytes →
+        is_too_long bytes ≡ false → IfErr result (IsRefusal (bytes ++ piece.now)) }
     ensures emptied { OnOk result (lines.new.items ≡ []) }
 {
     splitter.feed(piece, lines)?;
