@@ -90,6 +90,31 @@ fn who_parts_is_gone(rt: HostRuntime) -> Result<(), Fail> {
 }
 
 #[test]
+fn people_who_change_their_names_and_go(rt: HostRuntime) -> Result<(), Fail> {
+    let alloc = rt.alloc();
+    let rows = [
+        (
+            ":bob!b@h NICK Bob2\n:Me!m@h NICK Moi\n:s KICK #c bob2 :out\n",
+            "nick Moi\nchannel #c\nmember Moi\n",
+        ),
+        (
+            ":bob!b@h NICK Bob2\n:Me!m@h NICK Moi\n:Moi!m@h QUIT :bye\n",
+            "nick Moi\n",
+        ),
+        (
+            ":bob!b@h NICK Me\n:@x!u@h JOIN #c\n",
+            "nick Me\nchannel #c\nmember bob\nmember Me\n",
+        ),
+    ];
+    for (lines, want) in rows {
+        let input = format!(in alloc; "{JOINED}{lines}")?;
+        let report = report_on(alloc, input.as_bytes())?;
+        assert!(rt; report.as_slice() == want.as_bytes());
+    }
+    Ok(())
+}
+
+#[test]
 fn names_that_differ_in_case_are_one(rt: HostRuntime) -> Result<(), Fail> {
     let input =
         b":s 001 Me :hi\r\n:s 005 Me PREFIX=(ov)@+ CHANTYPES=# :are supported\r\n:s 376 Me :end\r\n:Me!m@h JOIN #c\r\n:a[b!x@h JOIN #c\r\n:A{B!x@h PART #c\r\n";
