@@ -1,1 +1,3 @@
 pub mod WordsLemmas
+pub mod ReportLemmas
+pub mod StreamLemmas

@@ -1,5 +1,5 @@
 -- The command line that is read.
-use Rattle.std.proofs.Common.{◌≡◌, ◌⊎◌, inl, inr, refl, sym, subst, ap, ◌∙◌, true, List, [], Option, Some, None, option_map, codes, string_bytes}
+use Rattle.std.proofs.Common.{ℕ, ◌≡◌, ◌⊎◌, inl, inr, refl, sym, subst, ap, ◌∙◌, true, List, [], Option, Some, None, option_map, codes, string_bytes, slice_index, arith}
 use Rattle.std.specs.Option.{option_map_or}
 use Rattle.clap.proofs.OnLiterals.{clap_on_literals}
 use Rattle.clap.specs.Words.{App, IsAmong, Row, Text, fault_of, first_of, is_simple, is_simple_and_free, subcommand_of}
@@ -7,7 +7,7 @@ use Rattle.clap.specs.declared.error.kind.ErrorKind.{ErrorKind}
 use Rattle.clap.specs.declared.error.kind.ErrorKind.TheVariants as kind
 use Rattle.bnc.specs.Command.{AsksFor, IsCauseOf, IsOfKind, bnc_app}
 use Rattle.bnc.specs.declared.words.Command.{Command}
-use Rattle.bnc.specs.declared.words.Command.TheVariants.{Check}
+use Rattle.bnc.specs.declared.words.Command.TheVariants.{Check, View}
 use Rattle.bnc.specs.declared.words.WordsFault.{WordsFault}
 use Rattle.bnc.specs.declared.words.WordsFault.TheVariants.{Bad, Help, OutOfMemory}
 
@@ -54,9 +54,17 @@ asked_at app words meant name rows same given is = ap (λ (a : App). subcommand_
 same_rows : (a b : Text) (x y : List Row) → ◌≡◌ {A = Option (Text × List Row)} (Some (a, x)) (Some (b, y)) → x ≡ y
 same_rows a b x y h = ap (λ (o : Option (Text × List Row)). option_map_or (λ (p : Text × List Row). p.1) o []) h
 
--- words whose subcommand has no file ask for nothing
-pub nothing_asked : (words : List Text) (name : Text) (rows : List Row) → subcommand_of bnc_app words ≡ Some (name, rows)
+same_names : (a b : Text) (x y : List Row) → ◌≡◌ {A = Option (Text × List Row)} (Some (a, x)) (Some (b, y)) → a ≡ b
+same_names a b x y h = ap (λ (o : Option (Text × List Row)). option_map_or (λ (p : Text × List Row). p.0) o []) h
+
+-- no word is two
+view_is_not_check : codes "view" ≡ codes "check" → ⊥
+view_is_not_check same = let first : ◌≡◌ {A = ℕ} 118 99 = ap (λ (t : Text). slice_index t 0) same in absurd (omega arith)
+
+-- words that ask for a check whose subcommand has no file ask for nothing
+pub nothing_asked : (words : List Text) (name : Text) (rows : List Row) → name ≡ codes "check" → subcommand_of bnc_app words ≡ Some (name, rows)
     → None ≡ first_of (codes "file") rows → (command : Command) → AsksFor words command → ⊥
-nothing_asked words name rows asked none (Check file) asks =
+nothing_asked words name rows is_check asked none View asks = view_is_not_check (same_names _ name asks.0 rows (sym asks.1 ∙ asked) ∙ is_check)
+nothing_asked words name rows is_check asked none (Check file) asks =
     let same = same_rows _ _ asks.0 rows (sym asks.1 ∙ asked) in
     no_file (string_bytes file) (none ∙ ap (first_of (codes "file")) (sym same) ∙ asks.2)

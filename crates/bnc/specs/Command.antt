@@ -5,7 +5,7 @@ use Rattle.clap.specs.declared.builder.action.ArgAction.TheVariants.{Set}
 use Rattle.clap.specs.declared.error.kind.ErrorKind.{ErrorKind}
 use Rattle.clap.specs.declared.error.kind.ErrorKind.TheVariants as kind
 use Rattle.bnc.specs.declared.words.Command.{Command}
-use Rattle.bnc.specs.declared.words.Command.TheVariants.{Check}
+use Rattle.bnc.specs.declared.words.Command.TheVariants.{Check, View}
 use Rattle.bnc.specs.declared.words.WordsFault.{WordsFault}
 use Rattle.bnc.specs.declared.words.WordsFault.TheVariants.{Bad, Help, OutOfMemory}
 
@@ -17,16 +17,21 @@ file_rule = record (new_rule (codes "file")) { required = true; action = Some Se
 abbrev pub check_app : App
 check_app = with_rule (new_app (codes "check")) file_rule
 
+-- view
+abbrev pub view_app : App
+view_app = new_app (codes "view")
+
 -- bnc COMMAND, where the words come without the program's name
 abbrev pub bare_app : App
 bare_app = let app = new_app (codes "bnc") in
     record app { top = record app.top { no_binary_name = true; subcommand_required = true } }
 
 abbrev pub bnc_app : App
-bnc_app = with_subcommand bare_app check_app.top
+bnc_app = with_subcommand (with_subcommand bare_app view_app.top) check_app.top
 
 -- the words ask for the command, by the grammar
 abbrev pub AsksFor : List Text → Command → Type 0
+AsksFor words View = (rows : List Row) × (subcommand_of bnc_app words ≡ Some (codes "view", rows))
 AsksFor words (Check file) = (rows : List Row)
     × (subcommand_of bnc_app words ≡ Some (codes "check", rows))
     × (first_of (codes "file") rows ≡ Some (string_bytes file))

@@ -1,2 +1,5 @@
 pub mod Check
 pub mod Command
+pub mod Faults
+pub mod Report
+pub mod Stream

@@ -11,6 +11,8 @@ use std::alloc::{AllocError, AllocFailed, Global};
 /// What the words after the program's name ask for.
 #[derive(Debug, Drop)]
 pub enum Command {
+    /// `view`: to report what the standard input, a network's lines, says of the network.
+    View,
     /// `check FILE`: to check a settings file.
     Check(String),
 }
@@ -80,7 +82,12 @@ fn grammar<'a>(alloc: Global) -> Result<clap::Command<'a>, AllocError>
     let check = clap::Command::new(alloc, "check")
         .about("Checks a settings file and counts its users and networks")
         .arg(file_argument(alloc))?;
-    let bnc = bnc_grammar(alloc)?.subcommand(check)?;
+    let view = clap::Command::new(alloc, "view").about(
+        "Reads the lines of a network from standard input and reports what they say of it",
+    );
+    let bare = bnc_grammar(alloc)?;
+    let with_view = bare.subcommand(view)?;
+    let bnc = with_view.subcommand(check)?;
     Ok(bnc)
 }
 
@@ -112,6 +119,7 @@ pub fn read_words<'a>(alloc: Global, words: &'a [&'a str]) -> Result<Command, Wo
             Some(file) => Ok(Command::Check(String::from_str(alloc, file)?)),
             None => Err(WordsFault::Bad),
         },
+        Some(("view", _)) => Ok(Command::View),
         _ => Err(WordsFault::Bad),
     }
 }
@@ -126,11 +134,18 @@ mod tests {
         let alloc = rt.alloc();
         let command = read_words(alloc, &["check", "bnc.toml"])?;
         assert!(rt; matches!(&command, Command::Check(file) if file.as_str() == "bnc.toml"));
+        assert!(rt; matches!(read_words(alloc, &["view"])?, Command::View));
         assert!(rt; matches!(read_words(alloc, &["--help"]), Err(WordsFault::Help(_))));
         assert!(rt; matches!(read_words(alloc, &["help"]), Err(WordsFault::Help(_))));
         assert!(rt;
             matches!(
                 read_words(alloc, &["check", "-h"]),
+                Err(WordsFault::Help(_))
+            )
+        );
+        assert!(rt;
+            matches!(
+                read_words(alloc, &["view", "--help"]),
                 Err(WordsFault::Help(_))
             )
         );
@@ -151,6 +166,12 @@ mod tests {
         assert!(rt;
             matches!(
                 read_words(alloc, &["check", "--other", "a"]),
+                Err(WordsFault::Bad)
+            )
+        );
+        assert!(rt;
+            matches!(
+                read_words(alloc, &["view", "bnc.toml"]),
                 Err(WordsFault::Bad)
             )
         );

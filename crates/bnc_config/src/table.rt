@@ -5,8 +5,9 @@ ghost use Rattle.std.specs.List.{list_all};
 ghost use Rattle.toml.specs.Data.{get_member};
 ghost use Rattle.toml.specs.View.{view, items_view, table_view};
 ghost use Rattle.bnc_config.specs.Key.{word_of};
-ghost use Rattle.bnc_config.specs.Document.{AreCopied, Reads, allows_text, fault_at, has_at_most, is_list_where, is_number_within};
-ghost use Rattle.bnc_config.specs.Document.{is_table, is_text_where, items_of, number_at, optional_text_at, text_at, texts_at};
+ghost use Rattle.bnc_config.specs.Document.{AreCopied, Reads, allows_text, fault_at, has_at_most};
+ghost use Rattle.bnc_config.specs.Document.{is_list_where, is_number_within, is_table, is_text_where};
+ghost use Rattle.bnc_config.specs.Document.{items_of, number_at, optional_text_at, text_at, texts_at};
 
 use crate::allowed::allows;
 use crate::{ConfigFault, Key, OutOfMemory, Text};
@@ -15,7 +16,8 @@ use toml::{Table, Value};
 
 /// What stands at a key of its table.
 fn value_at<'t>(table: &'t Table, key: Key) -> Option<&'t Value>
-    ensures { option_map (λ value. view value.now) result ≡ get_member (word_of key) (table_view table.now) }
+    ensures { option_map (λ value. view value.now) result
+        ≡ get_member (word_of key) (table_view table.now) }
 {
     table.get(key.word())
 }
@@ -23,7 +25,8 @@ fn value_at<'t>(table: &'t Table, key: Key) -> Option<&'t Value>
 /// The text at a key that has to stand, whatever it is.
 pub(crate) fn any_text<'t>(table: &'t Table, key: Key) -> Result<&'t str, ConfigFault>
     ensures { Reads (λ text. text.now) result
-        (fault_at key false (is_text_where (λ _. true)) (get_member (word_of key) (table_view table.now)))
+        (fault_at key false (is_text_where (λ _. true))
+        (get_member (word_of key) (table_view table.now)))
         (text_at key (table_view table.now)) }
 {
     let Some(value) = value_at(table, key) else {
@@ -38,7 +41,8 @@ pub(crate) fn any_text<'t>(table: &'t Table, key: Key) -> Result<&'t str, Config
 /// The text at a key that has to stand, one that the key allows.
 pub(crate) fn allowed_text<'t>(table: &'t Table, key: Key) -> Result<&'t str, ConfigFault>
     ensures { Reads (λ text. text.now) result
-        (fault_at key false (is_text_where (allows_text key)) (get_member (word_of key) (table_view table.now)))
+        (fault_at key false (is_text_where (allows_text key))
+        (get_member (word_of key) (table_view table.now)))
         (text_at key (table_view table.now)) }
 {
     let Some(value) = value_at(table, key) else {
@@ -53,7 +57,8 @@ pub(crate) fn allowed_text<'t>(table: &'t Table, key: Key) -> Result<&'t str, Co
 /// A copy of the text at a key that has to stand.
 pub(crate) fn required_text(alloc: Global, table: &Table, key: Key) -> Result<Text, ConfigFault>
     ensures { Reads (λ text. text) result
-        (fault_at key false (is_text_where (allows_text key)) (get_member (word_of key) (table_view table.now)))
+        (fault_at key false (is_text_where (allows_text key))
+        (get_member (word_of key) (table_view table.now)))
         (text_at key (table_view table.now)) }
 {
     Ok(Text::copy(alloc, allowed_text(table, key)?)?)
@@ -66,7 +71,8 @@ pub(crate) fn optional_text(
     key: Key,
 ) -> Result<Option<Text>, ConfigFault>
     ensures { Reads (λ text. text) result
-        (fault_at key true (is_text_where (allows_text key)) (get_member (word_of key) (table_view table.now)))
+        (fault_at key true (is_text_where (allows_text key))
+        (get_member (word_of key) (table_view table.now)))
         (optional_text_at key (table_view table.now)) }
 {
     let Some(value) = value_at(table, key) else {
@@ -86,7 +92,8 @@ pub(crate) fn number_or(
     most: u32,
 ) -> Result<u32, ConfigFault>
     ensures { Reads (λ number. number) result
-        (fault_at key true (is_number_within 1 most) (get_member (word_of key) (table_view table.now)))
+        (fault_at key true (is_number_within 1 most)
+        (get_member (word_of key) (table_view table.now)))
         (number_at default key (table_view table.now)) }
 {
     let Some(value) = value_at(table, key) else {
@@ -112,7 +119,8 @@ fn are_tables(values: &[Value]) -> bool
 #[tactic(auto, using(crate::proofs::ItemsLemmas::all_items_view))]
 pub(crate) fn tables_at<'t>(table: &'t Table, key: Key) -> Result<&'t [Value], ConfigFault>
     ensures { Reads (λ values. items_view values.now) result
-        (fault_at key true (is_list_where is_table) (get_member (word_of key) (table_view table.now)))
+        (fault_at key true (is_list_where is_table)
+        (get_member (word_of key) (table_view table.now)))
         (items_of (get_member (word_of key) (table_view table.now))) }
 {
     let Some(value) = value_at(table, key) else {
@@ -129,7 +137,8 @@ pub(crate) fn tables_at<'t>(table: &'t Table, key: Key) -> Result<&'t [Value], C
 
 /// Copies of the texts that a list has, all of which the key allows; else `None`.
 fn copied_texts(alloc: Global, values: &[Value], key: Key) -> Result<Option<Vec<Text>>, OutOfMemory>
-    ensures { IfOk result (λ copies. AreCopied key (items_view values.now) (option_map (λ texts. texts.items) copies)) }
+    ensures { IfOk result (λ copies.
+        AreCopied key (items_view values.now) (option_map (λ texts. texts.items) copies)) }
 {
     let mut texts = Vec::with_capacity(alloc, values.len())?;
     for value in values {
@@ -145,7 +154,8 @@ fn copied_texts(alloc: Global, values: &[Value], key: Key) -> Result<Option<Vec<
 #[tactic(auto, using(crate::proofs::ItemsLemmas::item_count_view))]
 pub(crate) fn texts_at(alloc: Global, table: &Table, key: Key) -> Result<Vec<Text>, ConfigFault>
     ensures { Reads (λ texts. texts.items) result
-        (fault_at key true (λ value. is_list_where (is_text_where (allows_text key)) value && has_at_most 64 value)
+        (fault_at key true
+        (λ value. is_list_where (is_text_where (allows_text key)) value && has_at_most 64 value)
         (get_member (word_of key) (table_view table.now)))
         (texts_at key (table_view table.now)) }
 {

@@ -1,12 +1,13 @@
 //! The users.
 
-ghost use Rattle.std.specs.Prelude.{◌≡◌, ◌++◌, ◌∷◌, [], List, ℕ, OnOk, false, map, length, option_map};
+ghost use Rattle.std.specs.Prelude.{◌≡◌, ◌++◌, ◌∷◌, [], List, ℕ, OnOk};
+ghost use Rattle.std.specs.Prelude.{false, map, length, option_map};
 ghost use Rattle.toml.specs.Data.{get_member};
 ghost use Rattle.toml.specs.View.{items_view, table_view};
 ghost use Rattle.bnc_config.specs.Key.{word_of};
 ghost use Rattle.bnc_config.specs.Names.{AreNames};
-ghost use Rattle.bnc_config.specs.Document.{Reads, bytes_at, fault_at, is_text_where, tables_of, text_at};
-ghost use Rattle.bnc_config.specs.Document.{user_fault, user_in, users_fault};
+ghost use Rattle.bnc_config.specs.Document.{Reads, bytes_at, fault_at, is_text_where};
+ghost use Rattle.bnc_config.specs.Document.{tables_of, text_at, user_fault, user_in, users_fault};
 ghost use Rattle.bnc_config.specs.Settings.{place_of_user};
 ghost use Rattle.bnc_config.specs.Text.{is_digest, is_hexadecimal};
 ghost use Rattle.bnc_config.specs.declared.key.Key.TheVariants.{UserName, UserPassword, UserSalt};
@@ -46,7 +47,8 @@ impl Model for UserConfig {
 #[tactic(auto, using(crate::proofs::KeyLemmas::fault_at_any_text))]
 fn salt_in(alloc: Global, table: &Table) -> Result<Vec<u8>, ConfigFault>
     ensures { Reads (λ salt. salt.items) result
-        (fault_at UserSalt false (is_text_where is_hexadecimal) (get_member (word_of UserSalt) (table_view table.now)))
+        (fault_at UserSalt false (is_text_where is_hexadecimal)
+        (get_member (word_of UserSalt) (table_view table.now)))
         (bytes_at UserSalt (table_view table.now)) }
 {
     match hex::decode(alloc, any_text(table, Key::UserSalt)?) {
@@ -60,7 +62,8 @@ fn salt_in(alloc: Global, table: &Table) -> Result<Vec<u8>, ConfigFault>
 #[tactic(auto, using(crate::proofs::KeyLemmas::fault_at_any_text))]
 fn digest_in(table: &Table) -> Result<[u8; 32], ConfigFault>
     ensures { Reads (λ digest. digest) result
-        (fault_at UserPassword false (is_text_where is_digest) (get_member (word_of UserPassword) (table_view table.now)))
+        (fault_at UserPassword false (is_text_where is_digest)
+        (get_member (word_of UserPassword) (table_view table.now)))
         (bytes_at UserPassword (table_view table.now)) }
 {
     match <[u8; 32]>::from_hex(any_text(table, Key::UserPassword)?) {
@@ -77,7 +80,8 @@ impl UserConfig {
         earlier: &mut Names<'t>,
     ) -> Result<UserConfig, ConfigFault>
         ensures read { (names : List (List ℕ)) → AreNames earlier.old names
-            → Reads (λ user. user) result (user_fault names (table_view table.now)) (user_in (table_view table.now)) }
+            → Reads (λ user. user) result
+            (user_fault names (table_view table.now)) (user_in (table_view table.now)) }
         ensures named { OnOk result ((names : List (List ℕ)) → AreNames earlier.old names
             → AreNames earlier.new (names ++ text_at UserName (table_view table.now) ∷ [])) }
     {

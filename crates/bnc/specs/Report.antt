@@ -1,0 +1,45 @@
+-- What `bnc view` prints of a network view, and of how many lines were skipped. The format is our own choice.
+use Rattle.std.specs.Prelude.{ℕ, List, [], ◌∷◌, ◌++◌, ◌==◌, codes, map, if◌then◌else◌}
+use Rattle.std.specs.List.{flat_map}
+use Rattle.std.specs.FinMap.{entries}
+use Rattle.std.specs.Fmt.{decimal}
+use Rattle.std.proofs.Common.{Some, None}
+use Rattle.irc_line.specs.Lines.{with_lf}
+use Rattle.net_view.specs.Text.{Text}
+use Rattle.net_view.specs.View.{Channel, View}
+use Rattle.net_view.specs.Readers.{MemberParts, member_parts}
+
+-- a member of a channel
+abbrev pub member_line : MemberParts → Text
+member_line member = codes "member " ++ member.nick
+
+-- the members of a channel, in the order of their keys
+abbrev pub member_lines : View → Channel → List Text
+member_lines v channel = map (λ entry. member_line (member_parts v entry)) (entries channel.members)
+
+-- a channel that we are on: its name, and its members
+abbrev pub channel_lines : View → Channel → List Text
+channel_lines v channel = (codes "channel " ++ channel.name) ∷ member_lines v channel
+
+-- the channels that we are on, in the order of their keys
+abbrev pub channels_lines : View → List Text
+channels_lines v = flat_map (λ entry. channel_lines v entry.1) (entries v.channels)
+
+-- our nick and our channels, where a network took us in
+abbrev pub view_lines : View → List Text
+view_lines v = elim v.own [
+  | None ↦ codes "no welcome" ∷ []
+  | Some nick ↦ (codes "nick " ++ nick) ∷ channels_lines v
+]
+
+-- how many lines were skipped, where there were any
+abbrev pub skipped_lines : ℕ → List Text
+skipped_lines skipped = if skipped == 0 then [] else (codes "skipped " ++ decimal skipped) ∷ []
+
+-- lines, each with LF behind it
+abbrev pub text_of : List Text → Text
+text_of lines = flat_map with_lf lines
+
+-- the report
+abbrev pub report_of : View → ℕ → Text
+report_of v skipped = text_of (view_lines v ++ skipped_lines skipped)

@@ -1,0 +1,217 @@
+//! Tests of `run_view`.
+
+use super::*;
+use std::io;
+use std::test::Fail;
+
+const WELCOME: &str = ":s 001 Me :hi\r\n";
+
+const JOINED: &str = ":s 001 Me :hi\r\n:Me!m@h JOIN #c\r\n:bob!b@h JOIN #c\r\n";
+
+/// A reader that gives some bytes a call, and then fails in each call from one on.
+#[derive(Drop)]
+struct Faulty<'a> {
+    left: &'a [u8],
+    size: usize,
+    good_calls: usize,
+    kind: ErrorKind,
+}
+
+impl Read for Faulty<'_> {
+    fn read(&mut self, buf: &mut [u8]) -> io::Result<usize> {
+        if self.good_calls == 0 {
+            return Err(io::Error::from(self.kind));
+        }
+        self.good_calls -= 1;
+        let count = self.size.min(self.left.len()).min(buf.len());
+        buf[..count].copy_from_slice(&self.left[..count]);
+        self.left = &self.left[count..];
+        Ok(count)
+    }
+}
+
+/// A writer that takes some bytes a call, up to a limit.
+#[derive(Drop)]
+struct Narrow {
+    taken: Vec<u8>,
+    size: usize,
+    limit: usize,
+}
+
+impl Write for Narrow {
+    fn write(&mut self, buf: &[u8]) -> io::Result<usize> {
+        if self.taken.len() >= self.limit {
+            return Err(io::Error::from(ErrorKind::StorageFull));
+        }
+        let count = self.size.min(buf.len());
+        self.taken.extend_from_slice(&buf[..count])?;
+        Ok(count)
+    }
+
+    fn flush(&mut self) -> io::Result<()> {
+        Ok(())
+    }
+}
+
+/// The report of a whole input.
+fn report_on(alloc: Global, mut input: &[u8]) -> Result<Vec<u8>, Fault> {
+    let mut out = Vec::new(alloc);
+    run_view(alloc, &mut input, &mut out)?;
+    Ok(out)
+}
+
+#[test]
+fn inputs_and_their_reports(rt: HostRuntime) -> Result<(), Fail> {
+    let rows = [
+        ("", "no welcome\n"),
+        (WELCOME, "nick Me\n"),
+        (":s 001 Me :hi", "no welcome\n"),
+        (JOINED, "nick Me\nchannel #c\nmember bob\nmember Me\n"),
+        ("\r\n12 x\r\nNI1CK x\r\na\0b\r\n", "no welcome\nskipped 3\n"),
+        (
+            ":s 001 Me :hi\r\n12 x\n:Me!m@h JOIN #b\n:Me!m@h JOIN #A\n3\n",
+            "nick Me\nchannel #A\nmember Me\nchannel #b\nmember Me\nskipped 2\n",
+        ),
+    ];
+    for (input, want) in rows {
+        let report = report_on(rt.alloc(), input.as_bytes())?;
+        assert!(rt; report.as_slice() == want.as_bytes());
+    }
+    Ok(())
+}
+
+#[test]
+fn who_parts_is_gone(rt: HostRuntime) -> Result<(), Fail> {
+    let alloc = rt.alloc();
+    let input = format!(in alloc; "{JOINED}:bob!b@h PART #c\r\n")?;
+    let report = report_on(alloc, input.as_bytes())?;
+    assert!(rt; report.as_slice() == "nick Me\nchannel #c\nmember Me\n".as_bytes());
+    Ok(())
+}
+
+#[test]
+fn people_who_change_their_names_and_go(rt: HostRuntime) -> Result<(), Fail> {
+    let alloc = rt.alloc();
+    let rows = [
+        (
+            ":bob!b@h NICK Bob2\n:Me!m@h NICK Moi\n:s KICK #c bob2 :out\n",
+            "nick Moi\nchannel #c\nmember Moi\n",
+        ),
+        (
+            ":bob!b@h NICK Bob2\n:Me!m@h NICK Moi\n:Moi!m@h QUIT :bye\n",
+            "nick Moi\n",
+        ),
+        (
+            ":bob!b@h NICK Me\n:@x!u@h JOIN #c\n",
+            "nick Me\nchannel #c\nmember bob\nmember Me\n",
+        ),
+    ];
+    for (lines, want) in rows {
+        let input = format!(in alloc; "{JOINED}{lines}")?;
+        let report = report_on(alloc, input.as_bytes())?;
+        assert!(rt; report.as_slice() == want.as_bytes());
+    }
+    Ok(())
+}
+
+#[test]
+fn names_that_differ_in_case_are_one(rt: HostRuntime) -> Result<(), Fail> {
+    let input =
+        b":s 001 Me :hi\r\n:s 005 Me PREFIX=(ov)@+ CHANTYPES=# :are supported\r\n:s 376 Me :end\r\n:Me!m@h JOIN #c\r\n:a[b!x@h JOIN #c\r\n:A{B!x@h PART #c\r\n";
+    let report = report_on(rt.alloc(), input)?;
+    assert!(rt; report.as_slice() == "nick Me\nchannel #c\nmember Me\n".as_bytes());
+    Ok(())
+}
+
+#[test]
+fn an_input_in_two_pieces(rt: HostRuntime) -> Result<(), Fail> {
+    let alloc = rt.alloc();
+    for size in 1..WELCOME.len() {
+        let mut reader = Faulty {
+            left: WELCOME.as_bytes(),
+            size,
+            good_calls: 100,
+            kind: ErrorKind::Other,
+        };
+        let mut out = Vec::new(alloc);
+        run_view(alloc, &mut reader, &mut out)?;
+        assert!(rt; out.as_slice() == "nick Me\n".as_bytes());
+    }
+    Ok(())
+}
+
+#[test]
+fn lines_that_lie_across_pieces(rt: HostRuntime) -> Result<(), Fail> {
+    let alloc = rt.alloc();
+    let mut input = String::from_str(alloc, WELCOME)?;
+    for _ in 0..3000 {
+        input.push_str(":bob!b@h PRIVMSG #c :some words that tell nothing of the network\r\n")?;
+    }
+    input.push_str(":Me!m@h JOIN #c\r\n")?;
+    assert!(rt; input.len() > 2 * PIECE);
+    let report = report_on(alloc, input.as_bytes())?;
+    assert!(rt; report.as_slice() == "nick Me\nchannel #c\nmember Me\n".as_bytes());
+    Ok(())
+}
+
+#[test]
+fn a_line_may_have_16384_bytes(rt: HostRuntime) -> Result<(), Fail> {
+    let alloc = rt.alloc();
+    for (letters, is_short) in [(16_379, true), (16_380, false)] {
+        let mut input = String::from_str(alloc, "PING ")?;
+        for _ in 0..letters {
+            input.push('x')?;
+        }
+        input.push('\n')?;
+        let mut out = Vec::new(alloc);
+        let done = run_view(alloc, &mut input.as_bytes(), &mut out);
+        if is_short {
+            assert!(rt; done.is_ok());
+            assert!(rt; out.as_slice() == "no welcome\n".as_bytes());
+        } else {
+            assert!(rt; matches!(done, Err(Fault::LineTooLong)));
+            assert!(rt; out.is_empty());
+        }
+    }
+    Ok(())
+}
+
+#[test]
+fn a_read_that_fails(rt: HostRuntime) -> Result<(), Fail> {
+    let alloc = rt.alloc();
+    for good_calls in 0..JOINED.len() {
+        let mut reader = Faulty {
+            left: JOINED.as_bytes(),
+            size: 1,
+            good_calls,
+            kind: ErrorKind::ConnectionReset,
+        };
+        let mut out = Vec::new(alloc);
+        let done = run_view(alloc, &mut reader, &mut out);
+        assert!(rt; matches!(done, Err(Fault::CannotRead)));
+        assert!(rt; out.is_empty());
+    }
+    Ok(())
+}
+
+#[test]
+fn a_write_that_fails(rt: HostRuntime) -> Result<(), Fail> {
+    let alloc = rt.alloc();
+    for (size, limit) in [(1, 0), (1, 10), (0, 100)] {
+        let mut out = Narrow {
+            taken: Vec::new(alloc),
+            size,
+            limit,
+        };
+        let done = run_view(alloc, &mut JOINED.as_bytes(), &mut out);
+        assert!(rt; matches!(done, Err(Fault::CannotWrite)));
+    }
+    let mut out = Narrow {
+        taken: Vec::new(alloc),
+        size: 3,
+        limit: 100,
+    };
+    run_view(alloc, &mut JOINED.as_bytes(), &mut out)?;
+    assert!(rt; out.taken.as_slice() == "nick Me\nchannel #c\nmember bob\nmember Me\n".as_bytes());
+    Ok(())
+}
