@@ -99,6 +99,8 @@ impl<A: Allocator + Copy> NetworkView for TapeView<A> {
 
     ghost view = { view_back };
 
+    type Memory = A;
+
     fn take<B: Allocator>(&mut self, item: &Item<B>) -> Result<(), OutOfMemory> {
         match item {
             Item::Line(line) => {
@@ -122,6 +124,10 @@ impl<A: Allocator + Copy> NetworkView for TapeView<A> {
 
     fn ready(&self) -> bool {
         ready_in(&self.kept)
+    }
+
+    fn support(&self) -> &Support<A> {
+        &self.support
     }
 
     fn own(&self) -> Option<&[u8]> {

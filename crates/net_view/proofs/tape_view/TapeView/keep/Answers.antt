@@ -47,8 +47,7 @@ invariant_of-self-in_default-take g c =
           ∙ ap (λ r. unwrap_or (option_map (λ b. b && is_some own) (settles_said c.told-telling.result)) r) (c.ready_in-ready.ensures ∙ ap (λ ks. is_ready (tape_of ks)) c.deref-2.ensures.value);
     } in
     let welcomed : is_some own ≡ true = sym (is_some_map (λ n. n.now) c.own_in-own.result) ∙ sym c.is_some-welcomed.ensures ∙ c.if-welcomed.true in
-    let unready : is_ready (tape_of c.self.inside.kept.items) ≡ false = sym (c.ready_in-ready.ensures ∙ ap (λ ks. is_ready (tape_of ks)) c.deref-2.ensures.value) ∙ c.if-not-ready.true in
-    (
+    let unready : is_ready (tape_of c.self.inside.kept.items) ≡ false = sym (c.ready_in-ready.ensures ∙ ap (λ ks. is_ready (tape_of ks)) c.deref-2.ensures.value) ∙ c.if-not-ready.true in (
       line_marked c.self.inside.support c.self.inside.kept.items c.push-in-Supports.new.self.items kept c.told-telling.result own c.in_ok-push-in-Supports.ensures.items (c.self.invariant.0) new_line,
       line_settings c.self.inside.support c.take.new.self c.self.inside.kept.items c.push-in-Supports.new.self.items kept c.told-telling.result own c.in_ok-push-in-Supports.ensures.items refl new_line
           (supports_settings c.self.inside.support c.take.new.self c.args.line.now c.told-telling.result c.in-Supports.field-0 own (is_ready (tape_of c.self.inside.kept.items)) c.told-telling.ensures c.in-Supports.is welcomed unready c.in_default-take.ensures.taken),
@@ -93,8 +92,7 @@ invariant_of-self-in-Continue-branch-5 g c =
       | in_default-via-in-Supports+else-welcomed w ↦ late_settings c.self.inside.support c.told-telling.result w.in-Supports.field-0 own (is_ready (tape_of c.self.inside.kept.items)) w.in-Supports.is
           (ap (λ b. b && not (is_ready (tape_of c.self.inside.kept.items))) (sym (is_some_map (λ n. n.now) c.own_in-own.result) ∙ sym c.is_some-welcomed.ensures ∙ w.if-welcomed.false))
       | in_default-via-in_default w ↦ idle_settings c.self.inside.support c.told-telling.result own (is_ready (tape_of c.self.inside.kept.items)) w.in_default.not-Welcomed w.in_default.not-Supports
-    ] in
-    (
+    ] in (
       line_marked c.self.inside.support c.self.inside.kept.items c.push-in_default.new.self.items kept c.told-telling.result own c.in_ok-push-in_default.ensures.items (c.self.invariant.0) new_line,
       line_settings c.self.inside.support c.self.inside.support c.self.inside.kept.items c.push-in_default.new.self.items kept c.told-telling.result own c.in_ok-push-in_default.ensures.items refl new_line keeps,
     )
