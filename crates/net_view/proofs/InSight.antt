@@ -18,7 +18,7 @@ use Rattle.net_view.proofs.PeopleSound.{new_member_is_spelled, unspelled_keeps_n
 -- ---- on a channel
 
 -- where an item is not our own JOIN of a channel, we were on it before
-stays_on : (x : Reading) (older : List Reading) (c : Text) → begins (ours x) x.told c ≡ None → is_on (x ∷ older) c ≡ true → is_on older c ≡ true
+pub stays_on : (x : Reading) (older : List Reading) (c : Text) → begins (ours x) x.told c ≡ None → is_on (x ∷ older) c ≡ true → is_on older c ≡ true
 stays_on x older c none on =
     let said : Option Text → Bool → Option (Option Text) = λ begun ended. cond ended (Some None) (option_map Some begun) in
     let answer : Option (Option Text) → Bool = λ s. is_some (unwrap_or (option_or s (last (says_on c) older)) None) in
@@ -27,7 +27,7 @@ stays_on x older c none on =
 
 -- ---- a member of a channel
 
-silent_begins_nothing : (c : Text) (us : Text → Bool) (t : Told) (n : Text) → says_member c us t n ≡ None → begins us t c ≡ None
+pub silent_begins_nothing : (c : Text) (us : Text → Bool) (t : Told) (n : Text) → says_member c us t n ≡ None → begins us t c ≡ None
 silent_begins_nothing c us t n e =
     none_of_is_some (begins us t c) (elim (is_some (begins us t c)) as (λ b. cond b (Some (joins_as t n)) (said_of_member c us t n) ≡ None → b ≡ false) [ true ↦ λ q. cc | false ↦ λ q. refl ] e)
 
@@ -36,11 +36,11 @@ record WasMember (x : Reading) (older : List Reading) (c n : Text) : Type 0 wher
   named_so : name_before (ours x) x.told n ≡ Some n
   member : is_member older c n ≡ true
 
-said_or_before : (said before : Option Bool) → (unwrap_or said false ≡ true → ⊥) → unwrap_or (option_or said before) false ≡ true → (said ≡ None) × (unwrap_or before false ≡ true)
+pub said_or_before : (said before : Option Bool) → (unwrap_or said false ≡ true → ⊥) → unwrap_or (option_or said before) false ≡ true → (said ≡ None) × (unwrap_or before false ≡ true)
 said_or_before None before new e = (refl, e)
 said_or_before (Some b) before new e = absurd (new e)
 
-traced : (says : Text → Option Bool) (before : Option Text) (n : Text) → ((m : Text) → before ≡ Some m → m ≡ n) → unwrap_or (option_and_then says before) false ≡ true → (before ≡ Some n) × (unwrap_or (says n) false ≡ true)
+pub traced : (says : Text → Option Bool) (before : Option Text) (n : Text) → ((m : Text) → before ≡ Some m → m ≡ n) → unwrap_or (option_and_then says before) false ≡ true → (before ≡ Some n) × (unwrap_or (says n) false ≡ true)
 traced says None n keeps e = absurd (no_true e)
 traced says (Some m) n keeps e = (ap Some (keeps m refl), ap (λ k. unwrap_or (says k) false) (sym (keeps m refl)) ∙ e)
 

@@ -1,12 +1,14 @@
--- The least of what is shown above a key, found among all that was named.
-use Rattle.std.specs.Prelude.{◌≡◌, ℕ, ◌+◌, ◌<◌, ◌≤◌, Bool, true, false, cond, ◌&&◌, ◌||◌, List, [], ◌∷◌, ◌++◌, take, length, get_or, is_some, ◌⊎◌}
+-- The least of what is shown above a key, found among what the lines bring up.
+use Rattle.std.specs.Prelude.{◌≡◌, ℕ, ◌+◌, ◌-◌, ◌<◌, ◌≤◌, Bool, true, false, cond, not, ◌&&◌, ◌||◌, List, [], ◌∷◌, ◌++◌, take, length, get_or, is_some, ◌⊎◌}
 use Rattle.std.specs.List.{list_any}
-use Rattle.std.specs.Option.{IfSome, MatchOption}
+use Rattle.std.specs.Option.{IfSome, MatchOption, option_and_then, unwrap_or}
 use Rattle.std.specs.Ordering.{is_lt}
-use Rattle.std.proofs.Common.{Option, Some, None, refl, sym, ap, ◌∙◌, subst, arith, inl, inr, ⊎_elim}
+use Rattle.std.proofs.Common.{Option, Some, None, codes, refl, sym, ap, ◌∙◌, subst, arith, inl, inr, ⊎_elim}
 use Rattle.std.proofs.lemmas.Option.{none-some, same_Some}
-use Rattle.irc_line.specs.Line.{Parts}
+use Rattle.irc_line.specs.Line.{Parts, has_command}
 use Rattle.net_view.specs.Text.{Text}
+use Rattle.net_view.specs.Tokens.{Token}
+use Rattle.net_view.specs.Settings.{key_by}
 use Rattle.net_view.specs.declared.tape.Kept.{Kept}
 use Rattle.net_view.specs.declared.tape.Shown.{Shown}
 use Rattle.net_view.specs.declared.tape.Shown.TheVariants.{Channels, Members}
@@ -15,83 +17,86 @@ use Rattle.net_view.specs.Names.{same, bytes_cmp}
 use Rattle.net_view.specs.Told.{Told, Joined, Renamed, Present, Disconnected}
 use Rattle.net_view.specs.Arrival.{Arrival, Received}
 use Rattle.net_view.specs.StateLines.{told}
-use Rattle.net_view.specs.Transcript.{standing, Reading, readings_of}
-use Rattle.net_view.specs.Named.{named}
+use Rattle.net_view.specs.Transcript.{standing, settings_of, is_ready, Reading, readings_of, ours}
+use Rattle.net_view.specs.LookBack.{last_of, name_before}
+use Rattle.net_view.specs.Presence.{is_on}
+use Rattle.net_view.specs.Members.{says_member, is_member}
+use Rattle.net_view.specs.Named.{named, channels_in, people_in}
 use Rattle.net_view.specs.Tells.{meant}
-use Rattle.net_view.specs.Tape.{with_lost, tape_of}
+use Rattle.net_view.specs.Tape.{with_lost, tape_of, IsReadable}
 use Rattle.net_view.specs.Least.{above, lesser, considered, IsNext}
 use Rattle.net_view.specs.Shown.{names_in, is_shown}
-use Rattle.net_view.proofs.Tests.{no_true, and_parts, and_false}
+use Rattle.net_view.proofs.Tests.{no_true, and_parts}
 use Rattle.net_view.proofs.Keys.{is_same}
-use Rattle.net_view.proofs.Covers.{covers_on, covers_member}
+use Rattle.net_view.proofs.Covers.{begins_none, says_member_none, name_stays}
 use Rattle.net_view.proofs.Places.{before_trans, not_before_itself, false_unless}
+use Rattle.net_view.proofs.InSight.{stays_on, silent_begins_nothing, said_or_before, traced}
 use Rattle.net_view.proofs.ReadCommands.{IsRead, told_read}
-use Rattle.net_view.proofs.TapeBack.{tape_more, readings_line}
+use Rattle.net_view.proofs.TapeBack.{tape_more, tape_at, readings_line, line_at, reading, asked, fixed_at, told_at, unready_off}
 
--- the same of the keys that were brought up so far
-pub record IsNextOf (there : Text → Bool) (seen : List Text) (after best : Option Text) : Type 0 where
+-- the same of the keys that pass another test
+pub record IsNextOf (there seen : Text → Bool) (after best : Option Text) : Type 0 where
   pub found : IfSome best (λ b. (there b ≡ true) × (above after b ≡ true))
-  pub least : (c : Text) → list_any (same c) seen ≡ true → there c ≡ true → above after c ≡ true → MatchOption best ⊥ (λ b. is_lt (bytes_cmp c b) ≡ false)
+  pub least : (c : Text) → seen c ≡ true → there c ≡ true → above after c ≡ true → MatchOption best ⊥ (λ b. is_lt (bytes_cmp c b) ≡ false)
 
 or_cases : (a b : Bool) → (a || b) ≡ true → (a ≡ true) ⊎ (b ≡ true)
 or_cases true b e = inl refl
 or_cases false b e = inr e
 
 module _ (there : Text → Bool) where
-  next_same : (seen : List Text) (after best : Option Text) (c : Text) → IsNextOf there seen after best → (there c ≡ true → above after c ≡ true → MatchOption best ⊥ (λ b. is_lt (bytes_cmp c b) ≡ false)) → IsNextOf there (c ∷ seen) after best
+  next_same : (seen : Text → Bool) (after best : Option Text) (c : Text) → IsNextOf there seen after best → (there c ≡ true → above after c ≡ true → MatchOption best ⊥ (λ b. is_lt (bytes_cmp c b) ≡ false)) → IsNextOf there (λ q. same q c || seen q) after best
   next_same seen after best c old here = record {
     found = old.found;
     least = λ q in_seen on_q ab. ⊎_elim
         (λ e. subst (λ x. MatchOption best ⊥ (λ b. is_lt (bytes_cmp x b) ≡ false)) (sym (is_same q c e)) (here (subst (λ x. there x ≡ true) (is_same q c e) on_q) (subst (λ x. above after x ≡ true) (is_same q c e) ab)))
         (λ e. old.least q e on_q ab)
-        (or_cases (same q c) (list_any (same q) seen) in_seen);
+        (or_cases (same q c) (seen q) in_seen);
   }
 
   below_best : (best : Option Text) (c q : Text) → ((b : Text) → best ≡ Some b → is_lt (bytes_cmp c b) ≡ true) → MatchOption best ⊥ (λ b. is_lt (bytes_cmp q b) ≡ false) → is_lt (bytes_cmp q c) ≡ false
   below_best None c q less_c h = absurd h
   below_best (Some b) c q less_c h = false_unless (is_lt (bytes_cmp q c)) (λ e. no_true (sym h ∙ before_trans q c b e (less_c b refl)))
 
-  next_less : (seen : List Text) (after best : Option Text) (c : Text) → IsNextOf there seen after best → there c ≡ true → above after c ≡ true →
-      ((b : Text) → best ≡ Some b → is_lt (bytes_cmp c b) ≡ true) → IsNextOf there (c ∷ seen) after (Some c)
+  next_less : (seen : Text → Bool) (after best : Option Text) (c : Text) → IsNextOf there seen after best → there c ≡ true → above after c ≡ true →
+      ((b : Text) → best ≡ Some b → is_lt (bytes_cmp c b) ≡ true) → IsNextOf there (λ q. same q c || seen q) after (Some c)
   next_less seen after best c old on_c ab_c less_c = record {
     found = (on_c, ab_c);
     least = λ q in_seen on_q ab. ⊎_elim
         (λ e. subst (λ x. is_lt (bytes_cmp x c) ≡ false) (sym (is_same q c e)) (not_before_itself c))
         (λ e. below_best best c q less_c (old.least q e on_q ab))
-        (or_cases (same q c) (list_any (same q) seen) in_seen);
+        (or_cases (same q c) (seen q) in_seen);
   }
 
-  next_lesser : (seen : List Text) (after best : Option Text) (c : Text) → IsNextOf there seen after best → there c ≡ true → above after c ≡ true → IsNextOf there (c ∷ seen) after (lesser best c)
+  next_lesser : (seen : Text → Bool) (after best : Option Text) (c : Text) → IsNextOf there seen after best → there c ≡ true → above after c ≡ true → IsNextOf there (λ q. same q c || seen q) after (lesser best c)
   next_lesser seen after None c old on_c ab = next_less seen after None c old on_c ab (λ b e. absurd (none-some b e))
   next_lesser seen after (Some b) c old on_c ab =
-      elim (is_lt (bytes_cmp c b)) as (λ v. is_lt (bytes_cmp c b) ≡ v → IsNextOf there (c ∷ seen) after (cond v (Some c) (Some b))) [
+      elim (is_lt (bytes_cmp c b)) as (λ v. is_lt (bytes_cmp c b) ≡ v → IsNextOf there (λ q. same q c || seen q) after (cond v (Some c) (Some b))) [
         | true ↦ λ e. next_less seen after (Some b) c old on_c ab (λ d f. subst (λ x. is_lt (bytes_cmp c x) ≡ true) (same_Some b d f) e)
         | false ↦ λ e. next_same seen after (Some b) c old (λ _ _. e)
       ] refl
 
-  next_considered : (seen : List Text) (after best : Option Text) (c : Text) → IsNextOf there seen after best → IsNextOf there (c ∷ seen) after (considered there after best (c ∷ []))
+  next_considered : (seen : Text → Bool) (after best : Option Text) (c : Text) → IsNextOf there seen after best → IsNextOf there (λ q. same q c || seen q) after (considered there after best (c ∷ []))
   next_considered seen after best c old =
-      elim (above after c && there c) as (λ v. (above after c && there c) ≡ v → IsNextOf there (c ∷ seen) after (cond v (lesser best c) best)) [
+      elim (above after c && there c) as (λ v. (above after c && there c) ≡ v → IsNextOf there (λ q. same q c || seen q) after (cond v (lesser best c) best)) [
         | true ↦ λ e. let p = and_parts (above after c) (there c) e in next_lesser seen after best c old p.1 p.0
         | false ↦ λ e. next_same seen after best c old (λ on ab. absurd (no_true (sym e ∙ ap (λ a. a && there c) ab ∙ on)))
       ] refl
 
--- what one more line brings up
 names_lost : (shown : Shown) → names_in shown Disconnected ≡ []
 names_lost Channels = refl
 names_lost (Members channel) = refl
 
-pub one_named : (shown : Shown) (t : Told) → IsRead t → length (names_in shown t) ≤ 1
-one_named Channels (Joined channel valid who account) r = omega arith
-one_named (Members c) (Joined channel valid who account) r = omega arith
-one_named (Members c) (Renamed old new) r = omega arith
-one_named Channels _ r = omega arith
-one_named (Members c) (Present channel listings) r = absurd r
-one_named (Members c) _ r = omega arith
+pub one_named : (more : Bool) (shown : Shown) (t : Told) → IsRead more t → length (names_in shown t) ≤ 1
+one_named more Channels (Joined channel valid who account) r = omega arith
+one_named more (Members c) (Joined channel valid who account) r = omega arith
+one_named more (Members c) (Renamed old new) r = omega arith
+one_named more Channels _ r = omega arith
+one_named more (Members c) (Present channel listings) r = absurd r
+one_named more (Members c) _ r = omega arith
 
-named_line : (shown : Shown) (b : Bool) (l : Parts) (older : List Arrival) → named (names_in shown) (readings_of (with_lost b (Received l ∷ older))) ≡ names_in shown (told [] (Received l)) ++ named (names_in shown) (readings_of older)
+named_line : (shown : Shown) (b : Bool) (l : Parts) (older : List Arrival) → named (names_in shown) (readings_of (with_lost b (Received l ∷ older))) ≡ names_in shown (told (settings_of older) (Received l)) ++ named (names_in shown) (readings_of older)
 named_line shown b l older =
-    let t = told [] (Received l) in
+    let t = told (settings_of older) (Received l) in
     let s = standing older in
     ap (named (names_in shown)) (readings_line b l older)
     ∙ elim b as (λ b. named (names_in shown) (cond b (record { before = standing (Received l ∷ older); told = Disconnected } ∷ record { before = s; told = t } ∷ readings_of older) (record { before = s; told = t } ∷ readings_of older)) ≡ names_in shown t ++ named (names_in shown) (readings_of older)) [
@@ -99,41 +104,107 @@ named_line shown b l older =
       | false ↦ refl
     ]
 
-pub named_more : {A : Type 0} (shown : Shown) (ks : List (Kept A)) (i : ℕ) (k : Kept A) → i < length ks → k ≡ get_or ks i k → named (names_in shown) (readings_of (tape_of (take (i + 1) ks))) ≡ names_in shown (told [] (Received k.line)) ++ named (names_in shown) (readings_of (tape_of (take i ks)))
+pub named_more : {A : Type 0} (shown : Shown) (ks : List (Kept A)) (i : ℕ) (k : Kept A) → i < length ks → k ≡ get_or ks i k → named (names_in shown) (readings_of (tape_of (take (i + 1) ks))) ≡ names_in shown (told (settings_of (tape_of (take i ks))) (Received k.line)) ++ named (names_in shown) (readings_of (tape_of (take i ks)))
 named_more {A} shown ks i k lt at =
     ap (λ items. named (names_in shown) (readings_of items)) (tape_more ks i k lt ∙ ap (λ (j : Kept A). with_lost j.lost (Received j.line ∷ tape_of (take i ks))) (sym at))
     ∙ named_line shown k.lost k.line (tape_of (take i ks))
 
-next_named : (there : Text → Bool) (names seen : List Text) (after best : Option Text) → length names ≤ 1 → IsNextOf there seen after best → IsNextOf there (names ++ seen) after (considered there after best names)
-next_named there [] seen after best one old = old
-next_named there (c ∷ []) seen after best one old = next_considered there seen after best c old
-next_named there (c ∷ d ∷ names) seen after best one old = absurd (omega (arith, one))
+-- ---- looking back
 
-pub next_loop : {A : Type 0} (there : Text → Bool) (shown : Shown) (ks : List (Kept A)) (i : ℕ) (k : Kept A) (r : Telling) (after best new : Option Text) →
-    IsNextOf there (named (names_in shown) (readings_of (tape_of (take i ks)))) after best → i < length ks → k ≡ get_or ks i k → meant r ≡ told [] (Received k.line) → new ≡ considered there after best (names_in shown (meant r)) →
-    IsNextOf there (named (names_in shown) (readings_of (tape_of (take (i + 1) ks)))) after new
-next_loop there shown ks i k r after best new old lt at tells is =
-    let seen = named (names_in shown) (readings_of (tape_of (take i ks))) in
-    let t = told [] (Received k.line) in
-    let whole = is ∙ ap (λ u. considered there after best (names_in shown u)) tells in
-    subst (λ s. IsNextOf there s after new) (sym (named_more shown ks i k lt at))
-    (subst (λ b. IsNextOf there (names_in shown t ++ seen) after b) (sym whole) (next_named there (names_in shown t) seen after best (one_named shown t (told_read [] k.line)) old))
+fewer : (there seen others : Text → Bool) (after best : Option Text) → ((c : Text) → others c ≡ true → seen c ≡ true) → IsNextOf there seen after best → IsNextOf there others after best
+fewer there seen others after best h old = record { found = old.found; least = λ c o. old.least c (h c o) }
 
--- what is shown was named
-covers_shown : (shown : Shown) (rs : List Reading) (c : Text) → list_any (same c) (named (names_in shown) rs) ≡ false → is_shown shown rs c ≡ false
-covers_shown Channels rs c h = ap is_some (covers_on rs c h)
-covers_shown (Members channel) rs c h = and_false _ _ (covers_member rs _ c h)
+not_true : (b : Bool) → not b ≡ true → b ≡ false
+not_true true e = absurd (no_true e)
+not_true false e = refl
 
-true_unless : (b : Bool) → (b ≡ false → ⊥) → b ≡ true
-true_unless true f = refl
-true_unless false f = absurd (f refl)
+-- what was there before the item or is named by it
+seen_or_named : (now older named : Bool) → (now ≡ true → older ≡ false → named ≡ true) → not older ≡ true → (named || not now) ≡ true
+seen_or_named false older true h e = refl
+seen_or_named false older false h e = refl
+seen_or_named true older named h e = ap (λ b. b || false) (h refl (not_true older e))
 
-pub next_all : (shown : Shown) (rs : List Reading) (after best : Option Text) → IsNextOf (is_shown shown rs) (named (names_in shown) rs) after best → IsNext (is_shown shown rs) after best
-next_all shown rs after best h = record {
-  found = h.found;
-  least = λ c on_c ab. h.least c (true_unless (list_any (same c) (named (names_in shown) rs)) (λ e. no_true (sym (covers_shown shown rs c e) ∙ on_c))) on_c ab;
-}
+or_false_left : (a b : Bool) → (a || false || b) ≡ true → (a || b) ≡ true
+or_false_left true b e = refl
+or_false_left false b e = e
 
-pub next_none : (A : Type 0) (there : Text → Bool) (shown : Shown) (after : Option Text) → IsNextOf there (named (names_in shown) (readings_of (tape_of {A = A} []))) after None
+next_named : (there now older : Text → Bool) (names : List Text) (after best : Option Text) → length names ≤ 1 → ((c : Text) → now c ≡ true → older c ≡ false → list_any (same c) names ≡ true) →
+    IsNextOf there (λ c. not (now c)) after best → IsNextOf there (λ c. not (older c)) after (considered there after best names)
+next_named there now older [] after best one brings old = fewer there (λ c. not (now c)) (λ c. not (older c)) after best (λ c e. seen_or_named (now c) (older c) false (brings c) e) old
+next_named there now older (k ∷ []) after best one brings old =
+    fewer there (λ c. same c k || not (now c)) (λ c. not (older c)) after (considered there after best (k ∷ []))
+    (λ c e. or_false_left (same c k) (not (now c)) (seen_or_named (now c) (older c) (same c k || false) (brings c) e))
+    (next_considered there (λ c. not (now c)) after best k old)
+next_named there now older (k ∷ l ∷ names) after best one brings old = absurd (omega (arith, one))
+
+-- ---- what an item brings up
+
+begun_channel : (x : Reading) (older : List Reading) (c : Text) → is_on (x ∷ older) c ≡ true → is_on older c ≡ false → list_any (same c) (channels_in x.told) ≡ true
+begun_channel x older c on off =
+    elim (list_any (same c) (channels_in x.told)) as (λ b. list_any (same c) (channels_in x.told) ≡ b → b ≡ true) [
+      | true ↦ λ e. refl
+      | false ↦ λ e. absurd (no_true (sym off ∙ stays_on x older c (begins_none (ours x) x.told c e) on))
+    ] refl
+
+unnamed_member : (x : Reading) (older : List Reading) (c n : Text) → list_any (same n) (people_in x.told) ≡ false → is_member (x ∷ older) c n ≡ true → is_member older c n ≡ true
+unnamed_member x older c n unnamed h =
+    let us = ours x in
+    let t = x.told in
+    let parts = and_parts (is_on (x ∷ older) c) (unwrap_or (last_of (says_member c) (x ∷ older) n) false) h in
+    let rest = said_or_before (says_member c us t n) (option_and_then (last_of (says_member c) older) (name_before us t n)) (λ e. no_true (sym (says_member_none c us t n unnamed) ∙ e)) (parts.1) in
+    let same_name : (m : Text) → name_before us t n ≡ Some m → m ≡ n = λ m e. ⊎_elim (λ none. absurd (none-some m (sym none ∙ e))) (λ some. sym (same_Some n m (sym some ∙ e))) (name_stays us t n unnamed) in
+    let before = traced (last_of (says_member c) older) (name_before us t n) n same_name (rest.1) in
+    let on = stays_on x older c (silent_begins_nothing c us t n (rest.0)) (parts.0) in
+    ap (λ b. b && unwrap_or (last_of (says_member c) older n) false) on ∙ before.1
+
+made_member : (x : Reading) (older : List Reading) (c n : Text) → is_member (x ∷ older) c n ≡ true → is_member older c n ≡ false → list_any (same n) (people_in x.told) ≡ true
+made_member x older c n here gone =
+    elim (list_any (same n) (people_in x.told)) as (λ b. list_any (same n) (people_in x.told) ≡ b → b ≡ true) [
+      | true ↦ λ e. refl
+      | false ↦ λ e. absurd (no_true (sym gone ∙ unnamed_member x older c n e here))
+    ] refl
+
+brought_up : (settings : List Token) (shown : Shown) (x : Reading) (older : List Reading) (c : Text) → is_shown settings shown (x ∷ older) c ≡ true → is_shown settings shown older c ≡ false → list_any (same c) (names_in shown x.told) ≡ true
+brought_up settings Channels x older c = begun_channel x older c
+brought_up settings (Members channel) x older c = made_member x older (key_by settings channel.now) c
+
+off_gone : (settings : List Token) (shown : Shown) (rs : List Reading) → ((c : Text) → is_on rs c ≡ false) → (c : Text) → is_shown settings shown rs c ≡ false
+off_gone settings Channels rs off c = off c
+off_gone settings (Members channel) rs off c = ap (λ b. b && unwrap_or (last_of (says_member (key_by settings channel.now)) rs c) false) (off (key_by settings channel.now))
+
+module _ {A : Type 0} (ks : List (Kept A)) (i : ℕ) (k : Kept A) (pos : 0 < i) (within : i ≤ length ks) (at : k ≡ get_or ks (i - 1) k) where
+  abbrev here : Reading
+  here = reading ks i k pos within at
+
+  pub lost_gone : (settings : List Token) (shown : Shown) → k.lost ≡ true → (c : Text) → is_shown settings shown (line_at ks i) c ≡ false
+  lost_gone settings shown lost = off_gone settings shown (line_at ks i) (λ c.
+      asked ks i k pos within at (λ rs. is_on rs c) false (λ s rs. refl)
+      ∙ ap (λ b. cond b false (is_on (here ∷ line_at ks (i - 1)) c)) lost)
+
+  pub unfixed_gone : (settings : List Token) (shown : Shown) → IsReadable settings (take i ks) → k.fixed ≡ false → (c : Text) → is_shown settings shown (line_at ks i) c ≡ false
+  unfixed_gone settings shown h fixed = off_gone settings shown (line_at ks i) (λ c. ap is_some (unready_off (tape_of (take i ks)) c (fixed_at ks i k pos within at h.marked ∙ fixed)))
+
+  -- the line, where no loss came after it
+  pub unlost : k.lost ≡ false → line_at ks i ≡ here ∷ line_at ks (i - 1)
+  unlost e = ap readings_of (tape_at ks i k pos within at ∙ ap (λ b. with_lost b (Received k.line ∷ tape_of (take (i - 1) ks))) e) ∙ readings_line false k.line (tape_of (take (i - 1) ks))
+
+  pub next_loop : (settings : List Token) (there : Text → Bool) (shown : Shown) (r : Telling A) (after best new : Option Text) →
+      IsReadable settings (take i ks) → k.lost ≡ false → k.fixed ≡ true → ((s : List Token) → meant s r ≡ told s (Received k.line)) → new ≡ considered there after best (names_in shown (meant settings r)) →
+      IsNextOf there (λ c. not (is_shown settings shown (line_at ks i) c)) after best → IsNextOf there (λ c. not (is_shown settings shown (line_at ks (i - 1)) c)) after new
+  next_loop settings there shown r after best new h lost fixed tells is old =
+      let whole = is ∙ ap (λ t. considered there after best (names_in shown t)) (told_at ks i k pos within at settings r h fixed tells) in
+      subst (λ b. IsNextOf there (λ c. not (is_shown settings shown (line_at ks (i - 1)) c)) after b) (sym whole)
+      (next_named there (is_shown settings shown (line_at ks i)) (is_shown settings shown (line_at ks (i - 1))) (names_in shown here.told) after best
+      (one_named (has_command k.line (codes "005")) shown here.told (told_read (settings_of (tape_of (take (i - 1) ks))) k.line))
+      (λ c e f. brought_up settings shown here (line_at ks (i - 1)) c (sym (ap (λ rs. is_shown settings shown rs c) (unlost lost)) ∙ e) f) old)
+
+pub next_all : (there older : Text → Bool) (after best : Option Text) → ((c : Text) → older c ≡ false) → IsNextOf there (λ c. not (older c)) after best → IsNext there after best
+next_all there older after best none h = record { found = h.found; least = λ c. h.least c (ap not (none c)) }
+
+pub next_none : (there : Text → Bool) (after : Option Text) → IsNextOf there (λ c. not (there c)) after None
+next_none there after = record { found = tt; least = λ c gone on_c ab. absurd (no_true (sym (not_true (there c) gone) ∙ on_c)) }
+
+pub none_shown : (A : Type 0) (settings : List Token) (shown : Shown) (c : Text) → is_shown settings shown (readings_of (tape_of {A = A} [])) c ≡ false
 unfolding tape_of
-next_none A there shown after = record { found = tt; least = λ c seen on_c ab. no_true seen }
+none_shown A settings Channels c = refl
+none_shown A settings (Members channel) c = refl

@@ -10,11 +10,11 @@ use Rattle.irc_support.specs.Text.{Text}
 use Rattle.irc_support.specs.Tokens.{Token}
 use Rattle.irc_support.specs.Settings.{is_channel, key_by}
 use Rattle.net_view.specs.Names.{Name, name_of, nameable}
-use Rattle.net_view.specs.Told.{Told, Silent, Welcomed, Settles, Joined, Parted, Kicked, Quits, Renamed}
+use Rattle.net_view.specs.Told.{Told, Silent, Welcomed, Supports, Settles, Joined, Parted, Kicked, Quits, Renamed}
 use Rattle.net_view.specs.Arrival.{Received}
 use Rattle.net_view.specs.StateLines.{commands_read, told, with, actor, account_said, or_silent, told_by_any_line, told_by_welcome, told_by_join, told_by_part, told_by_kick, told_by_quit, told_by_nick}
 use Rattle.net_view.proofs.Holds.{of_next, of_test}
-use Rattle.net_view.proofs.Commands.{is_state_line-named, told-read, told-unread, told_of_welcome, told_of_join, told_of_part, told_of_kick, told_of_quit, told_of_nick}
+use Rattle.net_view.proofs.Commands.{is_state_line-named, told-read, told-unread, told_of_welcome, told_of_isupport, told_of_end_of_motd, told_of_no_motd, told_of_join, told_of_part, told_of_kick, told_of_quit, told_of_nick}
 
 -- a line of a command that is read is read as any line
 read_as : (settings : List Token) (line : Parts) (name : Text) → has_command line name ≡ true → list_any (str_eq_ignore_ascii_case name) commands_read ≡ true → told settings (Received line) ≡ told_by_any_line settings line
@@ -23,6 +23,18 @@ read_as settings line name e among = told-read settings line (is_state_line-name
 pub welcome_told : (settings : List Token) (line : Parts) → has_command line (codes "001") ≡ true → told settings (Received line) ≡ told_by_welcome settings line
 unfolding commands_read
 welcome_told settings line e = read_as settings line (codes "001") e refl ∙ told_of_welcome settings line e
+
+pub isupport_told : (settings : List Token) (line : Parts) → has_command line (codes "005") ≡ true → told settings (Received line) ≡ Supports line.params
+unfolding commands_read
+isupport_told settings line e = read_as settings line (codes "005") e refl ∙ told_of_isupport settings line e
+
+pub end_of_motd_told : (settings : List Token) (line : Parts) → has_command line (codes "376") ≡ true → told settings (Received line) ≡ Settles
+unfolding commands_read
+end_of_motd_told settings line e = read_as settings line (codes "376") e refl ∙ told_of_end_of_motd settings line e
+
+pub no_motd_told : (settings : List Token) (line : Parts) → has_command line (codes "422") ≡ true → told settings (Received line) ≡ Settles
+unfolding commands_read
+no_motd_told settings line e = read_as settings line (codes "422") e refl ∙ told_of_no_motd settings line e
 
 pub join_told : (settings : List Token) (line : Parts) → has_command line (codes "JOIN") ≡ true → told settings (Received line) ≡ told_by_join settings line
 unfolding commands_read
@@ -44,82 +56,103 @@ pub nick_told : (settings : List Token) (line : Parts) → has_command line (cod
 unfolding commands_read
 nick_told settings line e = read_as settings line (codes "NICK") e refl ∙ told_of_nick settings line e
 
-pub none_told : (settings : List Token) (line : Parts) → has_command line (codes "001") ≡ false → has_command line (codes "JOIN") ≡ false → has_command line (codes "PART") ≡ false →
+pub none_told : (settings : List Token) (line : Parts) → has_command line (codes "001") ≡ false → has_command line (codes "005") ≡ false → has_command line (codes "376") ≡ false → has_command line (codes "422") ≡ false → has_command line (codes "JOIN") ≡ false → has_command line (codes "PART") ≡ false →
     has_command line (codes "KICK") ≡ false → has_command line (codes "QUIT") ≡ false → has_command line (codes "NICK") ≡ false → told settings (Received line) ≡ Silent
 unfolding commands_read
-none_told settings line welcome join part kick quit nick = told-unread settings line (rw (welcome, join, part, kick, quit, nick) refl)
+none_told settings line welcome isupport motd no_motd join part kick quit nick = told-unread settings line (rw (welcome, isupport, motd, no_motd, join, part, kick, quit, nick) refl)
 
 -- ---- what they can tell
 
--- what the lines that are read can tell
-abbrev pub IsRead : Told → Type 0
-IsRead Silent = Unit {0}
-IsRead (Welcomed nick) = Unit {0}
-IsRead Settles = Unit {0}
-IsRead (Joined channel valid who account) = Unit {0}
-IsRead (Parted channel who) = Unit {0}
-IsRead (Kicked channel who) = Unit {0}
-IsRead (Quits who) = Unit {0}
-IsRead (Renamed old new) = Unit {0}
-IsRead _ = ⊥
+-- what the lines that are read can tell; more settings, where that is so
+abbrev pub IsRead : Bool → Told → Type 0
+IsRead more Silent = Unit {0}
+IsRead more (Welcomed nick) = Unit {0}
+IsRead more (Supports params) = more ≡ true
+IsRead more Settles = Unit {0}
+IsRead more (Joined channel valid who account) = Unit {0}
+IsRead more (Parted channel who) = Unit {0}
+IsRead more (Kicked channel who) = Unit {0}
+IsRead more (Quits who) = Unit {0}
+IsRead more (Renamed old new) = Unit {0}
+IsRead more _ = ⊥
 
-read_or : (o : Option Told) (t : Told) → IsRead t → IfSome o IsRead → IsRead (unwrap_or o t)
-read_or None t d h = d
-read_or (Some u) t d h = h
+read_or : (more : Bool) (o : Option Told) (t : Told) → IsRead more t → IfSome o (IsRead more) → IsRead more (unwrap_or o t)
+read_or more None t d h = d
+read_or more (Some u) t d h = h
 
-of_map : {X : Type 0} (f : X → Told) (o : Option X) → ((x : X) → IsRead (f x)) → IfSome (option_map f o) IsRead
-of_map f None h = tt
-of_map f (Some x) h = h x
+of_map : {X : Type 0} (more : Bool) (f : X → Told) (o : Option X) → ((x : X) → IsRead more (f x)) → IfSome (option_map f o) (IsRead more)
+of_map more f None h = tt
+of_map more f (Some x) h = h x
 
-read_welcome : (s : List Token) (l : Parts) → IsRead (told_by_welcome s l)
-read_welcome s l = read_or (with l 0 (λ nick. cond (is_nameable nick) (Some (Welcomed nick)) None)) Silent tt (of_next IsRead (slice_get l.params 0) (λ nick. cond (is_nameable nick) (Some (Welcomed nick)) None) (λ nick. of_test IsRead (is_nameable nick) (Some (Welcomed nick)) (λ _. tt)))
+read_welcome : (more : Bool) (s : List Token) (l : Parts) → IsRead more (told_by_welcome s l)
+read_welcome more s l = read_or more (with l 0 (λ nick. cond (is_nameable nick) (Some (Welcomed nick)) None)) Silent tt (of_next (IsRead more) (slice_get l.params 0) (λ nick. cond (is_nameable nick) (Some (Welcomed nick)) None) (λ nick. of_test (IsRead more) (is_nameable nick) (Some (Welcomed nick)) (λ _. tt)))
 
-read_join : (s : List Token) (l : Parts) → IsRead (told_by_join s l)
-read_join s l =
+read_join : (more : Bool) (s : List Token) (l : Parts) → IsRead more (told_by_join s l)
+read_join more s l =
     let of : Text → Name → Told = λ c who. Joined (name_of s c) (is_channel s c) who (with l 1 account_said) in
-    read_or (with l 0 (λ c. option_map (of c) (actor s l))) Settles tt (of_next IsRead (slice_get l.params 0) (λ c. option_map (of c) (actor s l)) (λ c. of_map (of c) (actor s l) (λ who. tt)))
+    read_or more (with l 0 (λ c. option_map (of c) (actor s l))) Settles tt (of_next (IsRead more) (slice_get l.params 0) (λ c. option_map (of c) (actor s l)) (λ c. of_map more (of c) (actor s l) (λ who. tt)))
 
-read_part : (s : List Token) (l : Parts) → IsRead (told_by_part s l)
-read_part s l =
+read_part : (more : Bool) (s : List Token) (l : Parts) → IsRead more (told_by_part s l)
+read_part more s l =
     let of : Text → Name → Told = λ c who. Parted (key_by s c) who.key in
-    read_or (with l 0 (λ c. option_map (of c) (actor s l))) Silent tt (of_next IsRead (slice_get l.params 0) (λ c. option_map (of c) (actor s l)) (λ c. of_map (of c) (actor s l) (λ who. tt)))
+    read_or more (with l 0 (λ c. option_map (of c) (actor s l))) Silent tt (of_next (IsRead more) (slice_get l.params 0) (λ c. option_map (of c) (actor s l)) (λ c. of_map more (of c) (actor s l) (λ who. tt)))
 
-read_kick : (s : List Token) (l : Parts) → IsRead (told_by_kick s l)
-read_kick s l =
+read_kick : (more : Bool) (s : List Token) (l : Parts) → IsRead more (told_by_kick s l)
+read_kick more s l =
     let of : Text → Name → Told = λ c who. Kicked (key_by s c) who.key in
-    let more : Text → Option Told = λ c. with l 1 (λ nick. option_map (of c) (nameable s nick)) in
-    read_or (with l 0 more) Silent tt (of_next IsRead (slice_get l.params 0) more (λ c. of_next IsRead (slice_get l.params 1) (λ nick. option_map (of c) (nameable s nick)) (λ nick. of_map (of c) (nameable s nick) (λ who. tt))))
+    let rest : Text → Option Told = λ c. with l 1 (λ nick. option_map (of c) (nameable s nick)) in
+    read_or more (with l 0 rest) Silent tt (of_next (IsRead more) (slice_get l.params 0) rest (λ c. of_next (IsRead more) (slice_get l.params 1) (λ nick. option_map (of c) (nameable s nick)) (λ nick. of_map more (of c) (nameable s nick) (λ who. tt))))
 
-read_quit : (s : List Token) (l : Parts) → IsRead (told_by_quit s l)
-read_quit s l = read_or (option_map (λ (who : Name). Quits who.key) (actor s l)) Silent tt (of_map (λ (who : Name). Quits who.key) (actor s l) (λ who. tt))
+read_quit : (more : Bool) (s : List Token) (l : Parts) → IsRead more (told_by_quit s l)
+read_quit more s l = read_or more (option_map (λ (who : Name). Quits who.key) (actor s l)) Silent tt (of_map more (λ (who : Name). Quits who.key) (actor s l) (λ who. tt))
 
-read_nick : (s : List Token) (l : Parts) → IsRead (told_by_nick s l)
-read_nick s l =
+read_nick : (more : Bool) (s : List Token) (l : Parts) → IsRead more (told_by_nick s l)
+read_nick more s l =
     let of : Name → Name → Told = λ old new. Renamed old.key new in
-    let more : Text → Option Told = λ nick. option_and_then (λ (old : Name). option_map (of old) (nameable s nick)) (actor s l) in
-    read_or (with l 0 more) Silent tt (of_next IsRead (slice_get l.params 0) more (λ nick. of_next IsRead (actor s l) (λ (old : Name). option_map (of old) (nameable s nick)) (λ old. of_map (of old) (nameable s nick) (λ new. tt))))
+    let rest : Text → Option Told = λ nick. option_and_then (λ (old : Name). option_map (of old) (nameable s nick)) (actor s l) in
+    read_or more (with l 0 rest) Silent tt (of_next (IsRead more) (slice_get l.params 0) rest (λ nick. of_next (IsRead more) (actor s l) (λ (old : Name). option_map (of old) (nameable s nick)) (λ old. of_map more (of old) (nameable s nick) (λ new. tt))))
 
 sure : (b : Bool) → (b ≡ true) ⊎ (b ≡ false)
 sure true = inl refl
 sure false = inr refl
 
-pub told_read : (s : List Token) (l : Parts) → IsRead (told s (Received l))
-told_read s l = elim (sure (has_command l (codes "001"))) [
-  | inl e ↦ subst IsRead (sym (welcome_told s l e)) (read_welcome s l)
-  | inr welcome ↦ elim (sure (has_command l (codes "JOIN"))) [
-    | inl e ↦ subst IsRead (sym (join_told s l e)) (read_join s l)
-    | inr join ↦ elim (sure (has_command l (codes "PART"))) [
-      | inl e ↦ subst IsRead (sym (part_told s l e)) (read_part s l)
-      | inr part ↦ elim (sure (has_command l (codes "KICK"))) [
-        | inl e ↦ subst IsRead (sym (kick_told s l e)) (read_kick s l)
-        | inr kick ↦ elim (sure (has_command l (codes "QUIT"))) [
-          | inl e ↦ subst IsRead (sym (quit_told s l e)) (read_quit s l)
-          | inr quit ↦ elim (sure (has_command l (codes "NICK"))) [
-            | inl e ↦ subst IsRead (sym (nick_told s l e)) (read_nick s l)
-            | inr nick ↦ subst IsRead (sym (none_told s l welcome join part kick quit nick)) tt
+told_read_join : (s : List Token) (l : Parts) → has_command l (codes "001") ≡ false → has_command l (codes "005") ≡ false → has_command l (codes "376") ≡ false → has_command l (codes "422") ≡ false → IsRead (has_command l (codes "005")) (told s (Received l))
+told_read_join s l welcome isupport motd no_motd =
+    elim (sure (has_command l (codes "JOIN"))) [
+      | inl e ↦ subst (IsRead (has_command l (codes "005"))) (sym (join_told s l e)) (read_join (has_command l (codes "005")) s l)
+      | inr join ↦ elim (sure (has_command l (codes "PART"))) [
+        | inl e ↦ subst (IsRead (has_command l (codes "005"))) (sym (part_told s l e)) (read_part (has_command l (codes "005")) s l)
+        | inr part ↦ elim (sure (has_command l (codes "KICK"))) [
+          | inl e ↦ subst (IsRead (has_command l (codes "005"))) (sym (kick_told s l e)) (read_kick (has_command l (codes "005")) s l)
+          | inr kick ↦ elim (sure (has_command l (codes "QUIT"))) [
+            | inl e ↦ subst (IsRead (has_command l (codes "005"))) (sym (quit_told s l e)) (read_quit (has_command l (codes "005")) s l)
+            | inr quit ↦ elim (sure (has_command l (codes "NICK"))) [
+              | inl e ↦ subst (IsRead (has_command l (codes "005"))) (sym (nick_told s l e)) (read_nick (has_command l (codes "005")) s l)
+              | inr nick ↦ subst (IsRead (has_command l (codes "005"))) (sym (none_told s l welcome isupport motd no_motd join part kick quit nick)) tt
+            ]
           ]
         ]
       ]
     ]
+
+told_read_on : (s : List Token) (l : Parts) → has_command l (codes "001") ≡ false → IsRead (has_command l (codes "005")) (told s (Received l))
+told_read_on s l welcome = elim (sure (has_command l (codes "005"))) [
+  | inl e ↦ subst (IsRead (has_command l (codes "005"))) (sym (isupport_told s l e)) e
+  | inr isupport ↦ elim (sure (has_command l (codes "376"))) [
+    | inl e ↦ subst (IsRead (has_command l (codes "005"))) (sym (end_of_motd_told s l e)) tt
+    | inr motd ↦ elim (sure (has_command l (codes "422"))) [
+      | inl e ↦ subst (IsRead (has_command l (codes "005"))) (sym (no_motd_told s l e)) tt
+      | inr no_motd ↦ told_read_join s l welcome isupport motd no_motd
+    ]
   ]
 ]
+
+pub told_read : (s : List Token) (l : Parts) → IsRead (has_command l (codes "005")) (told s (Received l))
+told_read s l = elim (sure (has_command l (codes "001"))) [
+  | inl e ↦ subst (IsRead (has_command l (codes "005"))) (sym (welcome_told s l e)) (read_welcome (has_command l (codes "005")) s l)
+  | inr welcome ↦ told_read_on s l welcome
+]
+
+-- only 005 tells more settings
+pub supports_said : (s : List Token) (l : Parts) (params : List Text) → told s (Received l) ≡ Supports params → has_command l (codes "005") ≡ true
+supports_said s l params e = subst (IsRead (has_command l (codes "005"))) e (told_read s l)

@@ -1,69 +1,52 @@
 -- Kept lines, looked back through one by one.
-use Rattle.std.specs.Prelude.{◌≡◌, ℕ, ◌+◌, ◌-◌, ◌<◌, ◌≤◌, Bool, true, false, cond, List, [], ◌∷◌, ◌++◌, take, length, get_or, reverse, is_some, ◌&&◌}
+use Rattle.std.specs.Prelude.{◌≡◌, ℕ, ◌+◌, ◌-◌, ◌<◌, ◌≤◌, Bool, true, false, cond, List, [], ◌∷◌, ◌++◌, take, length, get_or, reverse, is_some, not, ◌&&◌}
 use Rattle.std.specs.Option.{option_map, option_map_or, option_or, unwrap_or}
 use Rattle.std.proofs.Common.{Option, Some, None, refl, sym, ap, ◌∙◌, arith, subst}
 use Rattle.std.proofs.lemmas.List.{reverse-append, take_more}
 use Rattle.irc_line.specs.Line.{Parts}
 use Rattle.irc_support.specs.Text.{Text}
-use Rattle.irc_support.specs.Settings.{key_by}
-use Rattle.net_view.specs.Names.{same}
+use Rattle.irc_support.specs.Tokens.{Token, set_tokens}
 use Rattle.net_view.specs.declared.tape.Kept.{Kept}
 use Rattle.net_view.specs.declared.told.Marks.{Marks}
 use Rattle.net_view.specs.declared.told.Telling.{Telling}
 use Rattle.net_view.specs.declared.told.Telling.TheVariants as telling
-use Rattle.net_view.specs.Told.{Told, Silent, Welcomed, Settles, Joined, Parted, Kicked, Quits, Renamed, Disconnected}
+use Rattle.net_view.specs.Told.{Told, Welcomed, Supports, Disconnected}
 use Rattle.net_view.specs.Arrival.{Arrival, Received, Lost}
 use Rattle.net_view.specs.StateLines.{told}
-use Rattle.net_view.specs.Transcript.{Standing, standing, settings_after, own_after, own_nick, ready_after, is_ready, is_us, Reading, readings_of, ours}
+use Rattle.net_view.specs.Transcript.{Standing, standing, standing_after, settings_after, settings_of, own_after, own_nick, ready_after, is_ready, is_us, Reading, readings_of, ours}
 use Rattle.net_view.specs.LookBack.{last}
-use Rattle.net_view.specs.Presence.{says_on, name_on}
-use Rattle.net_view.specs.Tells.{meant, IsMarked, us_of, own_said, settles_said}
-use Rattle.net_view.specs.Tape.{with_lost, played_back, tape_of, AreMarked, IsMarkedTape}
-use Rattle.net_view.proofs.Tests.{unwrap_or_or}
-use Rattle.net_view.proofs.ReadCommands.{IsRead, told_read}
+use Rattle.net_view.specs.Presence.{says_on, name_on, is_on}
+use Rattle.net_view.specs.Tells.{meant, IsMarked, own_said, settles_said}
+use Rattle.net_view.specs.Tape.{with_lost, played_back, tape_of, AreMarked, IsMarkedLine, IsMarkedTape, IsReadable}
+use Rattle.net_view.specs.View.{channel_named}
+use Rattle.net_view.proofs.Tests.{unwrap_or_or, no_true, none_of_is_some}
+use Rattle.net_view.proofs.Channels.{channels_get}
+use Rattle.net_view.proofs.SoundStep.{sound_back}
+use Rattle.net_view.proofs.Places.{false_unless}
 
 -- one more line
 pub tape_more : {A : Type 0} (ks : List (Kept A)) (i : ℕ) (d : Kept A) → i < length ks → tape_of (take (i + 1) ks) ≡ with_lost (get_or ks i d).lost (Received (get_or ks i d).line ∷ tape_of (take i ks))
 unfolding tape_of
 tape_more ks i d lt = ap (λ s. played_back (reverse s)) (take_more ks i d lt) ∙ ap played_back (reverse-append (take i ks) (get_or ks i d ∷ []))
 
-settings_read : (t : Told) (s : Standing) → IsRead t → s.settings ≡ [] → settings_after t s ≡ []
-settings_read Silent s r h = h
-settings_read (Welcomed nick) s r h = refl
-settings_read Settles s r h = h
-settings_read (Joined channel valid who account) s r h = h
-settings_read (Parted channel who) s r h = h
-settings_read (Kicked channel who) s r h = h
-settings_read (Quits who) s r h = h
-settings_read (Renamed old new) s r h = h
-settings_read _ s r h = absurd r
-
--- no line that is read changes the settings
-pub no_settings : (items : List Arrival) → (standing items).settings ≡ []
-unfolding told
-no_settings [] = refl
-no_settings (Received l ∷ older) = settings_read (told (standing older).settings (Received l)) (standing older) (told_read (standing older).settings l) (no_settings older)
-no_settings (Lost ∷ older) = no_settings older
-
--- the tests of who we are, under the default settings
-pub plain_us : (s : Standing) → s.settings ≡ [] → is_us s ≡ us_of s.own
-plain_us s h = λ i key. elim s.own as (λ o. Bool) [ None ↦ false | Some nick ↦ same (key_by (h i) nick) key ]
-
 pub readings_line : (b : Bool) (l : Parts) (older : List Arrival) → readings_of (with_lost b (Received l ∷ older)) ≡
-    cond b (record { before = standing (Received l ∷ older); told = Disconnected } ∷ record { before = standing older; told = told [] (Received l) } ∷ readings_of older) (record { before = standing older; told = told [] (Received l) } ∷ readings_of older)
+    cond b (record { before = standing (Received l ∷ older); told = Disconnected } ∷ record { before = standing older; told = told (settings_of older) (Received l) } ∷ readings_of older) (record { before = standing older; told = told (settings_of older) (Received l) } ∷ readings_of older)
 unfolding told
-readings_line true l older = ap (λ s. record { before = standing (Received l ∷ older); told = Disconnected } ∷ record { before = standing older; told = told s (Received l) } ∷ readings_of older) (no_settings older)
-readings_line false l older = ap (λ s. record { before = standing older; told = told s (Received l) } ∷ readings_of older) (no_settings older)
+readings_line true l older = refl
+readings_line false l older = refl
 
-own_line : (b : Bool) (l : Parts) (older : List Arrival) → own_nick (with_lost b (Received l ∷ older)) ≡ own_after (told [] (Received l)) (standing older)
+standing_line : (b : Bool) (l : Parts) (older : List Arrival) → standing (with_lost b (Received l ∷ older)) ≡ standing_after (told (settings_of older) (Received l)) (standing older)
 unfolding told
-own_line true l older = ap (λ s. own_after (told s (Received l)) (standing older)) (no_settings older)
-own_line false l older = ap (λ s. own_after (told s (Received l)) (standing older)) (no_settings older)
+standing_line true l older = refl
+standing_line false l older = refl
 
-ready_line : (b : Bool) (l : Parts) (older : List Arrival) → is_ready (with_lost b (Received l ∷ older)) ≡ ready_after (told [] (Received l)) (standing older)
-unfolding told
-ready_line true l older = ap (λ s. ready_after (told s (Received l)) (standing older)) (no_settings older)
-ready_line false l older = ap (λ s. ready_after (told s (Received l)) (standing older)) (no_settings older)
+-- where the settings are fixed after an item, they are those of before it
+steady : (t : Told) (s : Standing) → ready_after t s ≡ true → settings_after t s ≡ s.settings
+steady (Welcomed nick) s e = absurd (no_true e)
+steady (Supports params) s e =
+    ap (λ r. cond (is_some s.own && not r) (set_tokens s.settings params) s.settings) e
+    ∙ elim (is_some s.own) as (λ b. cond (b && not true) (set_tokens s.settings params) s.settings ≡ s.settings) [ true ↦ refl | false ↦ refl ]
+steady _ s e = refl
 
 -- the readings of the first lines
 abbrev pub line_at : {A : Type 0} → List (Kept A) → ℕ → List Reading
@@ -71,30 +54,32 @@ line_at ks i = readings_of (tape_of (take i ks))
 
 -- ---- what a telling says of us
 
-own_meant : (r : Telling) (marks : Marks) (s : Standing) → IsMarked (is_us s) (meant r) marks → own_after (meant r) s ≡ option_or (own_said marks r) s.own
-own_meant telling.Silent marks s m = refl
-own_meant (telling.Welcomed nick) marks s m = refl
-own_meant telling.Settles marks s m = refl
-own_meant (telling.Joined channel who account) marks s m = refl
-own_meant (telling.Parted channel who) marks s m = refl
-own_meant (telling.Kicked channel who) marks s m = refl
-own_meant (telling.Quits who) marks s m = refl
-own_meant (telling.Renamed old new) marks s m =
+own_meant : {A : Type 0} (settings : List Token) (r : Telling A) (marks : Marks) (s : Standing) → IsMarked (is_us s) (meant settings r) marks → own_after (meant settings r) s ≡ option_or (own_said marks r) s.own
+own_meant settings telling.Silent marks s m = refl
+own_meant settings (telling.Welcomed nick) marks s m = refl
+own_meant settings (telling.Supports line) marks s m = refl
+own_meant settings telling.Settles marks s m = refl
+own_meant settings (telling.Joined channel who account) marks s m = refl
+own_meant settings (telling.Parted channel who) marks s m = refl
+own_meant settings (telling.Kicked channel who) marks s m = refl
+own_meant settings (telling.Quits who) marks s m = refl
+own_meant settings (telling.Renamed old new) marks s m =
     ap (λ b. cond b (Some new.now) s.own) (sym m.by_us)
     ∙ elim marks.by_us as (λ b. cond b (Some new.now) s.own ≡ option_or (cond b (Some new.now) None) s.own) [ true ↦ refl | false ↦ refl ]
 
-ready_meant : (r : Telling) (s : Standing) → ready_after (meant r) s ≡ unwrap_or (option_map (λ b. b && is_some s.own) (settles_said r)) s.ready
-ready_meant telling.Silent s = refl
-ready_meant (telling.Welcomed nick) s = refl
-ready_meant telling.Settles s = refl
-ready_meant (telling.Joined channel who account) s = refl
-ready_meant (telling.Parted channel who) s = refl
-ready_meant (telling.Kicked channel who) s = refl
-ready_meant (telling.Quits who) s = refl
-ready_meant (telling.Renamed old new) s = refl
+pub ready_meant : {A : Type 0} (settings : List Token) (r : Telling A) (s : Standing) → ready_after (meant settings r) s ≡ unwrap_or (option_map (λ b. b && is_some s.own) (settles_said r)) s.ready
+ready_meant settings telling.Silent s = refl
+ready_meant settings (telling.Welcomed nick) s = refl
+ready_meant settings (telling.Supports line) s = refl
+ready_meant settings telling.Settles s = refl
+ready_meant settings (telling.Joined channel who account) s = refl
+ready_meant settings (telling.Parted channel who) s = refl
+ready_meant settings (telling.Kicked channel who) s = refl
+ready_meant settings (telling.Quits who) s = refl
+ready_meant settings (telling.Renamed old new) s = refl
 
 -- the last of some lines, and those before it
-pub marked_split : {A : Type 0} (front : List (Kept A)) (k : Kept A) → IsMarkedTape (front ++ k ∷ []) → IsMarked (is_us (standing (tape_of front))) (told [] (Received k.line)) k.marks × IsMarkedTape front
+pub marked_split : {A : Type 0} (front : List (Kept A)) (k : Kept A) → IsMarkedTape (front ++ k ∷ []) → IsMarkedLine (tape_of front) k × IsMarkedTape front
 unfolding tape_of IsMarkedTape
 marked_split front k m = subst AreMarked (reverse-append front (k ∷ [])) m
 
@@ -102,7 +87,7 @@ marked_split front k m = subst AreMarked (reverse-append front (k ∷ [])) m
 module _ {A : Type 0} (ks : List (Kept A)) (i : ℕ) (k : Kept A) (pos : 0 < i) (within : i ≤ length ks) (at : k ≡ get_or ks (i - 1) k) where
   -- the line as it is read
   abbrev pub reading : Reading
-  reading = record { before = standing (tape_of (take (i - 1) ks)); told = told [] (Received k.line) }
+  reading = record { before = standing (tape_of (take (i - 1) ks)); told = told (settings_of (tape_of (take (i - 1) ks))) (Received k.line) }
 
   -- the tape up to a line
   pub tape_at : tape_of (take i ks) ≡ with_lost k.lost (Received k.line ∷ tape_of (take (i - 1) ks))
@@ -111,18 +96,40 @@ module _ {A : Type 0} (ks : List (Kept A)) (i : ℕ) (k : Kept A) (pos : 0 < i) 
       ap (λ j. tape_of (take j ks)) e ∙ tape_more ks (i - 1) k (omega arith)
       ∙ ap (λ (j : Kept A). with_lost j.lost (Received j.line ∷ tape_of (take (i - 1) ks))) (sym at)
 
-  marked_both : IsMarkedTape (take i ks) → IsMarked (is_us (standing (tape_of (take (i - 1) ks)))) (told [] (Received k.line)) k.marks × IsMarkedTape (take (i - 1) ks)
+  marked_both : IsMarkedTape (take i ks) → IsMarkedLine (tape_of (take (i - 1) ks)) k × IsMarkedTape (take (i - 1) ks)
   marked_both m =
       let e : i ≡ (i - 1) + 1 = omega arith in
       let snoc : take i ks ≡ take (i - 1) ks ++ k ∷ [] = ap (λ j. take j ks) e ∙ take_more ks (i - 1) k (omega arith) ∙ ap (λ (j : Kept A). take (i - 1) ks ++ j ∷ []) (sym at) in
       marked_split (take (i - 1) ks) k (subst IsMarkedTape snoc m)
 
-  -- the line is marked by who we were before it
-  pub marked_at : IsMarkedTape (take i ks) → IsMarked (is_us (standing (tape_of (take (i - 1) ks)))) (told [] (Received k.line)) k.marks
-  marked_at m = (marked_both m).0
-
   pub marked_before : IsMarkedTape (take i ks) → IsMarkedTape (take (i - 1) ks)
   marked_before m = (marked_both m).1
+
+  standing_at : standing (tape_of (take i ks)) ≡ standing_after reading.told reading.before
+  standing_at = ap standing tape_at ∙ standing_line k.lost k.line (tape_of (take (i - 1) ks))
+
+  -- the mark of the settings
+  pub fixed_at : IsMarkedTape (take i ks) → is_ready (tape_of (take i ks)) ≡ k.fixed
+  fixed_at m = ap (λ (s : Standing). s.ready) standing_at ∙ sym ((marked_both m).0).fixed
+
+  -- once they are fixed, the line was read by the settings in force
+  pub read_at : (settings : List Token) → IsReadable settings (take i ks) → k.fixed ≡ true → settings_of (tape_of (take (i - 1) ks)) ≡ settings
+  read_at settings h fixed =
+      let ready = fixed_at h.marked ∙ fixed in
+      sym (steady reading.told reading.before (sym (ap (λ (s : Standing). s.ready) standing_at) ∙ ready))
+      ∙ sym (ap (λ (s : Standing). s.settings) standing_at)
+      ∙ h.read ready
+
+  pub readable_before : (settings : List Token) → IsReadable settings (take i ks) → k.fixed ≡ true → IsReadable settings (take (i - 1) ks)
+  readable_before settings h fixed = record { marked = marked_before h.marked; read = λ _. read_at settings h fixed }
+
+  -- what the line tells, as it is read
+  pub told_at : (settings : List Token) (r : Telling A) → IsReadable settings (take i ks) → k.fixed ≡ true → ((s : List Token) → meant s r ≡ told s (Received k.line)) → meant settings r ≡ reading.told
+  told_at settings r h fixed tells = tells settings ∙ ap (λ s. told s (Received k.line)) (sym (read_at settings h fixed))
+
+  -- and its marks
+  pub marked_at : (settings : List Token) (r : Telling A) → IsReadable settings (take i ks) → k.fixed ≡ true → ((s : List Token) → meant s r ≡ told s (Received k.line)) → IsMarked (ours reading) (meant settings r) k.marks
+  marked_at settings r h fixed tells = subst (λ t. IsMarked (ours reading) t k.marks) (sym (told_at settings r h fixed tells)) ((marked_both h.marked).0).marks
 
   -- a question that a loss answers, asked at this line
   pub asked : {X : Type 0} (question : List Reading → X) (none : X) → ((s : Standing) (rs : List Reading) → question (record { before = s; told = Disconnected } ∷ rs) ≡ none) →
@@ -137,22 +144,13 @@ module _ {A : Type 0} (ks : List (Kept A)) (i : ℕ) (k : Kept A) (pos : 0 < i) 
         | false ↦ refl
       ]
 
-  pub own_at : own_nick (tape_of (take i ks)) ≡ own_after (told [] (Received k.line)) (standing (tape_of (take (i - 1) ks)))
-  own_at = ap own_nick tape_at ∙ own_line k.lost k.line (tape_of (take (i - 1) ks))
-
-  pub own_found : (r : Telling) → meant r ≡ told [] (Received k.line) → IsMarkedTape (take i ks) → own_nick (tape_of (take i ks)) ≡ option_or (own_said k.marks r) (own_nick (tape_of (take (i - 1) ks)))
+  pub own_found : (r : Telling A) → ((s : List Token) → meant s r ≡ told s (Received k.line)) → IsMarkedTape (take i ks) → own_nick (tape_of (take i ks)) ≡ option_or (own_said k.marks r) (own_nick (tape_of (take (i - 1) ks)))
   own_found r tells m =
-      own_at
-      ∙ ap (λ t. own_after t (standing (tape_of (take (i - 1) ks)))) (sym tells)
-      ∙ own_meant r k.marks (standing (tape_of (take (i - 1) ks))) (subst (λ t. IsMarked (is_us (standing (tape_of (take (i - 1) ks)))) t k.marks) (sym tells) (marked_at m))
-
-  pub ready_found : (r : Telling) → meant r ≡ told [] (Received k.line) →
-      is_ready (tape_of (take i ks)) ≡ unwrap_or (option_map (λ b. b && is_some (own_nick (tape_of (take (i - 1) ks)))) (settles_said r)) (is_ready (tape_of (take (i - 1) ks)))
-  ready_found r tells =
-      ap is_ready tape_at
-      ∙ ready_line k.lost k.line (tape_of (take (i - 1) ks))
-      ∙ ap (λ t. ready_after t (standing (tape_of (take (i - 1) ks)))) (sym tells)
-      ∙ ready_meant r (standing (tape_of (take (i - 1) ks)))
+      let older = tape_of (take (i - 1) ks) in
+      let settings = settings_of older in
+      ap (λ (s : Standing). s.own) standing_at
+      ∙ ap (λ t. own_after t reading.before) (sym (tells settings))
+      ∙ own_meant settings r k.marks reading.before (subst (λ t. IsMarked (ours reading) t k.marks) (sym (tells settings)) ((marked_both m).0).marks)
 
   pub name_at : (c : Text) → name_on (line_at ks i) c ≡ cond k.lost None (unwrap_or (says_on c (ours reading) reading.told) (name_on (line_at ks (i - 1)) c))
   name_at c =
@@ -170,3 +168,28 @@ name_none A c = refl
 pub ready_none : (A : Type 0) → is_ready (tape_of {A = A} []) ≡ false
 unfolding tape_of
 ready_none A = refl
+
+-- where we are on a channel the settings are fixed
+pub ready_on : (items : List Arrival) (c : Text) → is_on (readings_of items) c ≡ true → is_ready items ≡ true
+ready_on items c on =
+    elim (name_on (readings_of items) c) as (λ o. name_on (readings_of items) c ≡ o → is_some o ≡ true → is_ready items ≡ true) [
+      | None ↦ λ e h. absurd (no_true h)
+      | Some name ↦ λ e h. ((sound_back items).channels c (channel_named (readings_of items) c name) (channels_get (readings_of items) c ∙ ap (option_map (channel_named (readings_of items) c)) e)).ready
+    ] refl on
+
+pub unready_off : (items : List Arrival) (c : Text) → is_ready items ≡ false → name_on (readings_of items) c ≡ None
+unready_off items c e = none_of_is_some (name_on (readings_of items) c) (false_unless (is_on (readings_of items) c) (λ on. no_true (sym e ∙ ready_on items c on)))
+
+-- a line up to which we are on a channel
+module _ {A : Type 0} (ks : List (Kept A)) (i : ℕ) (k : Kept A) (pos : 0 < i) (within : i ≤ length ks) (at : k ≡ get_or ks (i - 1) k) where
+  pub on_fixed : (c : Text) → IsMarkedTape (take i ks) → is_on (line_at ks i) c ≡ true → k.fixed ≡ true
+  on_fixed c marked on = sym (fixed_at ks i k pos within at marked) ∙ ready_on (tape_of (take i ks)) c on
+
+  on_either : (c : Text) → is_on (line_at ks i) c ≡ cond k.lost false (is_on (reading ks i k pos within at ∷ line_at ks (i - 1)) c)
+  on_either c = asked ks i k pos within at (λ rs. is_on rs c) false (λ s rs. refl)
+
+  pub on_unlost : (c : Text) → is_on (line_at ks i) c ≡ true → k.lost ≡ false
+  on_unlost c on = false_unless k.lost (λ lost. no_true (sym (on_either c ∙ ap (λ b. cond b false (is_on (reading ks i k pos within at ∷ line_at ks (i - 1)) c)) lost) ∙ on))
+
+  pub on_here : (c : Text) → is_on (line_at ks i) c ≡ true → is_on (reading ks i k pos within at ∷ line_at ks (i - 1)) c ≡ true
+  on_here c on = sym (on_either c ∙ ap (λ b. cond b false (is_on (reading ks i k pos within at ∷ line_at ks (i - 1)) c)) (on_unlost c on)) ∙ on

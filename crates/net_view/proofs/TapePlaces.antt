@@ -7,6 +7,7 @@ use Rattle.std.specs.FinMap.Entries.{below_all}
 use Rattle.std.proofs.Common.{Option, Some, None, refl, sym, ap, ◌∙◌, subst}
 use Rattle.std.proofs.lemmas.Option.{none-some, same_Some}
 use Rattle.net_view.specs.Text.{Text}
+use Rattle.net_view.specs.Tokens.{Token}
 use Rattle.net_view.specs.Names.{same, bytes_cmp}
 use Rattle.net_view.specs.Arrival.{Arrival}
 use Rattle.net_view.specs.Transcript.{Reading, readings_of}
@@ -54,14 +55,14 @@ members_of_channel : (rs : List Reading) (k : Text) (o : Option Text) (ch : Chan
 members_of_channel rs k None ch e = absurd (none-some ch e)
 members_of_channel rs k (Some name) ch e = ap (λ (c : Channel). c.members) (sym (same_Some (channel_named rs k name) ch e))
 
-module _ (items : List Arrival) (i : ℕ) where
+module _ (settings : List Token) (items : List Arrival) (i : ℕ) where
   abbrev rs : List Reading
   rs = readings_of items
 
-  pub no_channel : None ≡ shown_key Channels (readings_of items) i → channel_shown (view_back items) i ≡ None
+  pub no_channel : None ≡ shown_key settings Channels (readings_of items) i → channel_shown (view_back items) i ≡ None
   no_channel e = ap (option_map (λ (x : Text × Channel). x.1)) (none_mapped (λ (x : Text × Channel). x.0) (slice_get (fin.entries (channels_of rs)) i) e)
 
-  pub no_members : None ≡ shown_key Channels (readings_of items) i → members_shown (view_back items) i ≡ 0
+  pub no_members : None ≡ shown_key settings Channels (readings_of items) i → members_shown (view_back items) i ≡ 0
   no_members e = ap (λ o. option_map_or (λ (ch : Channel). length (fin.entries ch.members)) o 0) (no_channel e)
 
   -- the channel of this key is at this place
@@ -70,7 +71,7 @@ module _ (items : List Arrival) (i : ℕ) where
     shown : channel_shown (view_back items) i ≡ Some channel
     found : option_map (channel_named rs k) (name_on rs k) ≡ Some channel
 
-  there : (k : Text) → Some k ≡ shown_key Channels (readings_of items) i → IsThere k
+  there : (k : Text) → Some k ≡ shown_key settings Channels (readings_of items) i → IsThere k
   there k e =
       let x = at_key (slice_get (fin.entries (channels_of rs)) i) k e in
       let entry = x.0 in
@@ -80,12 +81,12 @@ module _ (items : List Arrival) (i : ℕ) where
         found = ap (channel_of rs) (sym (x.2)) ∙ sym (channels_get rs entry.0) ∙ entry_at (channels_of rs) i entry (x.1);
       }
 
-  pub name_shown : (k : Text) → Some k ≡ shown_key Channels (readings_of items) i → option_map (λ (ch : Channel). ch.name) (channel_shown (view_back items) i) ≡ name_on (readings_of items) k
+  pub name_shown : (k : Text) → Some k ≡ shown_key settings Channels (readings_of items) i → option_map (λ (ch : Channel). ch.name) (channel_shown (view_back items) i) ≡ name_on (readings_of items) k
   name_shown k e =
       let t = there k e in
       ap (option_map (λ (ch : Channel). ch.name)) (t.shown ∙ sym t.found) ∙ name_of_channel rs k (name_on rs k)
 
-  pub members_counted : (k : Text) → Some k ≡ shown_key Channels (readings_of items) i → members_shown (view_back items) i ≡ length (fin.entries (members_of (readings_of items) k))
+  pub members_counted : (k : Text) → Some k ≡ shown_key settings Channels (readings_of items) i → members_shown (view_back items) i ≡ length (fin.entries (members_of (readings_of items) k))
   members_counted k e =
       let t = there k e in
       ap (λ o. option_map_or (λ (ch : Channel). length (fin.entries ch.members)) o 0) t.shown
@@ -93,10 +94,10 @@ module _ (items : List Arrival) (i : ℕ) where
 
   -- ---- members
 
-  pub no_member_of_none : (j : ℕ) → None ≡ shown_key Channels (readings_of items) i → member_shown (view_back items) i j ≡ None
+  pub no_member_of_none : (j : ℕ) → None ≡ shown_key settings Channels (readings_of items) i → member_shown (view_back items) i j ≡ None
   no_member_of_none j e = ap (λ o. option_and_then (λ (ch : Channel). option_map (member_parts (view_back items)) (slice_get (fin.entries ch.members) j)) o) (no_channel e)
 
-  member_entry : (k : Text) (j : ℕ) → Some k ≡ shown_key Channels (readings_of items) i → member_shown (view_back items) i j ≡ option_map (member_parts (view_back items)) (slice_get (fin.entries (members_of (readings_of items) k)) j)
+  member_entry : (k : Text) (j : ℕ) → Some k ≡ shown_key settings Channels (readings_of items) i → member_shown (view_back items) i j ≡ option_map (member_parts (view_back items)) (slice_get (fin.entries (members_of (readings_of items) k)) j)
   member_entry k j e =
       let t = there k e in
       ap (λ o. option_and_then (λ (ch : Channel). option_map (member_parts (view_back items)) (slice_get (fin.entries ch.members) j)) o) t.shown
@@ -105,7 +106,7 @@ module _ (items : List Arrival) (i : ℕ) where
   abbrev key_at : Text → ℕ → Option Text
   key_at k j = option_map (λ (x : Text × List ℕ). x.0) (slice_get (fin.entries (members_of rs k)) j)
 
-  pub no_member : (k : Text) (j : ℕ) → Some k ≡ shown_key Channels (readings_of items) i → None ≡ option_map (λ (x : Text × List ℕ). x.0) (slice_get (fin.entries (members_of (readings_of items) k)) j) → member_shown (view_back items) i j ≡ None
+  pub no_member : (k : Text) (j : ℕ) → Some k ≡ shown_key settings Channels (readings_of items) i → None ≡ option_map (λ (x : Text × List ℕ). x.0) (slice_get (fin.entries (members_of (readings_of items) k)) j) → member_shown (view_back items) i j ≡ None
   no_member k j e none =
       member_entry k j e ∙ ap (option_map (member_parts (view_back items))) (none_mapped (λ (x : Text × List ℕ). x.0) (slice_get (fin.entries (members_of rs k)) j) none)
 
@@ -133,7 +134,7 @@ module _ (items : List Arrival) (i : ℕ) where
   or_itself None d h = absurd (no_true h)
   or_itself (Some x) d h = refl
 
-  is_spelled : (k n : Text) (j : ℕ) → Some k ≡ shown_key Channels (readings_of items) i → Some n ≡ key_at k j → is_some (known_at (λ p. p.spelled) (view_back items) n) ≡ true
+  is_spelled : (k n : Text) (j : ℕ) → Some k ≡ shown_key settings Channels (readings_of items) i → Some n ≡ key_at k j → is_some (known_at (λ p. p.spelled) (view_back items) n) ≡ true
   is_spelled k n j e f =
       let t = there k e in
       let x = at_key (slice_get (fin.entries (members_of rs k)) j) n f in
@@ -145,7 +146,7 @@ module _ (items : List Arrival) (i : ℕ) where
       ∙ ap is_some (entry_at (members_of rs k) j (x.0) (x.1)) in
       some_is (IsSpelling (view_back items).settings n) (known_at (λ p. p.spelled) (view_back items) n) (sound.spelled n member)
 
-  pub nick_shown : (k n : Text) (j : ℕ) → Some k ≡ shown_key Channels (readings_of items) i → Some n ≡ option_map (λ (x : Text × List ℕ). x.0) (slice_get (fin.entries (members_of (readings_of items) k)) j) →
+  pub nick_shown : (k n : Text) (j : ℕ) → Some k ≡ shown_key settings Channels (readings_of items) i → Some n ≡ option_map (λ (x : Text × List ℕ). x.0) (slice_get (fin.entries (members_of (readings_of items) k)) j) →
       option_map (λ (m : MemberParts). m.nick) (member_shown (view_back items) i j) ≡ spelling_of (readings_of items) n
   nick_shown k n j e f =
       let x = at_key (slice_get (fin.entries (members_of rs k)) j) n f in

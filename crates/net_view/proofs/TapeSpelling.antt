@@ -8,10 +8,15 @@ use Rattle.net_view.specs.Arrival.{Received}
 use Rattle.net_view.specs.Transcript.{Reading, readings_of, ours}
 use Rattle.net_view.specs.Presence.{is_on}
 use Rattle.net_view.specs.Facts.{says_spelling, in_sight, spelling_of}
-use Rattle.net_view.specs.Tape.{with_lost, tape_of}
-use Rattle.net_view.proofs.Tests.{no_true}
+use Rattle.net_view.specs.Tape.{with_lost, tape_of, IsMarkedTape}
+use Rattle.net_view.proofs.Tests.{no_true, and_parts}
+use Rattle.std.specs.Option.{unwrap_or}
+use Rattle.net_view.specs.LookBack.{last_of}
+use Rattle.net_view.specs.Members.{says_member, is_member}
+use Rattle.net_view.specs.Named.{named, channels_in}
+use Rattle.net_view.proofs.Keys.{some_key}
 use Rattle.net_view.proofs.InSight.{was_in_sight, spelled_now, none_in_sight}
-use Rattle.net_view.proofs.TapeBack.{line_at, reading, asked, tape_at, readings_line}
+use Rattle.net_view.proofs.TapeBack.{line_at, reading, asked, tape_at, readings_line, on_fixed}
 
 -- what is left to look through says the same of the person
 pub record IsLeft (rs rest : List Reading) (n : Text) : Type 0 where
@@ -41,6 +46,13 @@ module _ {A : Type 0} (ks : List (Kept A)) (i : ℕ) (k : Kept A) (pos : 0 < i) 
             ∙ ap (λ b. cond b false (in_sight (here ∷ line_at ks (i - 1)) n)) e) ∙ seen))
         | false ↦ λ e. ap readings_of (tape_at ks i k pos within at ∙ ap (λ b. with_lost b (Received k.line ∷ tape_of (take (i - 1) ks))) e) ∙ readings_line false k.line (tape_of (take (i - 1) ks))
       ] refl
+
+  -- and the settings are fixed after it
+  pub seen_fixed : IsMarkedTape (take i ks) → k.fixed ≡ true
+  seen_fixed marked =
+      let at_channel = some_key (λ c. is_member (line_at ks i) c n) (named channels_in (line_at ks i)) seen in
+      let on = (and_parts (is_on (line_at ks i) (at_channel.0)) (unwrap_or (last_of (says_member (at_channel.0)) (line_at ks i) n) false) (at_channel.1)).0 in
+      on_fixed ks i k pos within at (at_channel.0) marked on
 
   pub spelling_found : (answer : Option Text) → says_spelling (ours here) (is_on (line_at ks i)) here.told n ≡ Some answer → spelling_of (line_at ks i) n ≡ answer
   spelling_found answer said = said_now here (line_at ks i) (line_at ks (i - 1)) n answer no_loss said seen

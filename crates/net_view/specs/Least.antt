@@ -6,6 +6,7 @@ use Rattle.std.specs.Option.{IfSome, MatchOption}
 use Rattle.std.specs.Ordering.{is_lt}
 use Rattle.std.proofs.Common.{Option, Some, None}
 use Rattle.net_view.specs.Text.{Text}
+use Rattle.net_view.specs.Tokens.{Token}
 use Rattle.net_view.specs.Names.{bytes_cmp}
 
 -- above this key; where there is none, any key is
@@ -28,6 +29,6 @@ abbrev pub considered : (Text → Bool) → Option Text → Option Text → List
 considered there after best [] = best
 considered there after best (c ∷ cs) = if above after c && there c then lesser best c else best
 
--- the key of a name, under the default settings
-abbrev pub key_in : Option Text → Option Text
-key_in name = option_map (key_by []) name
+-- the key of a name, under these settings
+abbrev pub key_in : List Token → Option Text → Option Text
+key_in settings name = option_map (key_by settings) name

@@ -4,6 +4,7 @@ use Rattle.std.specs.Option.{option_map}
 use Rattle.std.specs.FinMap as map
 use Rattle.std.proofs.Common.{Option, Some, None}
 use Rattle.net_view.specs.Text.{Text}
+use Rattle.net_view.specs.Tokens.{Token}
 use Rattle.net_view.specs.Settings.{key_by}
 use Rattle.net_view.specs.Told as spec
 use Rattle.net_view.specs.Transcript.{Reading}
@@ -15,9 +16,9 @@ use Rattle.net_view.specs.declared.tape.Shown.{Shown}
 use Rattle.net_view.specs.declared.tape.Shown.TheVariants.{Channels, Members}
 
 -- the key of a name, as a list
-abbrev pub key_list : Option Text → List Text
-key_list None = []
-key_list (Some name) = key_by [] name ∷ []
+abbrev pub key_list : List Token → Option Text → List Text
+key_list settings None = []
+key_list settings (Some name) = key_by settings name ∷ []
 
 -- the keys that an item names
 abbrev pub names_in : Shown → spec.Told → List Text
@@ -25,16 +26,16 @@ names_in Channels t = channels_in t
 names_in (Members channel) t = people_in t
 
 -- whether what has this key is there
-abbrev pub is_shown : Shown → List Reading → Text → Bool
-is_shown Channels rs k = is_some (name_on rs k)
-is_shown (Members channel) rs k = is_member rs (key_by [] channel.now) k
+abbrev pub is_shown : List Token → Shown → List Reading → Text → Bool
+is_shown settings Channels rs k = is_some (name_on rs k)
+is_shown settings (Members channel) rs k = is_member rs (key_by settings channel.now) k
 
 -- the key at a place
-abbrev pub shown_key : Shown → List Reading → ℕ → Option Text
-shown_key Channels rs i = option_map (λ e. e.0) (slice_get (map.entries (channels_of rs)) i)
-shown_key (Members channel) rs i = option_map (λ e. e.0) (slice_get (map.entries (members_of rs (key_by [] channel.now))) i)
+abbrev pub shown_key : List Token → Shown → List Reading → ℕ → Option Text
+shown_key settings Channels rs i = option_map (λ e. e.0) (slice_get (map.entries (channels_of rs)) i)
+shown_key settings (Members channel) rs i = option_map (λ e. e.0) (slice_get (map.entries (members_of rs (key_by settings channel.now))) i)
 
 -- how many there are
-abbrev pub shown_len : Shown → List Reading → ℕ
-shown_len Channels rs = length (map.entries (channels_of rs))
-shown_len (Members channel) rs = length (map.entries (members_of rs (key_by [] channel.now)))
+abbrev pub shown_len : List Token → Shown → List Reading → ℕ
+shown_len settings Channels rs = length (map.entries (channels_of rs))
+shown_len settings (Members channel) rs = length (map.entries (members_of rs (key_by settings channel.now)))

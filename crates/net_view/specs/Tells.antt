@@ -1,29 +1,31 @@
 -- What a line tells, with names as they are spelled, and what it means; and the marks of who is us.
-use Rattle.std.specs.Prelude.{◌≡◌, Bool, true, false, [], if◌then◌else◌}
+use Rattle.std.specs.Prelude.{◌≡◌, Bool, true, false, List, if◌then◌else◌}
 use Rattle.std.specs.Option.{option_map, option_map_or}
 use Rattle.std.proofs.Common.{Option, Some, None}
 use Rattle.irc_support.specs.Text.{Text}
+use Rattle.irc_support.specs.Tokens.{Token}
 use Rattle.irc_support.specs.Settings.{is_channel, key_by}
 use Rattle.net_view.specs.Names.{name_of, same}
 use Rattle.net_view.specs.Told as spec
 use Rattle.net_view.specs.declared.told.Marks.{Marks}
 use Rattle.net_view.specs.declared.told.Telling.{Telling}
-use Rattle.net_view.specs.declared.told.Telling.TheVariants.{Silent, Welcomed, Settles, Joined, Parted, Kicked, Quits, Renamed}
+use Rattle.net_view.specs.declared.told.Telling.TheVariants.{Silent, Welcomed, Supports, Settles, Joined, Parted, Kicked, Quits, Renamed}
 
--- what it means under the default settings
-abbrev pub meant : Telling → spec.Told
-meant Silent = spec.Silent
-meant (Welcomed nick) = spec.Welcomed nick.now
-meant Settles = spec.Settles
-meant (Joined channel who account) = spec.Joined (name_of [] channel.now) (is_channel [] channel.now) (name_of [] who.now) (option_map (option_map (λ name. name.now)) account)
-meant (Parted channel who) = spec.Parted (key_by [] channel.now) (key_by [] who.now)
-meant (Kicked channel who) = spec.Kicked (key_by [] channel.now) (key_by [] who.now)
-meant (Quits who) = spec.Quits (key_by [] who.now)
-meant (Renamed old new) = spec.Renamed (key_by [] old.now) (name_of [] new.now)
+-- what it means under these settings
+abbrev pub meant : {A : Type 0} → List Token → Telling A → spec.Told
+meant settings Silent = spec.Silent
+meant settings (Welcomed nick) = spec.Welcomed nick.now
+meant settings Settles = spec.Settles
+meant settings (Supports line) = spec.Supports line.now.params
+meant settings (Joined channel who account) = spec.Joined (name_of settings channel.now) (is_channel settings channel.now) (name_of settings who.now) (option_map (option_map (λ name. name.now)) account)
+meant settings (Parted channel who) = spec.Parted (key_by settings channel.now) (key_by settings who.now)
+meant settings (Kicked channel who) = spec.Kicked (key_by settings channel.now) (key_by settings who.now)
+meant settings (Quits who) = spec.Quits (key_by settings who.now)
+meant settings (Renamed old new) = spec.Renamed (key_by settings old.now) (name_of settings new.now)
 
--- whether a key is that of this nick of ours, under the default settings
-abbrev pub us_of : Option Text → Text → Bool
-us_of own key = elim own [ None ↦ false | Some nick ↦ same (key_by [] nick) key ]
+-- whether a key is that of this nick of ours, under these settings
+abbrev pub us_of : List Token → Option Text → Text → Bool
+us_of settings own key = elim own [ None ↦ false | Some nick ↦ same (key_by settings nick) key ]
 
 -- the person that a line comes from, where it turns on that
 abbrev pub doer : spec.Told → Option Text
@@ -45,13 +47,13 @@ pub record IsMarked (us : Text → Bool) (t : spec.Told) (marks : Marks) : Type 
   pub names_us : marks.names_us ≡ option_map_or us (person_named t) false
 
 -- the nick that is ours from here on, where it says one
-abbrev pub own_said : Marks → Telling → Option Text
+abbrev pub own_said : {A : Type 0} → Marks → Telling A → Option Text
 own_said marks (Welcomed nick) = Some nick.now
 own_said marks (Renamed old new) = if marks.by_us then Some new.now else None
 own_said marks _ = None
 
 -- whether it fixes the settings: Some false where it takes us in, and all starts anew
-abbrev pub settles_said : Telling → Option Bool
+abbrev pub settles_said : {A : Type 0} → Telling A → Option Bool
 settles_said (Welcomed nick) = Some false
 settles_said Settles = Some true
 settles_said (Joined channel who account) = Some true

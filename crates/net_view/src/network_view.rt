@@ -10,6 +10,7 @@ ghost use Rattle.net_view.specs.Readers.{channels_shown, channel_shown, members_
 use crate::OutOfMemory;
 use crate::channel::{Channel, Member};
 use crate::item::Item;
+use irc_support::Support;
 use std::alloc::Allocator;
 
 /// A network as its lines tell of it. Its meaning, `view`, is a function of the whole transcript: of all items
@@ -19,6 +20,9 @@ use std::alloc::Allocator;
 /// Before the first `001` with a nameable nick nothing is known.
 pub trait NetworkView {
     ghost view: { Self → View };
+
+    /// Where the settings lie in memory.
+    type Memory: Allocator;
 
     /// Takes the next item. Only a state line, as `:bob!b@h JOIN #c`, may need memory; without it the view
     /// stays as it was.
@@ -35,6 +39,10 @@ pub trait NetworkView {
     /// Whether the settings are fixed: by `376`, `422` or a JOIN after the last welcome.
     fn ready(&self) -> bool
         ensures { result ≡ (view self.now).ready };
+
+    /// The settings in force: those of the `005` lines after the last welcome and before they were fixed.
+    fn support(&self) -> &Support<Self::Memory>
+        ensures { result.now ≡ (view self.now).settings };
 
     /// Our own nick; `None` before the first welcome.
     fn own(&self) -> Option<&[u8]>

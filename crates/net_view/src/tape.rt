@@ -1,10 +1,10 @@
 //! The kept state lines, and what is found by looking back through them.
 
 ghost use Rattle.std.specs.Prelude.{◌≡◌, ◌<◌, ◌^◌, length, ◌==◌, ◌&&◌, not, ℕ, Bool, IsTrue, Some, true, false, List, [], is_some, option_map, unwrap_or};
-ghost use Rattle.std.specs.List.{list_any};
 ghost use Rattle.std.specs.Option.{option_map_or};
-ghost use Rattle.irc_support.specs.Text.{Text, has_byte};
-ghost use Rattle.irc_support.specs.Settings.{is_channel, key_by, channel_types, is_outside_channel};
+ghost use Rattle.irc_support.specs.Text.{Text};
+ghost use Rattle.irc_support.specs.Tokens.{Token};
+ghost use Rattle.irc_support.specs.Settings.{key_by};
 ghost use Rattle.std.specs.Ordering.{is_lt};
 ghost use Rattle.net_view.specs.Names.{same, bytes_cmp};
 ghost use Rattle.net_view.specs.Least.{above, considered, lesser, key_in, IsNext};
@@ -15,95 +15,82 @@ ghost use Rattle.net_view.specs.Presence.{is_on, name_on, says_on};
 ghost use Rattle.net_view.specs.Members.{is_member, says_member};
 ghost use Rattle.net_view.specs.Facts.{in_sight, says_spelling, spelling_of};
 ghost use Rattle.net_view.specs.Tells.{us_of, meant, IsMarked};
-ghost use Rattle.net_view.specs.Tape.{tape_of, IsMarkedTape};
+ghost use Rattle.net_view.specs.Tape.{tape_of, IsMarkedTape, IsReadable};
 
 use crate::told::{Marks, Telling, told};
 use irc_line::Line;
-use irc_names::CaseMapping;
+use irc_support::Support;
 use std::alloc::Allocator;
 
-/// A state line, whether it comes from us or names us, and whether the connection was lost before the next
-/// one.
+/// A state line, whether it comes from us or names us, whether the settings are fixed after it, and whether
+/// the connection was lost before the next one.
 #[derive(Drop)]
 pub(crate) struct Kept<A: Allocator> {
     pub(crate) line: Line<A>,
     pub(crate) marks: Marks,
+    pub(crate) fixed: bool,
     pub(crate) lost: bool,
 }
 
-/// Whether the two are one name, by the default mapping.
-fn is_same(a: &[u8], b: &[u8]) -> bool
-    ensures { result ≡ same (key_by [] a.now) (key_by [] b.now) }
+/// Whether the two are one name.
+fn is_same<S: Allocator>(support: &Support<S>, a: &[u8], b: &[u8]) -> bool
+    ensures { result ≡ same (key_by support.now a.now) (key_by support.now b.now) }
 {
-    CaseMapping::Rfc1459.same(a, b)
-}
-
-/// How a channel's name can begin.
-fn begins_channel(byte: u8) -> bool
-    ensures { result ≡ (has_byte (channel_types []) byte && not (byte == 58)) }
-{
-    matches!(byte, b'#' | b'&')
-}
-
-fn has_barred(name: &[u8]) -> bool
-    ensures { result ≡ list_any is_outside_channel name.now }
-{
-    name.iter().any(|byte| matches!(*byte, b' ' | b',' | 7))
-}
-
-/// Whether this is a channel's name, by the default settings.
-fn is_channel_name(name: &[u8]) -> bool
-    ensures { result ≡ is_channel [] name.now }
-{
-    match name {
-        [] => false,
-        [first, ..] => begins_channel(*first) && !has_barred(name),
-    }
+    support.mapping().same(a, b)
 }
 
 /// Whether this is a nick of ours.
-fn is_us(own: Option<&[u8]>, nick: Option<&[u8]>) -> bool
-    ensures { result ≡ option_map_or (us_of (option_map (λ o. o.now) own.entry)) (option_map (λ n. key_by [] n.now) nick.entry) false }
+fn is_us<S: Allocator>(support: &Support<S>, own: Option<&[u8]>, nick: Option<&[u8]>) -> bool
+    ensures { result ≡ option_map_or (us_of support.now (option_map (λ o. o.now) own.entry)) (option_map (λ n. key_by support.now n.now) nick.entry) false }
 {
     match (own, nick) {
-        (Some(own), Some(nick)) => is_same(own, nick),
+        (Some(own), Some(nick)) => is_same(support, own, nick),
         _ => false,
     }
 }
 
 /// Whether what a line tells comes from us, and whether it names us, where this was our nick before it.
-pub(crate) fn marks_of(telling: Telling<'_>, own: Option<&[u8]>) -> Marks
-    ensures { IsMarked (us_of (option_map (λ o. o.now) own.entry)) (meant telling.entry) result }
+pub(crate) fn marks_of<S: Allocator, A: Allocator>(
+    support: &Support<S>,
+    telling: &Telling<'_, A>,
+    own: Option<&[u8]>,
+) -> Marks
+    ensures { IsMarked (us_of support.now (option_map (λ o. o.now) own.entry)) (meant support.now telling.now) result }
 {
     Marks {
-        by_us: is_us(own, telling.doer()),
-        names_us: is_us(own, telling.person_named()),
+        by_us: is_us(support, own, telling.doer()),
+        names_us: is_us(support, own, telling.person_named()),
     }
 }
 
 /// What a line says of our being on a channel: nothing, that we are not on it, or its name.
-fn says_on<'a>(telling: Telling<'a>, marks: Marks, channel: &[u8]) -> Option<Option<&'a [u8]>>
-    ensures { (us : Text → Bool) → IsMarked us (meant telling.entry) marks →
-        option_map (λ said. option_map (λ name. name.now) said) result ≡ says_on (key_by [] channel.now) us (meant telling.entry) }
+fn says_on<'a, S: Allocator, A: Allocator>(
+    support: &Support<S>,
+    telling: &Telling<'a, A>,
+    marks: Marks,
+    channel: &[u8],
+) -> Option<Option<&'a [u8]>>
+    ensures { (us : Text → Bool) → IsMarked us (meant support.now telling.now) marks →
+        option_map (λ said. option_map (λ name. name.now) said) result ≡ says_on (key_by support.now channel.now) us (meant support.now telling.now) }
 {
     match telling {
         Telling::Welcomed(_) => Some(None),
         Telling::Joined(name, _, _) => {
-            if marks.by_us && is_channel_name(name) && is_same(channel, name) {
-                Some(Some(name))
+            if marks.by_us && support.is_channel(name) && is_same(support, channel, name) {
+                Some(Some(*name))
             } else {
                 None
             }
         }
         Telling::Parted(name, _) => {
-            if marks.by_us && is_same(channel, name) {
+            if marks.by_us && is_same(support, channel, name) {
                 Some(None)
             } else {
                 None
             }
         }
         Telling::Kicked(name, _) => {
-            if marks.names_us && is_same(channel, name) {
+            if marks.names_us && is_same(support, channel, name) {
                 Some(None)
             } else {
                 None
@@ -115,26 +102,36 @@ fn says_on<'a>(telling: Telling<'a>, marks: Marks, channel: &[u8]) -> Option<Opt
 }
 
 /// What a line says of a person's being a member of a channel.
-fn says_member(telling: Telling<'_>, marks: Marks, channel: &[u8], nick: &[u8]) -> Option<bool>
-    ensures { (us : Text → Bool) → IsMarked us (meant telling.entry) marks →
-        result ≡ says_member (key_by [] channel.now) us (meant telling.entry) (key_by [] nick.now) }
+fn says_member<S: Allocator, A: Allocator>(
+    support: &Support<S>,
+    telling: &Telling<'_, A>,
+    marks: Marks,
+    channel: &[u8],
+    nick: &[u8],
+) -> Option<bool>
+    ensures { (us : Text → Bool) → IsMarked us (meant support.now telling.now) marks →
+        result ≡ says_member (key_by support.now channel.now) us (meant support.now telling.now) (key_by support.now nick.now) }
 {
     match telling {
         Telling::Joined(name, who, _) => {
-            if !is_same(channel, name) {
+            if !is_same(support, channel, name) {
                 return None;
             }
             if marks.by_us {
-                return if is_channel_name(name) {
-                    Some(is_same(nick, who))
+                return if support.is_channel(name) {
+                    Some(is_same(support, nick, who))
                 } else {
                     None
                 };
             }
-            if is_same(nick, who) { Some(true) } else { None }
+            if is_same(support, nick, who) {
+                Some(true)
+            } else {
+                None
+            }
         }
         Telling::Parted(name, who) | Telling::Kicked(name, who) => {
-            if is_same(channel, name) && is_same(nick, who) {
+            if is_same(support, channel, name) && is_same(support, nick, who) {
                 Some(false)
             } else {
                 None
@@ -145,22 +142,31 @@ fn says_member(telling: Telling<'_>, marks: Marks, channel: &[u8], nick: &[u8]) 
 }
 
 /// The name that a person had before a line; `None` where nobody of before is that person.
-fn name_before<'a>(telling: Telling<'a>, marks: Marks, nick: &'a [u8]) -> Option<&'a [u8]>
-    ensures { (us : Text → Bool) → IsMarked us (meant telling.entry) marks →
-        option_map (λ name. key_by [] name.now) result ≡ name_before us (meant telling.entry) (key_by [] nick.now) }
+fn name_before<'a, S: Allocator, A: Allocator>(
+    support: &Support<S>,
+    telling: &Telling<'a, A>,
+    marks: Marks,
+    nick: &'a [u8],
+) -> Option<&'a [u8]>
+    ensures { (us : Text → Bool) → IsMarked us (meant support.now telling.now) marks →
+        option_map (λ name. key_by support.now name.now) result ≡ name_before us (meant support.now telling.now) (key_by support.now nick.now) }
 {
     match telling {
         Telling::Renamed(old, new) => {
             if marks.names_us && !marks.by_us {
                 return Some(nick);
             }
-            if is_same(nick, new) {
-                return Some(old);
+            if is_same(support, nick, new) {
+                return Some(*old);
             }
-            if is_same(nick, old) { None } else { Some(nick) }
+            if is_same(support, nick, old) {
+                None
+            } else {
+                Some(nick)
+            }
         }
         Telling::Quits(gone) => {
-            if is_same(nick, gone) {
+            if is_same(support, nick, gone) {
                 None
             } else {
                 Some(nick)
@@ -188,9 +194,13 @@ pub(crate) fn own_in<A: Allocator>(kept: &[Kept<A>]) -> Option<&[u8]>
 }
 
 /// The name of a channel, where we are on it after these lines.
-pub(crate) fn name_on<'a, A: Allocator>(kept: &'a [Kept<A>], channel: &[u8]) -> Option<&'a [u8]>
-    requires { IsMarkedTape kept.now }
-    ensures { option_map (λ name. name.now) result ≡ name_on (readings_of (tape_of kept.now)) (key_by [] channel.now) }
+pub(crate) fn name_on<'a, A: Allocator>(
+    support: &Support<A>,
+    kept: &'a [Kept<A>],
+    channel: &[u8],
+) -> Option<&'a [u8]>
+    requires { IsReadable support.now kept.now }
+    ensures { option_map (λ name. name.now) result ≡ name_on (readings_of (tape_of kept.now)) (key_by support.now channel.now) }
 {
     let mut i = kept.len();
     while i > 0 {
@@ -199,51 +209,49 @@ pub(crate) fn name_on<'a, A: Allocator>(kept: &'a [Kept<A>], channel: &[u8]) -> 
         if entry.lost {
             return None;
         }
-        if let Some(answer) = says_on(told(&entry.line), entry.marks, channel) {
+        if !entry.fixed {
+            return None;
+        }
+        if let Some(answer) = says_on(support, &told(&entry.line), entry.marks, channel) {
             return answer;
         }
     }
     None
 }
 
-/// Whether settings are fixed after these lines: whether a JOIN came after the last welcome.
+/// Whether the settings are fixed after these lines.
 pub(crate) fn ready_in<A: Allocator>(kept: &[Kept<A>]) -> bool
     requires { IsMarkedTape kept.now }
     ensures { result ≡ is_ready (tape_of kept.now) }
 {
-    let mut i = kept.len();
-    while i > 0 {
-        i -= 1;
-        let entry = &kept[i];
-        if let Some(settles) = told(&entry.line).settles() {
-            return settles && own_in(&kept[..i]).is_some();
-        }
+    if kept.is_empty() {
+        return false;
     }
-    false
+    let last = &kept[kept.len() - 1];
+    last.fixed
 }
 
-/// Whether the person was made a member of the channel, and of its last line that speaks of both. The person is
-/// followed back under earlier names.
+/// Whether the person was made a member of the channel, on which we are, and of its last line that speaks of
+/// both. The person is followed back under earlier names.
 fn was_made_member<'a, A: Allocator>(
+    support: &Support<A>,
     kept: &'a [Kept<A>],
     channel: &[u8],
     mut nick: &'a [u8],
 ) -> bool
-    requires { IsMarkedTape kept.now }
-    ensures { result ≡ unwrap_or (last_of (says_member (key_by [] channel.now)) (readings_of (tape_of kept.now)) (key_by [] nick.entry.now)) false }
+    requires readable { IsReadable support.now kept.now }
+    requires on { is_on (readings_of (tape_of kept.now)) (key_by support.now channel.now) ≡ true }
+    ensures { result ≡ unwrap_or (last_of (says_member (key_by support.now channel.now)) (readings_of (tape_of kept.now)) (key_by support.now nick.entry.now)) false }
 {
     let mut i = kept.len();
     while i > 0 {
         i -= 1;
         let entry = &kept[i];
-        if entry.lost {
-            return false;
-        }
         let telling = told(&entry.line);
-        if let Some(answer) = says_member(telling, entry.marks, channel, nick) {
+        if let Some(answer) = says_member(support, &telling, entry.marks, channel, nick) {
             return answer;
         }
-        match name_before(telling, entry.marks, nick) {
+        match name_before(support, &telling, entry.marks, nick) {
             Some(name) => nick = name,
             None => return false,
         }
@@ -252,11 +260,16 @@ fn was_made_member<'a, A: Allocator>(
 }
 
 /// Whether the person is a member of the channel, on which we are, after these lines.
-pub(crate) fn is_member<A: Allocator>(kept: &[Kept<A>], channel: &[u8], nick: &[u8]) -> bool
-    requires { IsMarkedTape kept.now }
-    ensures { result ≡ is_member (readings_of (tape_of kept.now)) (key_by [] channel.now) (key_by [] nick.now) }
+pub(crate) fn is_member<A: Allocator>(
+    support: &Support<A>,
+    kept: &[Kept<A>],
+    channel: &[u8],
+    nick: &[u8],
+) -> bool
+    requires { IsReadable support.now kept.now }
+    ensures { result ≡ is_member (readings_of (tape_of kept.now)) (key_by support.now channel.now) (key_by support.now nick.now) }
 {
-    name_on(kept, channel).is_some() && was_made_member(kept, channel, nick)
+    name_on(support, kept, channel).is_some() && was_made_member(support, kept, channel, nick)
 }
 
 /// What is looked for by place: the channels that we are on, or the members of the channel of this name.
@@ -267,70 +280,80 @@ pub(crate) enum Shown<'a> {
 }
 
 /// The name that a line brings up: a channel's or a person's.
-fn named_by<'a>(shown: Shown<'_>, telling: Telling<'a>) -> Option<&'a [u8]>
-    ensures { key_list (option_map (λ name. name.now) result) ≡ names_in shown.entry (meant telling.entry) }
+fn named_by<'a, A: Allocator>(shown: Shown<'_>, telling: &Telling<'a, A>) -> Option<&'a [u8]>
+    ensures { (settings : List Token) → key_list settings (option_map (λ name. name.now) result) ≡ names_in shown.entry (meant settings telling.now) }
 {
     match (shown, telling) {
-        (Shown::Channels, Telling::Joined(name, _, _)) => Some(name),
-        (Shown::Members(_), Telling::Joined(_, who, _) | Telling::Renamed(_, who)) => Some(who),
+        (Shown::Channels, Telling::Joined(name, _, _)) => Some(*name),
+        (Shown::Members(_), Telling::Joined(_, who, _) | Telling::Renamed(_, who)) => Some(*who),
         _ => None,
     }
 }
 
 /// Whether what has this name is there.
-fn is_there<A: Allocator>(kept: &[Kept<A>], shown: Shown<'_>, name: &[u8]) -> bool
-    requires { IsMarkedTape kept.now }
-    ensures { result ≡ is_shown shown.entry (readings_of (tape_of kept.now)) (key_by [] name.now) }
+fn is_there<A: Allocator>(
+    support: &Support<A>,
+    kept: &[Kept<A>],
+    shown: Shown<'_>,
+    name: &[u8],
+) -> bool
+    requires { IsReadable support.now kept.now }
+    ensures { result ≡ is_shown support.now shown.entry (readings_of (tape_of kept.now)) (key_by support.now name.now) }
 {
     match shown {
-        Shown::Channels => name_on(kept, name).is_some(),
-        Shown::Members(channel) => is_member(kept, channel, name),
+        Shown::Channels => name_on(support, kept, name).is_some(),
+        Shown::Members(channel) => is_member(support, kept, channel, name),
     }
 }
 
 /// Whether a name's key stands before another's.
-fn is_before(a: &[u8], b: &[u8]) -> bool
-    ensures { result ≡ is_lt (bytes_cmp (key_by [] a.now) (key_by [] b.now)) }
+fn is_before<S: Allocator>(support: &Support<S>, a: &[u8], b: &[u8]) -> bool
+    ensures { result ≡ is_lt (bytes_cmp (key_by support.now a.now) (key_by support.now b.now)) }
 {
-    CaseMapping::Rfc1459.order(a, b).is_lt()
+    support.mapping().order(a, b).is_lt()
 }
 
 /// Whether a name's key stands above that of the one that was given, if any.
-fn is_above(after: Option<&[u8]>, name: &[u8]) -> bool
-    ensures { result ≡ above (key_in (option_map (λ a. a.now) after.entry)) (key_by [] name.now) }
+fn is_above<S: Allocator>(support: &Support<S>, after: Option<&[u8]>, name: &[u8]) -> bool
+    ensures { result ≡ above (key_in support.now (option_map (λ a. a.now) after.entry)) (key_by support.now name.now) }
 {
     match after {
-        Some(after) => is_before(after, name),
+        Some(after) => is_before(support, after, name),
         None => true,
     }
 }
 
 /// The one of two names that stands before the other.
-fn lesser<'a>(best: Option<&'a [u8]>, name: &'a [u8]) -> Option<&'a [u8]>
-    ensures { key_in (option_map (λ n. n.now) result) ≡ lesser (key_in (option_map (λ b. b.now) best.entry)) (key_by [] name.now) }
+fn lesser<'a, S: Allocator>(
+    support: &Support<S>,
+    best: Option<&'a [u8]>,
+    name: &'a [u8],
+) -> Option<&'a [u8]>
+    ensures { key_in support.now (option_map (λ n. n.now) result) ≡ lesser (key_in support.now (option_map (λ b. b.now) best.entry)) (key_by support.now name.now) }
 {
     match best {
-        Some(best) if !is_before(name, best) => Some(best),
+        Some(best) if !is_before(support, name, best) => Some(best),
         _ => Some(name),
     }
 }
 
 /// The best so far, or what a line names where that is there, above the given one and before the best.
 fn consider<'a, A: Allocator>(
+    support: &Support<A>,
     kept: &[Kept<A>],
     shown: Shown<'_>,
     after: Option<&[u8]>,
     best: Option<&'a [u8]>,
-    telling: Telling<'a>,
+    telling: &Telling<'a, A>,
 ) -> Option<&'a [u8]>
-    requires { IsMarkedTape kept.now }
-    ensures { key_in (option_map (λ n. n.now) result) ≡ considered (is_shown shown.entry (readings_of (tape_of kept.now))) (key_in (option_map (λ a. a.now) after.entry)) (key_in (option_map (λ b. b.now) best.entry)) (names_in shown.entry (meant telling.entry)) }
+    requires { IsReadable support.now kept.now }
+    ensures { key_in support.now (option_map (λ n. n.now) result) ≡ considered (is_shown support.now shown.entry (readings_of (tape_of kept.now))) (key_in support.now (option_map (λ a. a.now) after.entry)) (key_in support.now (option_map (λ b. b.now) best.entry)) (names_in shown.entry (meant support.now telling.now)) }
 {
     let Some(name) = named_by(shown, telling) else {
         return best;
     };
-    if is_above(after, name) && is_there(kept, shown, name) {
-        lesser(best, name)
+    if is_above(support, after, name) && is_there(support, kept, shown, name) {
+        lesser(support, best, name)
     } else {
         best
     }
@@ -338,33 +361,44 @@ fn consider<'a, A: Allocator>(
 
 /// The name with the least key above the given one, among what is there.
 pub(crate) fn next_shown<'a, A: Allocator>(
+    support: &Support<A>,
     kept: &'a [Kept<A>],
     shown: Shown<'_>,
     after: Option<&[u8]>,
 ) -> Option<&'a [u8]>
-    requires { IsMarkedTape kept.now }
-    ensures { IsNext (is_shown shown.entry (readings_of (tape_of kept.now))) (key_in (option_map (λ a. a.now) after.entry)) (key_in (option_map (λ n. n.now) result)) }
+    requires { IsReadable support.now kept.now }
+    ensures { IsNext (is_shown support.now shown.entry (readings_of (tape_of kept.now))) (key_in support.now (option_map (λ a. a.now) after.entry)) (key_in support.now (option_map (λ n. n.now) result)) }
 {
     let mut best = None;
-    for entry in kept {
-        best = consider(kept, shown, after, best, told(&entry.line));
+    let mut i = kept.len();
+    while i > 0 {
+        i -= 1;
+        let entry = &kept[i];
+        if entry.lost {
+            return best;
+        }
+        if !entry.fixed {
+            return best;
+        }
+        best = consider(support, kept, shown, after, best, &told(&entry.line));
     }
     best
 }
 
 /// The name at a place, counted from 0, in the order of the keys.
 pub(crate) fn shown_at<'a, A: Allocator>(
+    support: &Support<A>,
     kept: &'a [Kept<A>],
     shown: Shown<'_>,
     place: usize,
 ) -> Option<&'a [u8]>
-    requires { IsMarkedTape kept.now }
-    ensures { key_in (option_map (λ n. n.now) result) ≡ shown_key shown.entry (readings_of (tape_of kept.now)) place }
+    requires { IsReadable support.now kept.now }
+    ensures { key_in support.now (option_map (λ n. n.now) result) ≡ shown_key support.now shown.entry (readings_of (tape_of kept.now)) place }
 {
-    let mut at = next_shown(kept, shown, None);
+    let mut at = next_shown(support, kept, shown, None);
     for _place in 0..place {
         match at {
-            Some(name) => at = next_shown(kept, shown, Some(name)),
+            Some(name) => at = next_shown(support, kept, shown, Some(name)),
             None => return None,
         }
     }
@@ -372,42 +406,47 @@ pub(crate) fn shown_at<'a, A: Allocator>(
 }
 
 /// How many there are.
-pub(crate) fn shown_count<A: Allocator>(kept: &[Kept<A>], shown: Shown<'_>) -> usize
-    requires marked { IsMarkedTape kept.now }
+pub(crate) fn shown_count<A: Allocator>(
+    support: &Support<A>,
+    kept: &[Kept<A>],
+    shown: Shown<'_>,
+) -> usize
+    requires readable { IsReadable support.now kept.now }
     requires few { length kept.now < 2 ^ 64 }
-    ensures { result ≡ shown_len shown.entry (readings_of (tape_of kept.now)) }
+    ensures { result ≡ shown_len support.now shown.entry (readings_of (tape_of kept.now)) }
 {
     let mut count = 0;
-    let mut at = next_shown(kept, shown, None);
+    let mut at = next_shown(support, kept, shown, None);
     while let Some(name) = at {
         count += 1;
-        at = next_shown(kept, shown, Some(name));
+        at = next_shown(support, kept, shown, Some(name));
     }
     count
 }
 
 /// The nick of this person, where the last of these lines, which tells this, spells it.
 fn spelled_by<'a, A: Allocator>(
+    support: &Support<A>,
     kept: &[Kept<A>],
-    telling: Telling<'a>,
+    telling: &Telling<'a, A>,
     marks: Marks,
     nick: &[u8],
 ) -> Option<&'a [u8]>
-    requires { IsMarkedTape kept.now }
-    ensures { (us : Text → Bool) → IsMarked us (meant telling.entry) marks → option_map (λ spelled. Some spelled.now) result
-        ≡ says_spelling us (is_on (readings_of (tape_of kept.now))) (meant telling.entry) (key_by [] nick.now) }
+    requires { IsReadable support.now kept.now }
+    ensures { (us : Text → Bool) → IsMarked us (meant support.now telling.now) marks → option_map (λ spelled. Some spelled.now) result
+        ≡ says_spelling us (is_on (readings_of (tape_of kept.now))) (meant support.now telling.now) (key_by support.now nick.now) }
 {
     match telling {
         Telling::Joined(channel, who, _) => {
-            if is_same(nick, who) && name_on(kept, channel).is_some() {
-                Some(who)
+            if is_same(support, nick, who) && name_on(support, kept, channel).is_some() {
+                Some(*who)
             } else {
                 None
             }
         }
         Telling::Renamed(_, new) => {
-            if is_same(nick, new) && (marks.by_us || !marks.names_us) {
-                Some(new)
+            if is_same(support, nick, new) && (marks.by_us || !marks.names_us) {
+                Some(*new)
             } else {
                 None
             }
@@ -417,17 +456,21 @@ fn spelled_by<'a, A: Allocator>(
 }
 
 /// The nick of a person in sight, as spelled last.
-pub(crate) fn spelling_in<'a, A: Allocator>(kept: &'a [Kept<A>], nick: &[u8]) -> Option<&'a [u8]>
-    requires { IsMarkedTape kept.now }
-    ensures { in_sight (readings_of (tape_of kept.now)) (key_by [] nick.now) ≡ true →
-        option_map (λ spelled. spelled.now) result ≡ spelling_of (readings_of (tape_of kept.now)) (key_by [] nick.now) }
+pub(crate) fn spelling_in<'a, A: Allocator>(
+    support: &Support<A>,
+    kept: &'a [Kept<A>],
+    nick: &[u8],
+) -> Option<&'a [u8]>
+    requires readable { IsReadable support.now kept.now }
+    requires seen { in_sight (readings_of (tape_of kept.now)) (key_by support.now nick.now) ≡ true }
+    ensures { option_map (λ spelled. spelled.now) result ≡ spelling_of (readings_of (tape_of kept.now)) (key_by support.now nick.now) }
 {
     let mut i = kept.len();
     while i > 0 {
         let lines = &kept[..i];
         i -= 1;
         let entry = &kept[i];
-        if let Some(spelled) = spelled_by(lines, told(&entry.line), entry.marks, nick) {
+        if let Some(spelled) = spelled_by(support, lines, &told(&entry.line), entry.marks, nick) {
             return Some(spelled);
         }
     }

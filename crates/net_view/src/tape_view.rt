@@ -9,7 +9,9 @@ use crate::network_view::NetworkView;
 use crate::tape::{
     Kept, Shown, marks_of, name_on, own_in, ready_in, shown_at, shown_count, spelling_in,
 };
-use crate::told::{is_state_line, told};
+use crate::told::{Telling, is_state_line, told};
+use irc_line::Line;
+use irc_support::Support;
 use std::alloc::{Allocator, Global};
 use std::marker::Model;
 
@@ -21,10 +23,13 @@ use std::marker::Model;
 #[derive(Drop)]
 pub struct TapeView<A: Allocator = Global> {
     kept: Vec<Kept<A>, A>,
+    // the settings in force
+    support: Support<A>,
 }
 
 impl<A: Allocator> Model for TapeView<A> {
-    ghost use Rattle.std.specs.Prelude.{List};
+    ghost use Rattle.std.specs.Prelude.{◌≡◌, List};
+    ghost use Rattle.net_view.specs.Transcript.{settings_of};
     ghost use Rattle.net_view.specs.Arrival.{Arrival};
     ghost use Rattle.net_view.specs.Tape.{tape_of, IsMarkedTape};
 
@@ -32,17 +37,60 @@ impl<A: Allocator> Model for TapeView<A> {
 
     ghost view = { λ v. tape_of v.kept.items };
 
-    ghost invariant = { λ v. IsMarkedTape v.kept.items };
+    ghost invariant = { λ v. IsMarkedTape v.kept.items × (settings_of (tape_of v.kept.items) ≡ v.support) };
 }
 
-impl<A: Allocator> TapeView<A> {
+impl<A: Allocator + Copy> TapeView<A> {
     /// A view to which nothing came.
     pub fn new(alloc: A) -> Result<TapeView<A>, OutOfMemory>
         ensures { IfOk result (λ v. v ≡ []) }
     {
+        let support = Support::new(alloc)?;
         Ok(TapeView {
             kept: Vec::new(alloc),
+            support,
         })
+    }
+}
+
+impl<A: Allocator + Copy> TapeView<A> {
+    ghost use Rattle.std.specs.Prelude.{◌≡◌, ◌∷◌, OnOk, OnErr};
+    ghost use Rattle.net_view.specs.Arrival.{Received};
+
+    /// Keeps a state line.
+    fn keep<B: Allocator>(&mut self, line: &Line<B>) -> Result<(), OutOfMemory>
+        ensures taken { OnOk result (self.new ≡ Received line.now ∷ self.old) }
+        ensures kept { OnErr result (self.new ≡ self.old) }
+    {
+        let telling = told(line);
+        let own = own_in(&self.kept);
+        let marks = marks_of(&self.support, &telling, own);
+        let welcomed = own.is_some();
+        let ready = ready_in(&self.kept);
+        let fixed = telling.fixes(welcomed, ready);
+        let line_kept = line.copy_in(*self.kept.allocator())?;
+        let kept = Kept {
+            line: line_kept,
+            marks,
+            fixed,
+            lost: false,
+        };
+        match telling {
+            Telling::Welcomed(_) => {
+                let support = Support::new(*self.kept.allocator())?;
+                self.kept.push(kept)?;
+                self.support = support;
+            }
+            Telling::Supports(_) if welcomed && !ready => {
+                self.kept.push(kept)?;
+                if let Err(refused) = self.support.take(line) {
+                    let _ = self.kept.pop();
+                    return Err(refused);
+                }
+            }
+            _ => self.kept.push(kept)?,
+        }
+        Ok(())
     }
 }
 
@@ -51,17 +99,13 @@ impl<A: Allocator + Copy> NetworkView for TapeView<A> {
 
     ghost view = { view_back };
 
+    type Memory = A;
+
     fn take<B: Allocator>(&mut self, item: &Item<B>) -> Result<(), OutOfMemory> {
         match item {
             Item::Line(line) => {
                 if is_state_line(line) {
-                    let marks = marks_of(told(line), own_in(&self.kept));
-                    let line = line.copy_in(*self.kept.allocator())?;
-                    self.kept.push(Kept {
-                        line,
-                        marks,
-                        lost: false,
-                    })?;
+                    self.keep(line)?;
                 }
             }
             Item::Lost => {
@@ -82,31 +126,35 @@ impl<A: Allocator + Copy> NetworkView for TapeView<A> {
         ready_in(&self.kept)
     }
 
+    fn support(&self) -> &Support<A> {
+        &self.support
+    }
+
     fn own(&self) -> Option<&[u8]> {
         own_in(&self.kept)
     }
 
     fn channel_count(&self) -> usize {
-        shown_count(&self.kept, Shown::Channels)
+        shown_count(&self.support, &self.kept, Shown::Channels)
     }
 
     fn channel_at(&self, i: usize) -> Option<Channel<'_>> {
-        let channel = shown_at(&self.kept, Shown::Channels, i)?;
-        let name = name_on(&self.kept, channel)?;
+        let channel = shown_at(&self.support, &self.kept, Shown::Channels, i)?;
+        let name = name_on(&self.support, &self.kept, channel)?;
         Some(Channel { name })
     }
 
     fn member_count(&self, i: usize) -> usize {
-        match shown_at(&self.kept, Shown::Channels, i) {
-            Some(channel) => shown_count(&self.kept, Shown::Members(channel)),
+        match shown_at(&self.support, &self.kept, Shown::Channels, i) {
+            Some(channel) => shown_count(&self.support, &self.kept, Shown::Members(channel)),
             None => 0,
         }
     }
 
     fn member_at(&self, i: usize, j: usize) -> Option<Member<'_>> {
-        let channel = shown_at(&self.kept, Shown::Channels, i)?;
-        let member = shown_at(&self.kept, Shown::Members(channel), j)?;
-        let nick = spelling_in(&self.kept, member)?;
+        let channel = shown_at(&self.support, &self.kept, Shown::Channels, i)?;
+        let member = shown_at(&self.support, &self.kept, Shown::Members(channel), j)?;
+        let nick = spelling_in(&self.support, &self.kept, member)?;
         Some(Member { nick })
     }
 }

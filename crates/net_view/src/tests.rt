@@ -153,6 +153,61 @@ fn names_by_the_default_mapping(rt: HostRuntime) -> Result<(), Fail> {
 }
 
 #[test]
+fn names_by_the_settings(rt: HostRuntime) -> Result<(), Fail> {
+    check_rows(
+        &rt,
+        &[
+            (b":s 001 Me :hi", b"Me"),
+            (
+                b":s 005 Me PREFIX=(ov)@+ CHANTYPES=# CASEMAPPING=ascii :are supported",
+                b"Me",
+            ),
+            (b":s 376 Me :end", b"Me"),
+            (b":s 005 Me CASEMAPPING=rfc1459 :are supported", b"Me"),
+            (b":Me!m@h JOIN &x", b"Me"),
+            (b":Me!m@h JOIN #c", b"Me / #c Me"),
+            (b":a[b!x@h JOIN #c", b"Me / #c a[b Me"),
+            (b":A{B!x@h PART #c", b"Me / #c a[b Me"),
+            (b":A[B!x@h PART #C", b"Me / #c Me"),
+        ],
+    )
+}
+
+#[test]
+fn settings_that_come_late(rt: HostRuntime) -> Result<(), Fail> {
+    check_rows(
+        &rt,
+        &[
+            (b":s 001 Me :hi", b"Me"),
+            (b":Me!m@h JOIN #c", b"Me / #c Me"),
+            (b":s 005 Me CASEMAPPING=ascii :are supported", b"Me / #c Me"),
+            (b":a[b!x@h JOIN #c", b"Me / #c a[b Me"),
+            (b":A{B!x@h PART #c", b"Me / #c Me"),
+        ],
+    )
+}
+
+#[test]
+fn when_settings_are_fixed(rt: HostRuntime) -> Result<(), Fail> {
+    let rows: [(&[u8], bool, usize); 8] = [
+        (b":s 005 Me A B :before the welcome", false, 0),
+        (b":s 376 Me :end", false, 0),
+        (b":s 001 Me :hi", false, 0),
+        (b":s 005 Me A B :are supported", false, 2),
+        (b":s 422 Me :none", true, 2),
+        (b":s 005 Me C :are supported", true, 2),
+        (b"lost", true, 2),
+        (b":s 001 You :hi", false, 0),
+    ];
+    let mut view = TapeView::new(rt.alloc())?;
+    for (text, ready, tokens) in rows {
+        view.take(&item(rt.alloc(), text)?)?;
+        assert!(rt; view.ready() == ready && view.support().token_count() == tokens);
+    }
+    Ok(())
+}
+
+#[test]
 fn what_readers_answer(rt: HostRuntime) -> Result<(), Fail> {
     let mut view = TapeView::new(rt.alloc())?;
     assert!(rt; !view.welcomed() && !view.ready() && view.channel_count() == 0);

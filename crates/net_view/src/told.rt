@@ -1,8 +1,8 @@
 //! What one line tells, as far as views read it.
 
-ghost use Rattle.std.specs.Prelude.{◌≡◌, [], option_map};
+ghost use Rattle.std.specs.Prelude.{◌≡◌, List, option_map};
 ghost use Rattle.irc_support.specs.Text.{is_word};
-ghost use Rattle.irc_support.specs.Settings.{is_channel, key_by};
+ghost use Rattle.irc_support.specs.Tokens.{Token};
 ghost use Rattle.net_view.specs.Arrival.{Received};
 ghost use Rattle.net_view.specs.StateLines.{told, told_by_welcome, told_by_join, told_by_part, told_by_kick, told_by_quit, told_by_nick, account_said, actor_nick, is_state_line};
 ghost use Rattle.net_view.specs.Tells.{meant};
@@ -19,13 +19,15 @@ pub(crate) struct Marks {
 }
 
 /// What a line tells, with names as they are spelled.
-#[derive(Clone, Copy)]
-pub(crate) enum Telling<'a> {
+#[derive(Drop)]
+pub(crate) enum Telling<'a, A: Allocator> {
     /// Nothing.
     Silent,
     /// `:s 001 Me :hi`: the network takes us in under this nick.
     Welcomed(&'a [u8]),
-    /// A JOIN without a channel or a nameable actor: the settings are fixed from here on.
+    /// `:s 005 Me PREFIX=(ov)@+ :are supported`: more settings.
+    Supports(&'a Line<A>),
+    /// `376` and `422`, and a JOIN without a channel or a nameable actor: the settings are fixed from here on.
     Settles,
     /// `:bob!b@h JOIN #c bobacc :Bob`: channel and person; the account, where the line tells one, or that
     /// there is none.
@@ -40,52 +42,53 @@ pub(crate) enum Telling<'a> {
     Renamed(&'a [u8], &'a [u8]),
 }
 
-impl<'a> Telling<'a> {
-    ghost use Rattle.std.specs.Prelude.{◌≡◌, [], option_map};
+impl<'a, A: Allocator> Telling<'a, A> {
+    ghost use Rattle.std.specs.Prelude.{◌≡◌, ◌&&◌, List, option_map, unwrap_or};
+    ghost use Rattle.irc_support.specs.Tokens.{Token};
     ghost use Rattle.irc_support.specs.Settings.{key_by};
     ghost use Rattle.net_view.specs.Tells.{doer, meant, own_said, person_named, settles_said};
 
     /// The nick that is ours from here on, where it says one.
-    pub(crate) fn own(self, marks: Marks) -> Option<&'a [u8]>
-        ensures { option_map (λ nick. nick.now) result ≡ own_said marks self.entry }
+    pub(crate) fn own(&self, marks: Marks) -> Option<&'a [u8]>
+        ensures { option_map (λ nick. nick.now) result ≡ own_said marks self.now }
     {
         match self {
-            Telling::Welcomed(nick) => Some(nick),
-            Telling::Renamed(_, new) if marks.by_us => Some(new),
+            Telling::Welcomed(nick) => Some(*nick),
+            Telling::Renamed(_, new) if marks.by_us => Some(*new),
             _ => None,
         }
     }
 
-    /// Whether it fixes the settings, where it has a say: `false` where it takes us in anew.
-    pub(crate) fn settles(self) -> Option<bool>
-        ensures { result ≡ settles_said self.entry }
+    /// Whether the settings are fixed after it, where this held before it.
+    pub(crate) fn fixes(&self, welcomed: bool, ready: bool) -> bool
+        ensures { result ≡ unwrap_or (option_map (λ settles. settles && welcomed) (settles_said self.now)) ready }
     {
         match self {
-            Telling::Welcomed(_) => Some(false),
-            Telling::Joined(_, _, _) | Telling::Settles => Some(true),
-            _ => None,
+            Telling::Welcomed(_) => false,
+            Telling::Joined(_, _, _) | Telling::Settles => welcomed,
+            _ => ready,
         }
     }
 
     /// The person that the line comes from, where it turns on that.
-    pub(crate) fn doer(self) -> Option<&'a [u8]>
-        ensures { option_map (λ nick. key_by [] nick.now) result ≡ doer (meant self.entry) }
+    pub(crate) fn doer(&self) -> Option<&'a [u8]>
+        ensures { (settings : List Token) → option_map (λ nick. key_by settings nick.now) result ≡ doer (meant settings self.now) }
     {
         match self {
             Telling::Joined(_, who, _)
             | Telling::Parted(_, who)
             | Telling::Quits(who)
-            | Telling::Renamed(who, _) => Some(who),
+            | Telling::Renamed(who, _) => Some(*who),
             _ => None,
         }
     }
 
     /// The person that the line names, where it turns on that.
-    pub(crate) fn person_named(self) -> Option<&'a [u8]>
-        ensures { option_map (λ nick. key_by [] nick.now) result ≡ person_named (meant self.entry) }
+    pub(crate) fn person_named(&self) -> Option<&'a [u8]>
+        ensures { (settings : List Token) → option_map (λ nick. key_by settings nick.now) result ≡ person_named (meant settings self.now) }
     {
         match self {
-            Telling::Kicked(_, who) | Telling::Renamed(_, who) => Some(who),
+            Telling::Kicked(_, who) | Telling::Renamed(_, who) => Some(*who),
             _ => None,
         }
     }
@@ -96,6 +99,9 @@ pub(crate) fn is_state_line<A: Allocator>(line: &Line<A>) -> bool
     ensures { result ≡ is_state_line line.now }
 {
     line.is(b"001")
+        || line.is(b"005")
+        || line.is(b"376")
+        || line.is(b"422")
         || line.is(b"JOIN")
         || line.is(b"PART")
         || line.is(b"KICK")
@@ -112,8 +118,8 @@ fn actor<A: Allocator>(line: &Line<A>) -> Option<&[u8]>
 }
 
 /// What a `001` tells.
-fn told_by_welcome<A: Allocator>(line: &Line<A>) -> Telling<'_>
-    ensures { meant result ≡ told_by_welcome [] line.now }
+fn told_by_welcome<A: Allocator>(line: &Line<A>) -> Telling<'_, A>
+    ensures { (settings : List Token) → meant settings result ≡ told_by_welcome settings line.now }
 {
     let Some(nick) = line.param(0) else {
         return Telling::Silent;
@@ -150,8 +156,8 @@ fn account_said(text: &[u8]) -> Option<Option<&[u8]>>
 }
 
 /// What a JOIN tells.
-fn told_by_join<A: Allocator>(line: &Line<A>) -> Telling<'_>
-    ensures { meant result ≡ told_by_join [] line.now }
+fn told_by_join<A: Allocator>(line: &Line<A>) -> Telling<'_, A>
+    ensures { (settings : List Token) → meant settings result ≡ told_by_join settings line.now }
 {
     let Some(channel) = line.param(0) else {
         return Telling::Settles;
@@ -167,8 +173,8 @@ fn told_by_join<A: Allocator>(line: &Line<A>) -> Telling<'_>
 }
 
 /// What a PART tells.
-fn told_by_part<A: Allocator>(line: &Line<A>) -> Telling<'_>
-    ensures { meant result ≡ told_by_part [] line.now }
+fn told_by_part<A: Allocator>(line: &Line<A>) -> Telling<'_, A>
+    ensures { (settings : List Token) → meant settings result ≡ told_by_part settings line.now }
 {
     let Some(channel) = line.param(0) else {
         return Telling::Silent;
@@ -180,8 +186,8 @@ fn told_by_part<A: Allocator>(line: &Line<A>) -> Telling<'_>
 }
 
 /// What a KICK tells.
-fn told_by_kick<A: Allocator>(line: &Line<A>) -> Telling<'_>
-    ensures { meant result ≡ told_by_kick [] line.now }
+fn told_by_kick<A: Allocator>(line: &Line<A>) -> Telling<'_, A>
+    ensures { (settings : List Token) → meant settings result ≡ told_by_kick settings line.now }
 {
     let Some(channel) = line.param(0) else {
         return Telling::Silent;
@@ -197,8 +203,8 @@ fn told_by_kick<A: Allocator>(line: &Line<A>) -> Telling<'_>
 }
 
 /// What a QUIT tells.
-fn told_by_quit<A: Allocator>(line: &Line<A>) -> Telling<'_>
-    ensures { meant result ≡ told_by_quit [] line.now }
+fn told_by_quit<A: Allocator>(line: &Line<A>) -> Telling<'_, A>
+    ensures { (settings : List Token) → meant settings result ≡ told_by_quit settings line.now }
 {
     match actor(line) {
         Some(who) => Telling::Quits(who),
@@ -207,8 +213,8 @@ fn told_by_quit<A: Allocator>(line: &Line<A>) -> Telling<'_>
 }
 
 /// What a NICK tells.
-fn told_by_nick<A: Allocator>(line: &Line<A>) -> Telling<'_>
-    ensures { meant result ≡ told_by_nick [] line.now }
+fn told_by_nick<A: Allocator>(line: &Line<A>) -> Telling<'_, A>
+    ensures { (settings : List Token) → meant settings result ≡ told_by_nick settings line.now }
 {
     let Some(nick) = line.param(0) else {
         return Telling::Silent;
@@ -223,12 +229,21 @@ fn told_by_nick<A: Allocator>(line: &Line<A>) -> Telling<'_>
     }
 }
 
-/// What the line tells under the default settings.
-pub(crate) fn told<A: Allocator>(line: &Line<A>) -> Telling<'_>
-    ensures { meant result ≡ told [] (Received line.now) }
+/// What the line tells.
+pub(crate) fn told<A: Allocator>(line: &Line<A>) -> Telling<'_, A>
+    ensures { (settings : List Token) → meant settings result ≡ told settings (Received line.now) }
 {
     if line.is(b"001") {
         return told_by_welcome(line);
+    }
+    if line.is(b"005") {
+        return Telling::Supports(line);
+    }
+    if line.is(b"376") {
+        return Telling::Settles;
+    }
+    if line.is(b"422") {
+        return Telling::Settles;
     }
     if line.is(b"JOIN") {
         return told_by_join(line);

@@ -1,14 +1,15 @@
-use Rattle.std.proofs.Common.{◌∙◌, sym, ap}
-use Rattle.std.specs.Prelude.{[]}
-use Rattle.irc_support.specs.Settings.{key_by, mapping_of}
+use Rattle.std.proofs.Common.{◌≡◌, ◌∙◌, sym, ap, subst}
+use Rattle.irc_names.specs.CaseMapping.{key_of}
+use Rattle.irc_support.specs.Settings.{key_by}
 use Rattle.net_view.specs.Names.{same}
 use Rattle.net_view.proofs.Keys.{is_same, same_refl}
 use Rattle.net_view.proofs.TapeTests.{both_ways}
 use Rattle.net_view.proofs.tape.is_same.Goals as goal
 
 pub returns : goal.returns
-unfolding mapping_of
-returns c =
-    both_ways c.same.result (same (key_by [] c.args.a.now) (key_by [] c.args.b.now))
-    (λ e. ap (same (key_by [] c.args.a.now)) (sym (c.same.ensures.0 e)) ∙ same_refl (key_by [] c.args.a.now))
-    (λ e. c.same.ensures.1 (is_same (key_by [] c.args.a.now) (key_by [] c.args.b.now) e))
+returns g c =
+    let a = key_by c.args.support.now c.args.a.now in
+    let b = key_by c.args.support.now c.args.b.now in
+    both_ways c.same.result (same a b)
+    (λ e. ap (same a) (sym (subst (λ m. key_of m c.args.a.now ≡ key_of m c.args.b.now) c.mapping.ensures (c.same.ensures.0 e))) ∙ same_refl a)
+    (λ e. c.same.ensures.1 (subst (λ m. key_of m c.args.a.now ≡ key_of m c.args.b.now) (sym c.mapping.ensures) (is_same a b e)))

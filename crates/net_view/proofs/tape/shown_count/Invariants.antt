@@ -8,9 +8,9 @@ use Rattle.net_view.proofs.tape.shown_count.Given as goal
 
 abbrev pub invariant-loop-at : goal.invariant-loop-at
 invariant-loop-at g l = record {
-  within : l.count ≤ shown_len l.shown (readings_of (tape_of l.kept));
-  here : key_in (option_map (λ n. n.now) l.at) ≡ shown_key l.shown (readings_of (tape_of l.kept)) l.count;
+  within : l.count ≤ shown_len l.support l.shown (readings_of (tape_of l.kept));
+  here : key_in l.support (option_map (λ n. n.now) l.at) ≡ shown_key l.support l.shown (readings_of (tape_of l.kept)) l.count;
 }
 
 abbrev pub decreases-loop-at : goal.decreases-loop-at
-decreases-loop-at g l = shown_len l.shown (readings_of (tape_of l.kept)) - l.count
+decreases-loop-at g l = shown_len l.support l.shown (readings_of (tape_of l.kept)) - l.count

@@ -16,25 +16,25 @@ use Rattle.net_view.proofs.tape_view.TapeViewNetworkView.channel_at.Goals as goa
 pub returns-in_err-name : goal.returns-in_err-name
 returns-in_err-name g c =
     let items = tape_of c.self.inside.kept.items in
-    let channel = key_by [] c.in_ok-channel.channel.now in
-    let channel_key : Some channel ≡ shown_key Channels (readings_of (tape_of c.self.inside.kept.items)) c.args.i =
-    ap (λ o. key_in (option_map (λ n. n.now) o)) (sym c.in_ok-channel.was) ∙ c.shown_at.ensures ∙ ap (λ ks. shown_key Channels (readings_of (tape_of ks)) c.args.i) c.deref.ensures.value in
+    let channel = key_by c.self.inside.support c.in_ok-channel.channel.now in
+    let channel_key : Some channel ≡ shown_key c.self.inside.support Channels (readings_of (tape_of c.self.inside.kept.items)) c.args.i =
+    ap (λ o. key_in c.self.inside.support (option_map (λ n. n.now) o)) (sym c.in_ok-channel.was) ∙ c.shown_at.ensures ∙ ap (λ ks. shown_key c.self.inside.support Channels (readings_of (tape_of ks)) c.args.i) c.deref.ensures.value in
     let shown = ap (option_map (λ (ch : _). ch.name.now)) c.from_residual-in_err-name.ensures ∙ ap (option_map (λ n. n.now)) (sym c.in_err-name.was)
     ∙ c.name_on.ensures
     ∙ ap (λ ks. name_on (readings_of (tape_of ks)) channel) c.deref-2.ensures.value
-    ∙ sym (places.name_shown items c.args.i channel channel_key)
+    ∙ sym (places.name_shown c.self.inside.support items c.args.i channel channel_key)
     ∙ ap (λ v. option_map (λ (ch : Channel). ch.name) (channel_shown (view_back v) c.args.i)) c.self.view_is in
     record { name = shown }
 
 pub returns : goal.returns
 returns g c =
     let items = tape_of c.self.inside.kept.items in
-    let channel = key_by [] c.in_ok-channel.channel.now in
-    let channel_key : Some channel ≡ shown_key Channels (readings_of (tape_of c.self.inside.kept.items)) c.args.i =
-    ap (λ o. key_in (option_map (λ n. n.now) o)) (sym c.in_ok-channel.was) ∙ c.shown_at.ensures ∙ ap (λ ks. shown_key Channels (readings_of (tape_of ks)) c.args.i) c.deref.ensures.value in
+    let channel = key_by c.self.inside.support c.in_ok-channel.channel.now in
+    let channel_key : Some channel ≡ shown_key c.self.inside.support Channels (readings_of (tape_of c.self.inside.kept.items)) c.args.i =
+    ap (λ o. key_in c.self.inside.support (option_map (λ n. n.now) o)) (sym c.in_ok-channel.was) ∙ c.shown_at.ensures ∙ ap (λ ks. shown_key c.self.inside.support Channels (readings_of (tape_of ks)) c.args.i) c.deref.ensures.value in
     let shown = ap (option_map (λ n. n.now)) (sym c.in_ok-name.was)
     ∙ c.name_on.ensures
     ∙ ap (λ ks. name_on (readings_of (tape_of ks)) channel) c.deref-2.ensures.value
-    ∙ sym (places.name_shown items c.args.i channel channel_key)
+    ∙ sym (places.name_shown c.self.inside.support items c.args.i channel channel_key)
     ∙ ap (λ v. option_map (λ (ch : Channel). ch.name) (channel_shown (view_back v) c.args.i)) c.self.view_is in
     record { name = shown }

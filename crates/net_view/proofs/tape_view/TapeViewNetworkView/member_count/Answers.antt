@@ -16,10 +16,10 @@ use Rattle.net_view.proofs.tape_view.TapeViewNetworkView.member_count.Goals as g
 pub returns-in-Some : goal.returns-in-Some
 returns-in-Some g c =
     let items = tape_of c.self.inside.kept.items in
-    let channel = key_by [] c.in-Some.channel.now in
-    let channel_key : Some channel ≡ shown_key Channels (readings_of (tape_of c.self.inside.kept.items)) c.args.i =
-    ap (λ o. key_in (option_map (λ n. n.now) o)) (sym c.in-Some.is) ∙ c.shown_at.ensures ∙ ap (λ ks. shown_key Channels (readings_of (tape_of ks)) c.args.i) c.deref.ensures.value in
+    let channel = key_by c.self.inside.support c.in-Some.channel.now in
+    let channel_key : Some channel ≡ shown_key c.self.inside.support Channels (readings_of (tape_of c.self.inside.kept.items)) c.args.i =
+    ap (λ o. key_in c.self.inside.support (option_map (λ n. n.now) o)) (sym c.in-Some.is) ∙ c.shown_at.ensures ∙ ap (λ ks. shown_key c.self.inside.support Channels (readings_of (tape_of ks)) c.args.i) c.deref.ensures.value in
     c.shown_count.ensures
-    ∙ ap (λ ks. shown_len (Members c.in-Some.channel) (readings_of (tape_of ks))) c.deref-in-Some.ensures.value
-    ∙ sym (places.members_counted items c.args.i channel channel_key)
+    ∙ ap (λ ks. shown_len c.self.inside.support (Members c.in-Some.channel) (readings_of (tape_of ks))) c.deref-in-Some.ensures.value
+    ∙ sym (places.members_counted c.self.inside.support items c.args.i channel channel_key)
     ∙ ap (λ v. members_shown (view_back v) c.args.i) c.self.view_is
