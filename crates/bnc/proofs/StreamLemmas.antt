@@ -13,7 +13,8 @@ use Rattle.irc_line.specs.declared.splitter.FeedError.{FeedError}
 use Rattle.irc_line.specs.declared.splitter.FeedError.TheVariants.{TooLong, OutOfMemory}
 use Rattle.net_view.specs.Arrival.{Received}
 use Rattle.bnc.specs.declared.fault.Fault.{Fault}
-use Rattle.bnc.specs.Stream.{IsRefusal, transcript_of}
+use Rattle.bnc.specs.declared.fault.Fault.TheVariants.{CannotRead, CannotWrite, LineTooLong, OutOfMemory as FaultOfMemory, Settings}
+use Rattle.bnc.specs.Stream.{IsPieceRefusal, IsRefusal, transcript_of}
 use Rattle.bnc.specs.Faults.{piece_fault, reading_fault}
 use Rattle.std.specs.declared.io.ErrorKind.{ErrorKind}
 use Rattle.std.specs.declared.io.ErrorKind.TheVariants as kind
@@ -54,7 +55,7 @@ not_true true h = absurd (h refl)
 not_true false h = refl
 
 -- why a piece is refused
-pub refusal_of : (bytes : List ℕ) (e : FeedError) → (IsErrOf {T = Unit {0}} (Err e) TooLong ↔ IsTrue (is_too_long bytes)) → IsRefusal bytes (piece_fault e)
+pub refusal_of : (bytes : List ℕ) (e : FeedError) → (IsErrOf {T = Unit {0}} (Err e) TooLong ↔ IsTrue (is_too_long bytes)) → IsPieceRefusal bytes (piece_fault e)
 refusal_of bytes TooLong h = h.0 refl
 refusal_of bytes OutOfMemory h = not_true (is_too_long bytes) (λ long. no_memory (h.1 long)) where
   no_memory : ◌≡◌ {A = Result (Unit {0}) FeedError} (Err OutOfMemory) (Err TooLong) → ⊥
@@ -73,7 +74,7 @@ pub taken_at : (s : Pending) (a b : List ℕ) (old new : List Parts) → s ≡ f
 taken_at s a b old new at none is = rw (is, none, at) (sym (transcript_more a b))
 
 pub refusal_at : (s : Pending) (a b : List ℕ) (e : FeedError) → s ≡ fed start a → is_too_long a ≡ false
-    → (IsErrOf {T = Unit {0}} (Err e) TooLong ↔ IsTrue (is_too_long (s.rest ++ b))) → IsRefusal (a ++ b) (piece_fault e)
+    → (IsErrOf {T = Unit {0}} (Err e) TooLong ↔ IsTrue (is_too_long (s.rest ++ b))) → IsPieceRefusal (a ++ b) (piece_fault e)
 refusal_at s a b e at short h =
     refusal_of (a ++ b) e (subst (λ x. IsErrOf {T = Unit {0}} (Err e) TooLong ↔ IsTrue x) (sym (long_at s a b at short)) h)
 
@@ -89,6 +90,14 @@ short_at s a b done at short h =
 pub refused_by : {T : Type 0} (r : Result T Fault) (P : Fault → Type 0) (fault : Fault) → IsErrAnd r (λ f. f ≡ fault) → P fault → IfErr r P
 refused_by (Ok x) P fault same h = absurd same
 refused_by (Err f) P fault same h = rw same h
+
+-- a refused piece is an input that is refused
+pub refused_piece : (bytes : List ℕ) (fault : Fault) → IsPieceRefusal bytes fault → IsRefusal bytes fault
+refused_piece bytes CannotRead h = absurd h
+refused_piece bytes CannotWrite h = h
+refused_piece bytes LineTooLong h = h
+refused_piece bytes FaultOfMemory h = h
+refused_piece bytes (Settings fault) h = h
 
 -- why a read fails
 pub reading_refusal : (bytes : List ℕ) (k : ErrorKind) → is_too_long bytes ≡ false → IsRefusal bytes (reading_fault k)

@@ -6,7 +6,7 @@ use Rattle.net_view.specs.Arrival.{Arrival, Received}
 use Rattle.net_view.specs.View.{view_of}
 use Rattle.bnc.specs.Report.{report_of}
 use Rattle.bnc.specs.declared.fault.Fault.{Fault}
-use Rattle.bnc.specs.declared.fault.Fault.TheVariants.{Settings as OfSettings, LineTooLong, CannotWrite}
+use Rattle.bnc.specs.declared.fault.Fault.TheVariants.{CannotRead, CannotWrite, LineTooLong, OutOfMemory}
 
 -- the transcript that the bytes are: their lines, in order
 abbrev pub transcript_of : List ℕ → List Arrival
@@ -16,13 +16,17 @@ transcript_of bytes = map Received (lines_of bytes)
 abbrev pub stream_report : List ℕ → List ℕ
 stream_report bytes = report_of (view_of (transcript_of bytes)) (counted (skipped_of bytes))
 
--- the cause of a fault at these bytes: a line that is too long is told where there is one, and there no other
--- fault is told
+-- why a piece that brings the input to these bytes is refused: a line that is too long is told where there is
+-- one, and there no other fault is told
+abbrev pub IsPieceRefusal : List ℕ → Fault → Type 0
+IsPieceRefusal bytes LineTooLong = IsTrue (is_too_long bytes)
+IsPieceRefusal bytes OutOfMemory = is_too_long bytes ≡ false
+IsPieceRefusal bytes _ = ⊥
+
+-- why an input of which these bytes were read is refused
 abbrev pub IsRefusal : List ℕ → Fault → Type 0
-IsRefusal bytes LineTooLong = IsTrue (is_too_long bytes)
-IsRefusal bytes CannotWrite = ⊥
-IsRefusal bytes (OfSettings fault) = ⊥
-IsRefusal bytes _ = is_too_long bytes ≡ false
+IsRefusal bytes CannotRead = is_too_long bytes ≡ false
+IsRefusal bytes fault = IsPieceRefusal bytes fault
 
 -- the same once the report may have been begun, where that is left to read: all was read before
 abbrev pub IsCauseOf : List ℕ → Option (List ℕ) → Fault → Type 0

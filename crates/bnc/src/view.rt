@@ -5,7 +5,7 @@ ghost use Rattle.std.specs.Io.KnownBytes.{Appends, Consumes, IsAtEnd};
 ghost use Rattle.irc_line.specs.Lines.{counted, fed, is_too_long, skipped_of, start};
 ghost use Rattle.net_view.specs.Arrival.{Arrival, Received};
 ghost use Rattle.net_view.specs.View.{view_of};
-ghost use Rattle.bnc.specs.Stream.{IsCauseOf, IsRefusal, stream_report, transcript_of};
+ghost use Rattle.bnc.specs.Stream.{IsCauseOf, IsPieceRefusal, IsRefusal, stream_report, transcript_of};
 
 use crate::fault::Fault;
 use crate::report::report_text;
@@ -49,7 +49,7 @@ fn take_piece<V: NetworkView>(
     ensures short { (bytes : List ℕ) → splitter.old ≡ fed start bytes →
         is_too_long bytes ≡ false → OnOk result (is_too_long (bytes ++ piece.now) ≡ false) }
     ensures refused { (bytes : List ℕ) → splitter.old ≡ fed start bytes →
-        is_too_long bytes ≡ false → IfErr result (IsRefusal (bytes ++ piece.now)) }
+        is_too_long bytes ≡ false → IfErr result (IsPieceRefusal (bytes ++ piece.now)) }
     ensures emptied { OnOk result (lines.new.items ≡ []) }
 {
     splitter.feed(piece, lines)?;

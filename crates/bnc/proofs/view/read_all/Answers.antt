@@ -3,8 +3,8 @@ use Rattle.std.specs.Io.KnownBytes.{Consumes}
 use Rattle.std.specs.IoError.{error_kind}
 use Rattle.net_view.specs.View.{view_of}
 use Rattle.irc_line.specs.Lines.{fed, is_too_long, start}
-use Rattle.bnc.specs.Stream.{IsRefusal, transcript_of}
-use Rattle.bnc.proofs.StreamLemmas.{consumes_end, consumes_kept, consumes_more, consumes_nil, piece_is, reading_refusal, refused_by, skipped_at, split_nothing}
+use Rattle.bnc.specs.Stream.{IsPieceRefusal, IsRefusal, transcript_of}
+use Rattle.bnc.proofs.StreamLemmas.{consumes_end, consumes_kept, consumes_more, consumes_nil, piece_is, reading_refusal, refused_by, refused_piece, skipped_at, split_nothing}
 use Rattle.bnc.proofs.view.read_all.Goals.{in-Ok+in_ok-take_piece-in-Ok, in-Err+else-ne}
 use Rattle.bnc.proofs.view.read_all.Goals as goal
 
@@ -36,7 +36,8 @@ returns-in_err-take_piece-in-Ok-clause-refused g c =
     c.in_err-take_piece-in-Ok.field-0.0 c.from_residual-in_err-take_piece-in-Ok.ensures.1 (
       so_far.0 ++ gave,
       consumes_more (left c.args.reader.now) (left c.loop.reader) (left c.read.new.self) so_far.0 gave so_far.1 c.in-Ok.ensures.bytes.0,
-      subst (λ t. IsRefusal (so_far.0 ++ t) c.in_err-take_piece-in-Ok.field-0.0) same (c.in_err-take_piece-in-Ok.ensures.refused so_far.0 so_far.4 so_far.2),
+      refused_piece (so_far.0 ++ gave) c.in_err-take_piece-in-Ok.field-0.0
+          (subst (λ t. IsPieceRefusal (so_far.0 ++ t) c.in_err-take_piece-in-Ok.field-0.0) same (c.in_err-take_piece-in-Ok.ensures.refused so_far.0 so_far.4 so_far.2)),
     )
 
 pub returns-then-ne-clause-refused : goal.returns-then-ne-clause-refused

@@ -2,19 +2,19 @@ use Rattle.std.proofs.Common.{◌++◌, ap, ◌∙◌}
 use Rattle.net_view.specs.View.{view_of}
 use Rattle.bnc.specs.declared.fault.Fault.TheVariants.{OutOfMemory}
 use Rattle.bnc.specs.Faults.{piece_fault}
-use Rattle.bnc.specs.Stream.{IsRefusal, transcript_of}
+use Rattle.bnc.specs.Stream.{IsPieceRefusal, transcript_of}
 use Rattle.bnc.proofs.StreamLemmas.{refusal_at, refused_by, short_at, split_more, taken_at}
 use Rattle.bnc.proofs.view.take_piece.Goals as goal
 
 pub returns-in_err-feed-clause-refused : goal.returns-in_err-feed-clause-refused
 returns-in_err-feed-clause-refused g c bytes split short =
     let e = c.in_err-feed.field-0.0 in
-    refused_by c.from_residual.result (IsRefusal (bytes ++ c.args.piece.now)) (piece_fault e) c.from_residual.ensures.1
+    refused_by c.from_residual.result (IsPieceRefusal (bytes ++ c.args.piece.now)) (piece_fault e) c.from_residual.ensures.1
     (refusal_at c.args.splitter.now bytes c.args.piece.now e split short c.in_err-feed.ensures.too_long)
 
 pub returns-in_err-take_lines-clause-refused : goal.returns-in_err-take_lines-clause-refused
 returns-in_err-take_lines-clause-refused g c bytes split short =
-    refused_by c.from_residual-in_err-take_lines.result (IsRefusal (bytes ++ c.args.piece.now)) OutOfMemory c.from_residual-in_err-take_lines.ensures.1
+    refused_by c.from_residual-in_err-take_lines.result (IsPieceRefusal (bytes ++ c.args.piece.now)) OutOfMemory c.from_residual-in_err-take_lines.ensures.1
     (short_at c.args.splitter.now bytes c.args.piece.now c.in_ok-feed.field-0 split short c.in_ok-feed.ensures.too_long.1)
 
 pub returns-clause-taken : goal.returns-clause-taken
