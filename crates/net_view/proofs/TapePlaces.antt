@@ -12,6 +12,7 @@ use Rattle.net_view.specs.Names.{same, bytes_cmp}
 use Rattle.net_view.specs.Arrival.{Arrival}
 use Rattle.net_view.specs.Transcript.{Reading, readings_of}
 use Rattle.net_view.specs.Presence.{name_on}
+use Rattle.net_view.specs.Topic.{topic_of}
 use Rattle.net_view.specs.Members.{is_member}
 use Rattle.net_view.specs.Facts.{in_sight, spelling_of}
 use Rattle.net_view.specs.View.{Channel, Person, channel_named, channel_of, channels_of, members_of, people_of, person_of, view_back}
@@ -51,6 +52,10 @@ name_of_channel : (rs : List Reading) (k : Text) (o : Option Text) → option_ma
 name_of_channel rs k None = refl
 name_of_channel rs k (Some name) = refl
 
+topic_of_channel : (rs : List Reading) (k : Text) (o : Option Text) → option_map (λ (ch : Channel). ch.topic) (option_map (channel_named rs k) o) ≡ option_map (λ _. topic_of rs k) o
+topic_of_channel rs k None = refl
+topic_of_channel rs k (Some name) = refl
+
 members_of_channel : (rs : List Reading) (k : Text) (o : Option Text) (ch : Channel) → option_map (channel_named rs k) o ≡ Some ch → ch.members ≡ members_of rs k
 members_of_channel rs k None ch e = absurd (none-some ch e)
 members_of_channel rs k (Some name) ch e = ap (λ (c : Channel). c.members) (sym (same_Some (channel_named rs k name) ch e))
@@ -85,6 +90,11 @@ module _ (settings : List Token) (items : List Arrival) (i : ℕ) where
   name_shown k e =
       let t = there k e in
       ap (option_map (λ (ch : Channel). ch.name)) (t.shown ∙ sym t.found) ∙ name_of_channel rs k (name_on rs k)
+
+  pub topic_shown : (k : Text) → Some k ≡ shown_key settings Channels (readings_of items) i → option_map (λ (ch : Channel). ch.topic) (channel_shown (view_back items) i) ≡ option_map (λ _. topic_of (readings_of items) k) (name_on (readings_of items) k)
+  topic_shown k e =
+      let t = there k e in
+      ap (option_map (λ (ch : Channel). ch.topic)) (t.shown ∙ sym t.found) ∙ topic_of_channel rs k (name_on rs k)
 
   pub members_counted : (k : Text) → Some k ≡ shown_key settings Channels (readings_of items) i → members_shown (view_back items) i ≡ length (fin.entries (members_of (readings_of items) k))
   members_counted k e =

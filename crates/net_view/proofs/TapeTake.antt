@@ -159,6 +159,7 @@ idle_settings settings (telling.Joined channel who account) own ready w s = refl
 idle_settings settings (telling.Parted channel who) own ready w s = refl
 idle_settings settings (telling.Kicked channel who) own ready w s = refl
 idle_settings settings (telling.Quits who) own ready w s = refl
+idle_settings settings (telling.Titled channel text) own ready w s = refl
 idle_settings settings (telling.Renamed old new) own ready w s = refl
 
 -- the settings after one more line
