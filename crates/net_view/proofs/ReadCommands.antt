@@ -1,9 +1,9 @@
 -- What the lines that are read tell, by their commands.
-use Rattle.std.specs.Prelude.{◌≡◌, ℕ, suc, ◌||◌, Bool, true, false, cond, IfSome, List, slice_get}
+use Rattle.std.specs.Prelude.{◌≡◌, ℕ, suc, Bool, true, false, cond, IfSome, List, slice_get}
 use Rattle.std.specs.List.{list_any}
 use Rattle.std.specs.Str.{str_eq_ignore_ascii_case}
 use Rattle.std.specs.Option.{option_and_then, option_map, unwrap_or}
-use Rattle.std.proofs.Common.{Option, Some, None, codes, refl, sym, ap, ◌∙◌, subst, ◌⊎◌, inl, inr}
+use Rattle.std.proofs.Common.{Option, Some, None, codes, refl, sym, ◌∙◌, subst, ◌⊎◌, inl, inr}
 use Rattle.irc_line.specs.Line.{Parts, has_command}
 use Rattle.irc_names.specs.Nick.{is_nameable}
 use Rattle.irc_support.specs.Text.{Text}
@@ -12,7 +12,7 @@ use Rattle.irc_support.specs.Settings.{is_channel, key_by}
 use Rattle.net_view.specs.Names.{Name, name_of, nameable}
 use Rattle.net_view.specs.Told.{Told, Silent, Welcomed, Supports, Settles, Joined, Parted, Kicked, Quits, Renamed, Titled}
 use Rattle.net_view.specs.Arrival.{Received}
-use Rattle.net_view.specs.StateLines.{commands_read, told, with, actor, account_said, or_silent, told_by_any_line, told_by_welcome, told_by_join, told_by_part, told_by_kick, told_by_quit, told_by_nick, told_by_topic_at, told_by_no_topic, unless_empty}
+use Rattle.net_view.specs.StateLines.{commands_read, told, with, actor, account_said, told_by_any_line, told_by_welcome, told_by_join, told_by_part, told_by_kick, told_by_quit, told_by_nick, told_by_topic_at, told_by_no_topic, unless_empty}
 use Rattle.net_view.proofs.Holds.{of_next, of_test}
 use Rattle.net_view.proofs.Commands.{is_state_line-named, told-read, told-unread, told_of_welcome, told_of_isupport, told_of_end_of_motd, told_of_no_motd, told_of_join, told_of_part, told_of_kick, told_of_quit, told_of_nick, told_of_topic, told_of_topic_reply, told_of_no_topic}
 

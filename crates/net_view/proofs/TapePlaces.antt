@@ -1,5 +1,5 @@
 -- What the view shows at a place, by the key that is shown there.
-use Rattle.std.specs.Prelude.{◌≡◌, ℕ, zero, suc, Bool, true, false, cond, ◌&&◌, IsSomeAnd, T, List, [], ◌∷◌, length, is_some, slice_get}
+use Rattle.std.specs.Prelude.{◌≡◌, ℕ, zero, suc, Bool, true, false, cond, IsSomeAnd, List, [], ◌∷◌, length, is_some, slice_get}
 use Rattle.std.specs.Ordering.{is_lt}
 use Rattle.std.specs.Option.{option_and_then, option_map, option_map_or, unwrap_or}
 use Rattle.std.specs.FinMap as fin
@@ -15,15 +15,13 @@ use Rattle.net_view.specs.Presence.{name_on}
 use Rattle.net_view.specs.Topic.{topic_of}
 use Rattle.net_view.specs.Members.{is_member}
 use Rattle.net_view.specs.Facts.{in_sight, spelling_of}
-use Rattle.net_view.specs.View.{Channel, Person, channel_named, channel_of, channels_of, members_of, people_of, person_of, view_back}
+use Rattle.net_view.specs.View.{Channel, Person, channel_named, channel_of, channels_of, members_of, view_back}
 use Rattle.net_view.specs.Readers.{MemberParts, channel_shown, known_at, member_parts, member_shown, members_shown}
-use Rattle.net_view.specs.Sound.{IsSoundChannel, IsSpelling}
-use Rattle.net_view.specs.declared.tape.Shown.TheVariants.{Channels, Members}
+use Rattle.net_view.specs.Sound.{IsSpelling}
+use Rattle.net_view.specs.declared.tape.Shown.TheVariants.{Channels}
 use Rattle.net_view.specs.Shown.{shown_key}
-use Rattle.net_view.specs.Settings.{key_by}
 use Rattle.net_view.proofs.Tests.{no_true}
 use Rattle.net_view.proofs.Keys.{is_same}
-use Rattle.net_view.proofs.Holds.{if_some}
 use Rattle.net_view.proofs.Channels.{channels_get, members_get}
 use Rattle.net_view.proofs.People.{people_get, spelling_field}
 use Rattle.net_view.proofs.Places.{at_key, below_found, find_at, first_and, and_last, none_mapped, not_before_itself, same_itself, T_true}

@@ -1,5 +1,5 @@
 -- The topic of a channel, looked for on a tape.
-use Rattle.std.specs.Prelude.{◌≡◌, ℕ, ◌-◌, ◌<◌, ◌≤◌, Bool, true, false, cond, is_some, List, [], ◌∷◌, length, get_or}
+use Rattle.std.specs.Prelude.{◌≡◌, ℕ, ◌-◌, ◌<◌, ◌≤◌, Bool, true, false, cond, is_some, List, [], length, get_or}
 use Rattle.std.specs.Option.{unwrap_or}
 use Rattle.std.proofs.Common.{Option, Some, None, refl, ap, ◌∙◌}
 use Rattle.irc_support.specs.Text.{Text}
