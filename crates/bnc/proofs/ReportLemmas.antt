@@ -11,7 +11,7 @@ use Rattle.irc_line.specs.Lines.{with_lf}
 use Rattle.net_view.specs.Text.{Text}
 use Rattle.net_view.specs.View.{Channel, View}
 use Rattle.net_view.specs.Readers.{MemberParts, channel_shown, channels_shown, member_parts}
-use Rattle.bnc.specs.Report.{member_line, member_lines, channel_lines, channels_lines, skipped_lines, text_of, report_of}
+use Rattle.bnc.specs.Report.{member_line, member_lines, channel_lines, channels_lines, skipped_lines, text_of, topic_lines, report_of}
 
 -- the items before the next place
 pub take_next : {X : Type 0} (xs : List X) (i : ℕ) → take (i + 1) xs ≡ take i xs ++ option_to_list (slice_get xs i)
@@ -60,14 +60,22 @@ pub members_all : (v : View) (o : Option Channel) → members_before v o (option
 members_all v None = refl
 members_all v (Some ch) = ap (λ es. text_of (map (λ e. member_line (member_parts v e)) es)) (take_all (length (entries ch.members)) (entries ch.members) (omega arith))
 
--- a channel by its name, with its members
-pub channel_text : (v : View) (o : Option Channel) (name : Text) (before : List ℕ) → Some name ≡ option_map (λ (ch : Channel). ch.name) o
-    → (before ++ with_lf (codes "channel " ++ name)) ++ option_map_or (λ (ch : Channel). text_of (member_lines v ch)) o []
+-- a channel by its name and topic, with its members
+pub channel_text : (v : View) (o : Option Channel) (name : Text) (topic : Option Text) (before : List ℕ) → Some name ≡ option_map (λ (ch : Channel). ch.name) o → Some topic ≡ option_map (λ (ch : Channel). ch.topic) o
+    → ((before ++ with_lf (codes "channel " ++ name)) ++ text_of (topic_lines topic)) ++ option_map_or (λ (ch : Channel). text_of (member_lines v ch)) o []
     ≡ before ++ option_map_or (λ (ch : Channel). text_of (channel_lines v ch)) o []
-channel_text v None name before is = cc
-channel_text v (Some ch) name before is =
+channel_text v None name topic before is so = cc
+channel_text v (Some ch) name topic before is so =
     let same : name ≡ ch.name = cc in
-    rw same (append_assoc before (with_lf (codes "channel " ++ ch.name)) (text_of (member_lines v ch)))
+    let same_topic : topic ≡ ch.topic = cc in
+    let first = with_lf (codes "channel " ++ ch.name) in
+    let second = text_of (topic_lines ch.topic) in
+    let third = text_of (member_lines v ch) in
+    ap (λ n. ((before ++ with_lf (codes "channel " ++ n)) ++ text_of (topic_lines topic)) ++ third) same
+    ∙ ap (λ t. ((before ++ first) ++ text_of (topic_lines t)) ++ third) same_topic
+    ∙ append_assoc (before ++ first) second third
+    ∙ append_assoc before first (second ++ third)
+    ∙ ap (λ t. before ++ (first ++ t)) (sym (flat_map-append with_lf (topic_lines ch.topic) (member_lines v ch)))
 
 pub no_channel_text : (v : View) (o : Option Channel) (before : List ℕ) → None ≡ option_map (λ (ch : Channel). ch.name) o
     → before ≡ before ++ option_map_or (λ (ch : Channel). text_of (channel_lines v ch)) o []

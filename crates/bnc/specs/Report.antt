@@ -3,7 +3,7 @@ use Rattle.std.specs.Prelude.{ℕ, List, [], ◌∷◌, ◌++◌, ◌==◌, code
 use Rattle.std.specs.List.{flat_map}
 use Rattle.std.specs.FinMap.{entries}
 use Rattle.std.specs.Fmt.{decimal}
-use Rattle.std.proofs.Common.{Some, None}
+use Rattle.std.proofs.Common.{Option, Some, None}
 use Rattle.irc_line.specs.Lines.{with_lf}
 use Rattle.net_view.specs.Text.{Text}
 use Rattle.net_view.specs.View.{Channel, View}
@@ -17,9 +17,14 @@ member_line member = codes "member " ++ member.nick
 abbrev pub member_lines : View → Channel → List Text
 member_lines v channel = map (λ entry. member_line (member_parts v entry)) (entries channel.members)
 
--- a channel that we are on: its name, and its members
+-- the topic of a channel, where there is one
+abbrev pub topic_lines : Option Text → List Text
+topic_lines None = []
+topic_lines (Some topic) = (codes "topic " ++ topic) ∷ []
+
+-- a channel that we are on: its name, its topic, and its members
 abbrev pub channel_lines : View → Channel → List Text
-channel_lines v channel = (codes "channel " ++ channel.name) ∷ member_lines v channel
+channel_lines v channel = (codes "channel " ++ channel.name) ∷ (topic_lines channel.topic ++ member_lines v channel)
 
 -- the channels that we are on, in the order of their keys
 abbrev pub channels_lines : View → List Text

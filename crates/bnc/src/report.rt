@@ -1,11 +1,11 @@
 //! The report of `bnc view`. Names are the bytes that the network sent, in no particular encoding.
 
-ghost use Rattle.std.specs.Prelude.{◌≡◌, ◌++◌, [], IfOk, OnOk};
+ghost use Rattle.std.specs.Prelude.{◌≡◌, ◌++◌, [], IfOk, OnOk, option_map};
 ghost use Rattle.std.specs.Option.{option_map_or};
 ghost use Rattle.irc_line.specs.Lines.{with_lf};
 ghost use Rattle.net_view.specs.Readers.{channel_shown};
 ghost use Rattle.bnc.specs.Report.{channel_lines, channels_lines, member_lines};
-ghost use Rattle.bnc.specs.Report.{report_of, skipped_lines, text_of};
+ghost use Rattle.bnc.specs.Report.{report_of, skipped_lines, text_of, topic_lines};
 
 use net_view::{NetworkView, OutOfMemory};
 use std::alloc::Global;
@@ -18,6 +18,17 @@ fn push_line(report: &mut Vec<u8>, label: &[u8], text: &[u8]) -> Result<(), OutO
     report.extend_from_slice(text)?;
     report.push(b'\n')?;
     Ok(())
+}
+
+/// Adds a topic, where there is one.
+fn push_topic(report: &mut Vec<u8>, topic: Option<&[u8]>) -> Result<(), OutOfMemory>
+    ensures { OnOk result (report.new.items
+        ≡ report.old.items ++ text_of (topic_lines (option_map (λ text. text.now) topic.entry))) }
+{
+    match topic {
+        Some(text) => push_line(report, b"topic ", text),
+        None => Ok(()),
+    }
 }
 
 /// Adds the members of the channel at place `i`.
@@ -34,7 +45,7 @@ fn push_members<V: NetworkView>(report: &mut Vec<u8>, view: &V, i: usize) -> Res
     Ok(())
 }
 
-/// Adds the channel at place `i` with its members.
+/// Adds the channel at place `i` with its topic and its members.
 fn push_channel<V: NetworkView>(report: &mut Vec<u8>, view: &V, i: usize) -> Result<(), OutOfMemory>
     ensures { OnOk result (report.new.items ≡ report.old.items
         ++ option_map_or (λ channel. text_of (channel_lines (V.view view.now) channel))
@@ -42,6 +53,7 @@ fn push_channel<V: NetworkView>(report: &mut Vec<u8>, view: &V, i: usize) -> Res
 {
     if let Some(channel) = view.channel_at(i) {
         push_line(report, b"channel ", channel.name)?;
+        push_topic(report, channel.topic)?;
         push_members(report, view, i)?;
     }
     Ok(())
@@ -74,13 +86,14 @@ fn push_skipped(alloc: Global, report: &mut Vec<u8>, skipped: u64) -> Result<(),
 /// ```text
 /// nick Me
 /// channel #c
+/// topic Hello all
 /// member bob
 /// member Me
 /// skipped 3
 /// ```
 ///
-/// Channels and members stand in the order of their keys, each line ends with LF, and the last stands only
-/// where something was skipped. Before a welcome the first line is `no welcome`.
+/// Channels and members stand in the order of their keys, each line ends with LF, a topic stands only where
+/// there is one, and the last line only where something was skipped. Before a welcome the first line is `no welcome`.
 pub fn report_text<V: NetworkView>(
     alloc: Global,
     view: &V,

@@ -40,3 +40,4 @@ pub mod ShownPlaces
 pub mod InSight
 pub mod TapeSpelling
 pub mod TapePlaces
+pub mod TapeTopics

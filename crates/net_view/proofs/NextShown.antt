@@ -17,7 +17,7 @@ use Rattle.net_view.specs.Names.{same, bytes_cmp}
 use Rattle.net_view.specs.Told.{Told, Joined, Renamed, Present, Disconnected}
 use Rattle.net_view.specs.Arrival.{Arrival, Received}
 use Rattle.net_view.specs.StateLines.{told}
-use Rattle.net_view.specs.Transcript.{standing, settings_of, is_ready, Reading, readings_of, ours}
+use Rattle.net_view.specs.Transcript.{standing, settings_of, Reading, readings_of, ours}
 use Rattle.net_view.specs.LookBack.{last_of, name_before}
 use Rattle.net_view.specs.Presence.{is_on}
 use Rattle.net_view.specs.Members.{says_member, is_member}

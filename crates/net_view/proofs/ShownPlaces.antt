@@ -12,7 +12,6 @@ use Rattle.net_view.specs.declared.tape.Kept.{Kept}
 use Rattle.net_view.specs.declared.tape.Shown.{Shown}
 use Rattle.net_view.specs.declared.tape.Shown.TheVariants.{Channels, Members}
 use Rattle.net_view.specs.Names.{bytes_cmp}
-use Rattle.net_view.specs.Told.{Told}
 use Rattle.net_view.specs.Arrival.{Received}
 use Rattle.net_view.specs.StateLines.{told}
 use Rattle.net_view.specs.Transcript.{Reading, readings_of, settings_of}

@@ -1,7 +1,7 @@
 -- Kept lines, looked back through one by one.
 use Rattle.std.specs.Prelude.{◌≡◌, ℕ, ◌+◌, ◌-◌, ◌<◌, ◌≤◌, Bool, true, false, cond, List, [], ◌∷◌, ◌++◌, take, length, get_or, reverse, is_some, not, ◌&&◌}
-use Rattle.std.specs.Option.{option_map, option_map_or, option_or, unwrap_or}
-use Rattle.std.proofs.Common.{Option, Some, None, refl, sym, ap, ◌∙◌, arith, subst}
+use Rattle.std.specs.Option.{option_map, option_or, unwrap_or}
+use Rattle.std.proofs.Common.{Some, None, refl, sym, ap, ◌∙◌, arith, subst}
 use Rattle.std.proofs.lemmas.List.{reverse-append, take_more}
 use Rattle.irc_line.specs.Line.{Parts}
 use Rattle.irc_support.specs.Text.{Text}
@@ -11,7 +11,7 @@ use Rattle.net_view.specs.declared.told.Marks.{Marks}
 use Rattle.net_view.specs.declared.told.Telling.{Telling}
 use Rattle.net_view.specs.declared.told.Telling.TheVariants as telling
 use Rattle.net_view.specs.Told.{Told, Welcomed, Supports, Disconnected}
-use Rattle.net_view.specs.Arrival.{Arrival, Received, Lost}
+use Rattle.net_view.specs.Arrival.{Arrival, Received}
 use Rattle.net_view.specs.StateLines.{told}
 use Rattle.net_view.specs.Transcript.{Standing, standing, standing_after, settings_after, settings_of, own_after, own_nick, ready_after, is_ready, is_us, Reading, readings_of, ours}
 use Rattle.net_view.specs.LookBack.{last}
@@ -63,6 +63,7 @@ own_meant settings (telling.Joined channel who account) marks s m = refl
 own_meant settings (telling.Parted channel who) marks s m = refl
 own_meant settings (telling.Kicked channel who) marks s m = refl
 own_meant settings (telling.Quits who) marks s m = refl
+own_meant settings (telling.Titled channel text) marks s m = refl
 own_meant settings (telling.Renamed old new) marks s m =
     ap (λ b. cond b (Some new.now) s.own) (sym m.by_us)
     ∙ elim marks.by_us as (λ b. cond b (Some new.now) s.own ≡ option_or (cond b (Some new.now) None) s.own) [ true ↦ refl | false ↦ refl ]
@@ -76,6 +77,7 @@ ready_meant settings (telling.Joined channel who account) s = refl
 ready_meant settings (telling.Parted channel who) s = refl
 ready_meant settings (telling.Kicked channel who) s = refl
 ready_meant settings (telling.Quits who) s = refl
+ready_meant settings (telling.Titled channel text) s = refl
 ready_meant settings (telling.Renamed old new) s = refl
 
 -- the last of some lines, and those before it

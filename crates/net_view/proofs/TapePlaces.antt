@@ -1,5 +1,5 @@
 -- What the view shows at a place, by the key that is shown there.
-use Rattle.std.specs.Prelude.{◌≡◌, ℕ, zero, suc, Bool, true, false, cond, ◌&&◌, IsSomeAnd, T, List, [], ◌∷◌, length, is_some, slice_get}
+use Rattle.std.specs.Prelude.{◌≡◌, ℕ, zero, suc, Bool, true, false, cond, IsSomeAnd, List, [], ◌∷◌, length, is_some, slice_get}
 use Rattle.std.specs.Ordering.{is_lt}
 use Rattle.std.specs.Option.{option_and_then, option_map, option_map_or, unwrap_or}
 use Rattle.std.specs.FinMap as fin
@@ -12,17 +12,16 @@ use Rattle.net_view.specs.Names.{same, bytes_cmp}
 use Rattle.net_view.specs.Arrival.{Arrival}
 use Rattle.net_view.specs.Transcript.{Reading, readings_of}
 use Rattle.net_view.specs.Presence.{name_on}
+use Rattle.net_view.specs.Topic.{topic_of}
 use Rattle.net_view.specs.Members.{is_member}
 use Rattle.net_view.specs.Facts.{in_sight, spelling_of}
-use Rattle.net_view.specs.View.{Channel, Person, channel_named, channel_of, channels_of, members_of, people_of, person_of, view_back}
+use Rattle.net_view.specs.View.{Channel, Person, channel_named, channel_of, channels_of, members_of, view_back}
 use Rattle.net_view.specs.Readers.{MemberParts, channel_shown, known_at, member_parts, member_shown, members_shown}
-use Rattle.net_view.specs.Sound.{IsSoundChannel, IsSpelling}
-use Rattle.net_view.specs.declared.tape.Shown.TheVariants.{Channels, Members}
+use Rattle.net_view.specs.Sound.{IsSpelling}
+use Rattle.net_view.specs.declared.tape.Shown.TheVariants.{Channels}
 use Rattle.net_view.specs.Shown.{shown_key}
-use Rattle.net_view.specs.Settings.{key_by}
 use Rattle.net_view.proofs.Tests.{no_true}
 use Rattle.net_view.proofs.Keys.{is_same}
-use Rattle.net_view.proofs.Holds.{if_some}
 use Rattle.net_view.proofs.Channels.{channels_get, members_get}
 use Rattle.net_view.proofs.People.{people_get, spelling_field}
 use Rattle.net_view.proofs.Places.{at_key, below_found, find_at, first_and, and_last, none_mapped, not_before_itself, same_itself, T_true}
@@ -50,6 +49,10 @@ entry_at m j x e = fin.get-entries m x.0 ∙ found_at (fin.entries m) j x (T_tru
 name_of_channel : (rs : List Reading) (k : Text) (o : Option Text) → option_map (λ (ch : Channel). ch.name) (option_map (channel_named rs k) o) ≡ o
 name_of_channel rs k None = refl
 name_of_channel rs k (Some name) = refl
+
+topic_of_channel : (rs : List Reading) (k : Text) (o : Option Text) → option_map (λ (ch : Channel). ch.topic) (option_map (channel_named rs k) o) ≡ option_map (λ _. topic_of rs k) o
+topic_of_channel rs k None = refl
+topic_of_channel rs k (Some name) = refl
 
 members_of_channel : (rs : List Reading) (k : Text) (o : Option Text) (ch : Channel) → option_map (channel_named rs k) o ≡ Some ch → ch.members ≡ members_of rs k
 members_of_channel rs k None ch e = absurd (none-some ch e)
@@ -85,6 +88,11 @@ module _ (settings : List Token) (items : List Arrival) (i : ℕ) where
   name_shown k e =
       let t = there k e in
       ap (option_map (λ (ch : Channel). ch.name)) (t.shown ∙ sym t.found) ∙ name_of_channel rs k (name_on rs k)
+
+  pub topic_shown : (k : Text) → Some k ≡ shown_key settings Channels (readings_of items) i → option_map (λ (ch : Channel). ch.topic) (channel_shown (view_back items) i) ≡ option_map (λ _. topic_of (readings_of items) k) (name_on (readings_of items) k)
+  topic_shown k e =
+      let t = there k e in
+      ap (option_map (λ (ch : Channel). ch.topic)) (t.shown ∙ sym t.found) ∙ topic_of_channel rs k (name_on rs k)
 
   pub members_counted : (k : Text) → Some k ≡ shown_key settings Channels (readings_of items) i → members_shown (view_back items) i ≡ length (fin.entries (members_of (readings_of items) k))
   members_counted k e =

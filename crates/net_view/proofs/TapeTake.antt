@@ -19,7 +19,7 @@ use Rattle.net_view.specs.Tells.{meant, us_of, settles_said, IsMarked}
 use Rattle.net_view.specs.Tape.{with_lost, played_back, tape_of, AreMarked, IsMarkedLine, IsMarkedTape}
 use Rattle.net_view.proofs.StepLaw.{view_step, view_back_step}
 use Rattle.net_view.specs.Table.{table}
-use Rattle.net_view.specs.Told.{Disconnected, Supports}
+use Rattle.net_view.specs.Told.{Disconnected}
 use Rattle.net_view.specs.StateLines.{told}
 use Rattle.net_view.proofs.TapeBack.{marked_split, ready_meant}
 use Rattle.net_view.proofs.Emptied.{view_lost, emptied}
@@ -159,6 +159,7 @@ idle_settings settings (telling.Joined channel who account) own ready w s = refl
 idle_settings settings (telling.Parted channel who) own ready w s = refl
 idle_settings settings (telling.Kicked channel who) own ready w s = refl
 idle_settings settings (telling.Quits who) own ready w s = refl
+idle_settings settings (telling.Titled channel text) own ready w s = refl
 idle_settings settings (telling.Renamed old new) own ready w s = refl
 
 -- the settings after one more line

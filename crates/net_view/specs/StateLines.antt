@@ -204,7 +204,7 @@ told_by_any_line = told_by state_lines
 
 -- The commands that the views read. No law opens this list, so each holds whichever lines stand in it.
 unfoldable pub commands_read : List Text
-commands_read = codes "001" ∷ codes "005" ∷ codes "376" ∷ codes "422" ∷ codes "JOIN" ∷ codes "PART" ∷ codes "KICK" ∷ codes "QUIT" ∷ codes "NICK" ∷ []
+commands_read = codes "001" ∷ codes "005" ∷ codes "376" ∷ codes "422" ∷ codes "JOIN" ∷ codes "PART" ∷ codes "KICK" ∷ codes "QUIT" ∷ codes "NICK" ∷ codes "TOPIC" ∷ codes "332" ∷ codes "331" ∷ []
 
 -- whether a line can tell something
 abbrev pub is_state_line : Parts → Bool

@@ -9,7 +9,7 @@ use Rattle.net_view.specs.Names.{name_of, same}
 use Rattle.net_view.specs.Told as spec
 use Rattle.net_view.specs.declared.told.Marks.{Marks}
 use Rattle.net_view.specs.declared.told.Telling.{Telling}
-use Rattle.net_view.specs.declared.told.Telling.TheVariants.{Silent, Welcomed, Supports, Settles, Joined, Parted, Kicked, Quits, Renamed}
+use Rattle.net_view.specs.declared.told.Telling.TheVariants.{Silent, Welcomed, Supports, Settles, Joined, Parted, Kicked, Quits, Renamed, Titled}
 
 -- what it means under these settings
 abbrev pub meant : {A : Type 0} → List Token → Telling A → spec.Told
@@ -22,6 +22,7 @@ meant settings (Parted channel who) = spec.Parted (key_by settings channel.now) 
 meant settings (Kicked channel who) = spec.Kicked (key_by settings channel.now) (key_by settings who.now)
 meant settings (Quits who) = spec.Quits (key_by settings who.now)
 meant settings (Renamed old new) = spec.Renamed (key_by settings old.now) (name_of settings new.now)
+meant settings (Titled channel text) = spec.Titled (key_by settings channel.now) (option_map (λ t. t.now) text)
 
 -- whether a key is that of this nick of ours, under these settings
 abbrev pub us_of : List Token → Option Text → Text → Bool

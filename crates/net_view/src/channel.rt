@@ -5,6 +5,8 @@
 pub struct Channel<'a> {
     /// The name, as spelled in our own last JOIN.
     pub name: &'a [u8],
+    /// The topic, not empty; `None` where there is none.
+    pub topic: Option<&'a [u8]>,
 }
 
 /// A member of a channel that we are on.

@@ -55,7 +55,9 @@ pub trait NetworkView {
     /// The channel at place `i`; `None` from `channel_count` on.
     fn channel_at(&self, i: usize) -> Option<Channel<'_>>
         ensures name { option_map (λ channel. channel.name.now) result
-            ≡ option_map (λ channel. channel.name) (channel_shown (view self.now) i) };
+            ≡ option_map (λ channel. channel.name) (channel_shown (view self.now) i) }
+        ensures topic { option_map (λ channel. option_map (λ topic. topic.now) channel.topic) result
+            ≡ option_map (λ channel. channel.topic) (channel_shown (view self.now) i) };
 
     /// How many members the channel at place `i` has, we among them; 0 from `channel_count` on.
     fn member_count(&self, i: usize) -> usize

@@ -12,6 +12,7 @@ ghost use Rattle.net_view.specs.Shown.{key_list, names_in, is_shown, shown_key, 
 ghost use Rattle.net_view.specs.Transcript.{own_nick, is_ready, readings_of};
 ghost use Rattle.net_view.specs.LookBack.{last_of, name_before};
 ghost use Rattle.net_view.specs.Presence.{is_on, name_on, says_on};
+ghost use Rattle.net_view.specs.Topic.{says_topic, topic_of};
 ghost use Rattle.net_view.specs.Members.{is_member, says_member};
 ghost use Rattle.net_view.specs.Facts.{in_sight, says_spelling, spelling_of};
 ghost use Rattle.net_view.specs.Tells.{us_of, meant, IsMarked};
@@ -97,6 +98,35 @@ fn says_on<'a, S: Allocator, A: Allocator>(
             }
         }
         Telling::Quits(_) => { if marks.by_us { Some(None) } else { None } }
+        _ => None,
+    }
+}
+
+/// What a line says of a channel's topic: nothing, that there is none, or the topic.
+fn says_topic<'a, S: Allocator, A: Allocator>(
+    support: &Support<S>,
+    telling: &Telling<'a, A>,
+    marks: Marks,
+    channel: &[u8],
+) -> Option<Option<&'a [u8]>>
+    ensures { (us : Text → Bool) → IsMarked us (meant support.now telling.now) marks →
+        option_map (λ said. option_map (λ text. text.now) said) result ≡ says_topic (key_by support.now channel.now) us (meant support.now telling.now) }
+{
+    match telling {
+        Telling::Joined(name, _, _) => {
+            if marks.by_us && support.is_channel(name) && is_same(support, channel, name) {
+                Some(None)
+            } else {
+                None
+            }
+        }
+        Telling::Titled(name, text) => {
+            if is_same(support, channel, name) {
+                Some(*text)
+            } else {
+                None
+            }
+        }
         _ => None,
     }
 }
@@ -229,6 +259,27 @@ pub(crate) fn ready_in<A: Allocator>(kept: &[Kept<A>]) -> bool
     }
     let last = &kept[kept.len() - 1];
     last.fixed
+}
+
+/// The topic of a channel on which we are, after these lines.
+pub(crate) fn topic_in<'a, A: Allocator>(
+    support: &Support<A>,
+    kept: &'a [Kept<A>],
+    channel: &[u8],
+) -> Option<&'a [u8]>
+    requires readable { IsReadable support.now kept.now }
+    requires on { is_on (readings_of (tape_of kept.now)) (key_by support.now channel.now) ≡ true }
+    ensures { option_map (λ text. text.now) result ≡ topic_of (readings_of (tape_of kept.now)) (key_by support.now channel.now) }
+{
+    let mut i = kept.len();
+    while i > 0 {
+        i -= 1;
+        let entry = &kept[i];
+        if let Some(answer) = says_topic(support, &told(&entry.line), entry.marks, channel) {
+            return answer;
+        }
+    }
+    None
 }
 
 /// Whether the person was made a member of the channel, on which we are, and of its last line that speaks of

@@ -7,7 +7,7 @@ use crate::channel::{Channel, Member};
 use crate::item::Item;
 use crate::network_view::NetworkView;
 use crate::tape::{
-    Kept, Shown, marks_of, name_on, own_in, ready_in, shown_at, shown_count, spelling_in,
+    Kept, Shown, marks_of, name_on, own_in, ready_in, shown_at, shown_count, spelling_in, topic_in,
 };
 use crate::told::{Telling, is_state_line, told};
 use irc_line::Line;
@@ -141,7 +141,8 @@ impl<A: Allocator + Copy> NetworkView for TapeView<A> {
     fn channel_at(&self, i: usize) -> Option<Channel<'_>> {
         let channel = shown_at(&self.support, &self.kept, Shown::Channels, i)?;
         let name = name_on(&self.support, &self.kept, channel)?;
-        Some(Channel { name })
+        let topic = topic_in(&self.support, &self.kept, channel);
+        Some(Channel { name, topic })
     }
 
     fn member_count(&self, i: usize) -> usize {

@@ -24,7 +24,7 @@ fn show_members<V: NetworkView>(view: &V, channel: usize, text: &mut Vec<u8>) ->
     Ok(())
 }
 
-/// Our nick, then each channel with its members, in order.
+/// Our nick, then each channel with its topic in brackets and its members, in order.
 fn shown<V: NetworkView>(alloc: Global, view: &V) -> Result<Vec<u8>, Fail> {
     let mut text = Vec::new(alloc);
     if let Some(nick) = view.own() {
@@ -34,6 +34,11 @@ fn shown<V: NetworkView>(alloc: Global, view: &V) -> Result<Vec<u8>, Fail> {
         let channel = view.channel_at(place).ok_or("no such channel")?;
         text.extend_from_slice(b" / ")?;
         text.extend_from_slice(channel.name)?;
+        if let Some(topic) = channel.topic {
+            text.extend_from_slice(b" [")?;
+            text.extend_from_slice(topic)?;
+            text.push(b']')?;
+        }
         show_members(view, place, &mut text)?;
     }
     Ok(text)
@@ -205,6 +210,28 @@ fn when_settings_are_fixed(rt: HostRuntime) -> Result<(), Fail> {
         assert!(rt; view.ready() == ready && view.support().token_count() == tokens);
     }
     Ok(())
+}
+
+#[test]
+fn topics(rt: HostRuntime) -> Result<(), Fail> {
+    check_rows(
+        &rt,
+        &[
+            (b":s 001 Me :hi", b"Me"),
+            (b":s 332 Me #c :early", b"Me"),
+            (b":Me!m@h JOIN #c", b"Me / #c Me"),
+            (b":s 332 Me #C :Hello all", b"Me / #c [Hello all] Me"),
+            (b":bob!b@h TOPIC #c", b"Me / #c [Hello all] Me"),
+            (b":bob!b@h TOPIC #d :other", b"Me / #c [Hello all] Me"),
+            (b":bob!b@h JOIN #c", b"Me / #c [Hello all] bob Me"),
+            (b":s 331 Me #c :No topic is set", b"Me / #c bob Me"),
+            (b":bob!b@h TOPIC #c :new", b"Me / #c [new] bob Me"),
+            (b":bob!b@h TOPIC #c :", b"Me / #c bob Me"),
+            (b":bob!b@h TOPIC #c :newer", b"Me / #c [newer] bob Me"),
+            // a JOIN of ours begins the channel anew
+            (b":Me!m@h JOIN #c", b"Me / #c Me"),
+        ],
+    )
 }
 
 #[test]

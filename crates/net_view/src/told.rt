@@ -1,10 +1,10 @@
 //! What one line tells, as far as views read it.
 
-ghost use Rattle.std.specs.Prelude.{◌≡◌, List, option_map};
+ghost use Rattle.std.specs.Prelude.{◌≡◌, ◌≤◌, List, option_map};
 ghost use Rattle.irc_support.specs.Text.{is_word};
 ghost use Rattle.irc_support.specs.Tokens.{Token};
 ghost use Rattle.net_view.specs.Arrival.{Received};
-ghost use Rattle.net_view.specs.StateLines.{told, told_by_welcome, told_by_join, told_by_part, told_by_kick, told_by_quit, told_by_nick, account_said, actor_nick, is_state_line};
+ghost use Rattle.net_view.specs.StateLines.{told, told_by_welcome, told_by_join, told_by_part, told_by_kick, told_by_quit, told_by_nick, told_by_topic_at, told_by_no_topic, unless_empty, account_said, actor_nick, is_state_line};
 ghost use Rattle.net_view.specs.Tells.{meant};
 
 use irc_line::Line;
@@ -40,6 +40,8 @@ pub(crate) enum Telling<'a, A: Allocator> {
     Quits(&'a [u8]),
     /// `:bob!b@h NICK rob`: the old name and the new one.
     Renamed(&'a [u8], &'a [u8]),
+    /// `:bob!b@h TOPIC #c :hi`: a channel and its topic, where it has one.
+    Titled(&'a [u8], Option<&'a [u8]>),
 }
 
 impl<'a, A: Allocator> Telling<'a, A> {
@@ -107,6 +109,9 @@ pub(crate) fn is_state_line<A: Allocator>(line: &Line<A>) -> bool
         || line.is(b"KICK")
         || line.is(b"QUIT")
         || line.is(b"NICK")
+        || line.is(b"TOPIC")
+        || line.is(b"332")
+        || line.is(b"331")
 }
 
 /// The nick of the source, where it is nameable.
@@ -229,6 +234,40 @@ fn told_by_nick<A: Allocator>(line: &Line<A>) -> Telling<'_, A>
     }
 }
 
+/// The text, where it is not empty.
+fn unless_empty(text: &[u8]) -> Option<&[u8]>
+    ensures { option_map (λ t. t.now) result ≡ unless_empty text.now }
+{
+    match text {
+        [] => None,
+        _ => Some(text),
+    }
+}
+
+/// What a topic tells whose channel is at this place, with the text behind it.
+fn told_by_topic_at<A: Allocator>(line: &Line<A>, place: usize) -> Telling<'_, A>
+    requires { place ≤ 1 }
+    ensures { (settings : List Token) → meant settings result ≡ told_by_topic_at place settings line.now }
+{
+    let Some(channel) = line.param(place) else {
+        return Telling::Silent;
+    };
+    match line.param(place + 1) {
+        Some(text) => Telling::Titled(channel, unless_empty(text)),
+        None => Telling::Silent,
+    }
+}
+
+/// What a 331 tells.
+fn told_by_no_topic<A: Allocator>(line: &Line<A>) -> Telling<'_, A>
+    ensures { (settings : List Token) → meant settings result ≡ told_by_no_topic settings line.now }
+{
+    match line.param(1) {
+        Some(channel) => Telling::Titled(channel, None),
+        None => Telling::Silent,
+    }
+}
+
 /// What the line tells.
 pub(crate) fn told<A: Allocator>(line: &Line<A>) -> Telling<'_, A>
     ensures { (settings : List Token) → meant settings result ≡ told settings (Received line.now) }
@@ -259,6 +298,15 @@ pub(crate) fn told<A: Allocator>(line: &Line<A>) -> Telling<'_, A>
     }
     if line.is(b"NICK") {
         return told_by_nick(line);
+    }
+    if line.is(b"TOPIC") {
+        return told_by_topic_at(line, 0);
+    }
+    if line.is(b"332") {
+        return told_by_topic_at(line, 1);
+    }
+    if line.is(b"331") {
+        return told_by_no_topic(line);
     }
     Telling::Silent
 }

@@ -124,6 +124,39 @@ fn names_that_differ_in_case_are_one(rt: HostRuntime) -> Result<(), Fail> {
 }
 
 #[test]
+fn names_by_the_settings_of_the_network(rt: HostRuntime) -> Result<(), Fail> {
+    let rows = [
+        (
+            ":s 001 Me :hi\n:s 005 Me PREFIX=(ov)@+ CHANTYPES=# CASEMAPPING=ascii :are supported\n:s 376 Me :end\n:Me!m@h JOIN #c\n:a[b!x@h JOIN #c\n:A{B!x@h PART #c\n",
+            "nick Me\nchannel #c\nmember a[b\nmember Me\n",
+        ),
+        (
+            ":s 001 Me :hi\n:Me!m@h JOIN #c\n:s 005 Me CASEMAPPING=ascii :are supported\n:a[b!x@h JOIN #c\n:A{B!x@h PART #c\n",
+            "nick Me\nchannel #c\nmember Me\n",
+        ),
+    ];
+    for (input, want) in rows {
+        let report = report_on(rt.alloc(), input.as_bytes())?;
+        assert!(rt; report.as_slice() == want.as_bytes());
+    }
+    Ok(())
+}
+
+#[test]
+fn topics(rt: HostRuntime) -> Result<(), Fail> {
+    let alloc = rt.alloc();
+    let topic = ":s 001 Me :hi\n:Me!m@h JOIN #c\n:s 332 Me #c :Hello all\n";
+    let report = report_on(alloc, topic.as_bytes())?;
+    assert!(rt;
+        report.as_slice() == "nick Me\nchannel #c\ntopic Hello all\nmember Me\n".as_bytes()
+    );
+    let none = format!(in alloc; "{topic}:s 331 Me #c :No topic is set\n")?;
+    let report = report_on(alloc, none.as_bytes())?;
+    assert!(rt; report.as_slice() == "nick Me\nchannel #c\nmember Me\n".as_bytes());
+    Ok(())
+}
+
+#[test]
 fn an_input_in_two_pieces(rt: HostRuntime) -> Result<(), Fail> {
     let alloc = rt.alloc();
     for size in 1..WELCOME.len() {

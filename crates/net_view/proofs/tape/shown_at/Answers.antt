@@ -5,7 +5,6 @@ use Rattle.net_view.specs.Tape.{tape_of}
 use Rattle.net_view.specs.Least.{key_in}
 use Rattle.net_view.specs.Shown.{shown_key}
 use Rattle.net_view.specs.Settings.{key_by}
-use Rattle.std.specs.Prelude.{[]}
 use Rattle.net_view.proofs.ShownPlaces.{key_zero, key_next, key_none}
 use Rattle.net_view.proofs.tape.shown_at.Goals as goal
 

@@ -1,13 +1,11 @@
-use Rattle.std.proofs.Common.{◌≡◌, ◌-◌, ◌<◌, ◌≤◌, false, cond, sym, ap, ◌∙◌, arith, subst}
+use Rattle.std.proofs.Common.{◌≡◌, ◌-◌, false, cond, sym, ap, ◌∙◌, arith}
 use Rattle.std.specs.Option.{option_map, unwrap_or}
 use Rattle.irc_support.specs.Settings.{key_by}
 use Rattle.net_view.specs.Transcript.{ours}
 use Rattle.net_view.specs.LookBack.{name_before}
-use Rattle.net_view.specs.Presence.{is_on}
 use Rattle.net_view.specs.Members.{says_member}
-use Rattle.net_view.proofs.Tests.{no_true}
 use Rattle.net_view.proofs.InSight.{stays_on, silent_begins_nothing}
-use Rattle.net_view.proofs.TapeBack.{line_at, reading, told_at, marked_at, readable_before, on_fixed, on_unlost, on_here, name_none}
+use Rattle.net_view.proofs.TapeBack.{line_at, reading, told_at, marked_at, readable_before, on_fixed, on_unlost, on_here}
 use Rattle.net_view.proofs.TapeMembers.{was_made, was_made_so, made_at, made_none}
 use Rattle.net_view.proofs.tape.was_made_member.Goals as goal
 

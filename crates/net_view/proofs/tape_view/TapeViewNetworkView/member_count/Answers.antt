@@ -1,11 +1,9 @@
-use Rattle.std.proofs.Common.{◌≡◌, ◌-◌, ◌<◌, ◌≤◌, true, false, Some, None, [], take, refl, sym, ap, ◌∙◌, arith, rules}
+use Rattle.std.proofs.Common.{◌≡◌, Some, sym, ap, ◌∙◌}
 use Rattle.std.specs.Option.{option_map}
 use Rattle.irc_support.specs.Settings.{key_by}
 use Rattle.net_view.specs.Transcript.{readings_of}
-use Rattle.net_view.specs.Presence.{name_on}
-use Rattle.net_view.specs.Facts.{in_sight, spelling_of}
-use Rattle.net_view.specs.View.{Channel, view_back}
-use Rattle.net_view.specs.Readers.{MemberParts, channel_shown, member_shown, members_shown}
+use Rattle.net_view.specs.View.{view_back}
+use Rattle.net_view.specs.Readers.{members_shown}
 use Rattle.net_view.specs.Least.{key_in}
 use Rattle.net_view.specs.Shown.{shown_key, shown_len}
 use Rattle.net_view.specs.Tape.{tape_of}

@@ -1,11 +1,8 @@
-use Rattle.std.proofs.Common.{◌≡◌, ◌∷◌, ◌++◌, [], false, refl, sym, ap, ◌∙◌, arith}
+use Rattle.std.proofs.Common.{◌≡◌, ◌∷◌, ◌++◌, [], sym, ap, ◌∙◌, arith}
 use Rattle.std.proofs.lemmas.Bool.Decides.{nat_tests}
 use Rattle.net_view.specs.View.{view_back, view_of}
 use Rattle.net_view.specs.Step.{after}
 use Rattle.net_view.specs.Arrival.{Received, arrival_of}
-use Rattle.net_view.specs.StateLines.{told}
-use Rattle.net_view.specs.Transcript.{own_nick}
-use Rattle.std.specs.Option.{option_map}
 use Rattle.net_view.specs.Tape.{tape_of}
 use Rattle.net_view.proofs.StepLaw.{view_step, view_back_step, view_unchanged}
 use Rattle.net_view.proofs.TapeTake.{loss_taken, loss_marked, loss_settings, loss_of_nothing}
