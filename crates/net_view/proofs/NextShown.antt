@@ -24,7 +24,7 @@ use Rattle.net_view.specs.Members.{says_member, is_member}
 use Rattle.net_view.specs.Named.{named, channels_in, people_in}
 use Rattle.net_view.specs.Tells.{meant}
 use Rattle.net_view.specs.Tape.{with_lost, tape_of, IsReadable}
-use Rattle.net_view.specs.Least.{above, lesser, considered, IsNext}
+use Rattle.net_view.specs.Least.{above, improves, considered, IsNext}
 use Rattle.net_view.specs.Shown.{names_in, is_shown}
 use Rattle.net_view.proofs.Tests.{no_true, and_parts}
 use Rattle.net_view.proofs.Keys.{is_same}
@@ -67,19 +67,23 @@ module _ (there : Text → Bool) where
         (or_cases (same q c) (seen q) in_seen);
   }
 
-  next_lesser : (seen : Text → Bool) (after best : Option Text) (c : Text) → IsNextOf there seen after best → there c ≡ true → above after c ≡ true → IsNextOf there (λ q. same q c || seen q) after (lesser best c)
-  next_lesser seen after None c old on_c ab = next_less seen after None c old on_c ab (λ b e. absurd (none-some b e))
-  next_lesser seen after (Some b) c old on_c ab =
-      elim (is_lt (bytes_cmp c b)) as (λ v. is_lt (bytes_cmp c b) ≡ v → IsNextOf there (λ q. same q c || seen q) after (cond v (Some c) (Some b))) [
-        | true ↦ λ e. next_less seen after (Some b) c old on_c ab (λ d f. subst (λ x. is_lt (bytes_cmp c x) ≡ true) (same_Some b d f) e)
-        | false ↦ λ e. next_same seen after (Some b) c old (λ _ _. e)
-      ] refl
+  improved : (best : Option Text) (c : Text) → improves best c ≡ true → (b : Text) → best ≡ Some b → is_lt (bytes_cmp c b) ≡ true
+  improved None c i b e = absurd (none-some b e)
+  improved (Some d) c i b e = subst (λ x. is_lt (bytes_cmp c x) ≡ true) (same_Some d b e) i
+
+  not_improved : (best : Option Text) (c : Text) → improves best c ≡ false → MatchOption best ⊥ (λ b. is_lt (bytes_cmp c b) ≡ false)
+  not_improved None c e = absurd (no_true (sym e))
+  not_improved (Some b) c e = e
 
   next_considered : (seen : Text → Bool) (after best : Option Text) (c : Text) → IsNextOf there seen after best → IsNextOf there (λ q. same q c || seen q) after (considered there after best (c ∷ []))
   next_considered seen after best c old =
-      elim (above after c && there c) as (λ v. (above after c && there c) ≡ v → IsNextOf there (λ q. same q c || seen q) after (cond v (lesser best c) best)) [
-        | true ↦ λ e. let p = and_parts (above after c) (there c) e in next_lesser seen after best c old p.1 p.0
-        | false ↦ λ e. next_same seen after best c old (λ on ab. absurd (no_true (sym e ∙ ap (λ a. a && there c) ab ∙ on)))
+      elim (above after c && improves best c && there c) as (λ v. (above after c && improves best c && there c) ≡ v → IsNextOf there (λ q. same q c || seen q) after (cond v (Some c) best)) [
+        | true ↦ λ e.
+            let p = and_parts (above after c && improves best c) (there c) e in
+            let q = and_parts (above after c) (improves best c) (p.0) in
+            next_less seen after best c old (p.1) (q.0) (improved best c (q.1))
+        | false ↦ λ e. next_same seen after best c old (λ on ab. not_improved best c (false_unless (improves best c)
+            (λ i. no_true (sym e ∙ ap (λ a. a && improves best c && there c) ab ∙ ap (λ b. b && there c) i ∙ on))))
       ] refl
 
 names_lost : (shown : Shown) → names_in shown Disconnected ≡ []

@@ -19,15 +19,15 @@ pub record IsNext (there : Text → Bool) (after best : Option Text) : Type 0 wh
   pub found : IfSome best (λ b. (there b ≡ true) × (above after b ≡ true))
   pub least : (c : Text) → there c ≡ true → above after c ≡ true → MatchOption best ⊥ (λ b. is_lt (bytes_cmp c b) ≡ false)
 
--- the lesser of two keys, where there is a first
-abbrev pub lesser : Option Text → Text → Option Text
-lesser None k = Some k
-lesser (Some b) k = if is_lt (bytes_cmp k b) then Some k else Some b
+-- whether a key is less than the best so far, if any
+abbrev pub improves : Option Text → Text → Bool
+improves None k = true
+improves (Some b) k = is_lt (bytes_cmp k b)
 
 -- the best so far, or the key that is brought up
 abbrev pub considered : (Text → Bool) → Option Text → Option Text → List Text → Option Text
 considered there after best [] = best
-considered there after best (c ∷ cs) = if above after c && there c then lesser best c else best
+considered there after best (c ∷ cs) = if above after c && improves best c && there c then Some c else best
 
 -- the key of a name, under these settings
 abbrev pub key_in : List Token → Option Text → Option Text

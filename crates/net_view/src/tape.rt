@@ -7,7 +7,7 @@ ghost use Rattle.irc_support.specs.Tokens.{Token};
 ghost use Rattle.irc_support.specs.Settings.{key_by};
 ghost use Rattle.std.specs.Ordering.{is_lt};
 ghost use Rattle.net_view.specs.Names.{same, bytes_cmp};
-ghost use Rattle.net_view.specs.Least.{above, considered, lesser, key_in, IsNext};
+ghost use Rattle.net_view.specs.Least.{above, considered, improves, key_in, IsNext};
 ghost use Rattle.net_view.specs.Shown.{key_list, names_in, is_shown, shown_key, shown_len};
 ghost use Rattle.net_view.specs.Transcript.{own_nick, is_ready, readings_of};
 ghost use Rattle.net_view.specs.LookBack.{last_of, name_before};
@@ -374,17 +374,13 @@ fn is_above<S: Allocator>(support: &Support<S>, after: Option<&[u8]>, name: &[u8
     }
 }
 
-/// The one of two names that stands before the other.
-fn lesser<'a, S: Allocator>(
-    support: &Support<S>,
-    best: Option<&'a [u8]>,
-    name: &'a [u8],
-) -> Option<&'a [u8]>
-    ensures { key_in support.now (option_map (λ n. n.now) result) ≡ lesser (key_in support.now (option_map (λ b. b.now) best.entry)) (key_by support.now name.now) }
+/// Whether a name's key stands before that of the best so far, if any.
+fn is_better<S: Allocator>(support: &Support<S>, best: Option<&[u8]>, name: &[u8]) -> bool
+    ensures { result ≡ improves (key_in support.now (option_map (λ b. b.now) best.entry)) (key_by support.now name.now) }
 {
     match best {
-        Some(best) if !is_before(support, name, best) => Some(best),
-        _ => Some(name),
+        Some(best) => is_before(support, name, best),
+        None => true,
     }
 }
 
@@ -403,8 +399,11 @@ fn consider<'a, A: Allocator>(
     let Some(name) = named_by(shown, telling) else {
         return best;
     };
-    if is_above(support, after, name) && is_there(support, kept, shown, name) {
-        lesser(support, best, name)
+    if is_above(support, after, name)
+        && is_better(support, best, name)
+        && is_there(support, kept, shown, name)
+    {
+        Some(name)
     } else {
         best
     }
