@@ -10,8 +10,8 @@ use Rattle.net_view.specs.Text.{Text}
 use Rattle.net_view.specs.Tokens.{Token}
 use Rattle.net_view.specs.Settings.{key_by}
 use Rattle.net_view.specs.declared.tape.Kept.{Kept}
-use Rattle.net_view.specs.declared.tape.Shown.{Shown}
-use Rattle.net_view.specs.declared.tape.Shown.TheVariants.{Channels, Members}
+use Rattle.net_view.specs.declared.shown.Shown.{Shown}
+use Rattle.net_view.specs.declared.shown.Shown.TheVariants.{Channels, Members}
 use Rattle.net_view.specs.declared.told.Telling.{Telling}
 use Rattle.net_view.specs.Names.{same, bytes_cmp}
 use Rattle.net_view.specs.Told.{Told, Joined, Renamed, Present, Disconnected}

@@ -18,7 +18,7 @@ use Rattle.net_view.specs.Facts.{in_sight, spelling_of}
 use Rattle.net_view.specs.View.{Channel, Person, channel_named, channel_of, channels_of, members_of, view_back}
 use Rattle.net_view.specs.Readers.{MemberParts, channel_shown, known_at, member_parts, member_shown, members_shown}
 use Rattle.net_view.specs.Sound.{IsSpelling}
-use Rattle.net_view.specs.declared.tape.Shown.TheVariants.{Channels}
+use Rattle.net_view.specs.declared.shown.Shown.TheVariants.{Channels}
 use Rattle.net_view.specs.Shown.{shown_key}
 use Rattle.net_view.proofs.Tests.{no_true}
 use Rattle.net_view.proofs.Keys.{is_same}

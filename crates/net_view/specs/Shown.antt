@@ -12,8 +12,8 @@ use Rattle.net_view.specs.Presence.{name_on}
 use Rattle.net_view.specs.Members.{is_member}
 use Rattle.net_view.specs.Named.{channels_in, people_in}
 use Rattle.net_view.specs.View.{channels_of, members_of}
-use Rattle.net_view.specs.declared.tape.Shown.{Shown}
-use Rattle.net_view.specs.declared.tape.Shown.TheVariants.{Channels, Members}
+use Rattle.net_view.specs.declared.shown.Shown.{Shown}
+use Rattle.net_view.specs.declared.shown.Shown.TheVariants.{Channels, Members}
 
 -- the key of a name, as a list
 abbrev pub key_list : List Token → Option Text → List Text

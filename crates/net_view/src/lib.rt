@@ -6,6 +6,7 @@ mod facts;
 mod item;
 mod laws;
 mod network_view;
+mod shown;
 mod tape;
 mod tape_view;
 mod told;

@@ -1,14 +1,10 @@
 //! The kept state lines, and what is found by looking back through them.
 
-ghost use Rattle.std.specs.Prelude.{◌≡◌, ◌<◌, ◌^◌, length, ◌==◌, ◌&&◌, not, ℕ, Bool, IsTrue, Some, true, false, List, [], is_some, option_map, unwrap_or};
+ghost use Rattle.std.specs.Prelude.{◌≡◌, Bool, true, false, Some, option_map, unwrap_or};
 ghost use Rattle.std.specs.Option.{option_map_or};
 ghost use Rattle.irc_support.specs.Text.{Text};
-ghost use Rattle.irc_support.specs.Tokens.{Token};
 ghost use Rattle.irc_support.specs.Settings.{key_by};
-ghost use Rattle.std.specs.Ordering.{is_lt};
-ghost use Rattle.net_view.specs.Names.{same, bytes_cmp};
-ghost use Rattle.net_view.specs.Least.{above, considered, improves, key_in, IsNext};
-ghost use Rattle.net_view.specs.Shown.{key_list, names_in, is_shown, shown_key, shown_len};
+ghost use Rattle.net_view.specs.Names.{same};
 ghost use Rattle.net_view.specs.Transcript.{own_nick, is_ready, readings_of};
 ghost use Rattle.net_view.specs.LookBack.{last_of, name_before};
 ghost use Rattle.net_view.specs.Presence.{is_on, name_on, says_on};
@@ -42,7 +38,9 @@ fn is_same<S: Allocator>(support: &Support<S>, a: &[u8], b: &[u8]) -> bool
 
 /// Whether this is a nick of ours.
 fn is_us<S: Allocator>(support: &Support<S>, own: Option<&[u8]>, nick: Option<&[u8]>) -> bool
-    ensures { result ≡ option_map_or (us_of support.now (option_map (λ o. o.now) own.entry)) (option_map (λ n. key_by support.now n.now) nick.entry) false }
+    ensures { result
+        ≡ option_map_or (us_of support.now (option_map (λ o. o.now) own.entry)) (option_map
+        (λ n. key_by support.now n.now) nick.entry) false }
 {
     match (own, nick) {
         (Some(own), Some(nick)) => is_same(support, own, nick),
@@ -56,7 +54,8 @@ pub(crate) fn marks_of<S: Allocator, A: Allocator>(
     telling: &Telling<'_, A>,
     own: Option<&[u8]>,
 ) -> Marks
-    ensures { IsMarked (us_of support.now (option_map (λ o. o.now) own.entry)) (meant support.now telling.now) result }
+    ensures { IsMarked (us_of support.now (option_map (λ o. o.now) own.entry))
+        (meant support.now telling.now) result }
 {
     Marks {
         by_us: is_us(support, own, telling.doer()),
@@ -72,7 +71,8 @@ fn says_on<'a, S: Allocator, A: Allocator>(
     channel: &[u8],
 ) -> Option<Option<&'a [u8]>>
     ensures { (us : Text → Bool) → IsMarked us (meant support.now telling.now) marks →
-        option_map (λ said. option_map (λ name. name.now) said) result ≡ says_on (key_by support.now channel.now) us (meant support.now telling.now) }
+        option_map (λ said. option_map (λ name. name.now) said) result
+        ≡ says_on (key_by support.now channel.now) us (meant support.now telling.now) }
 {
     match telling {
         Telling::Welcomed(_) => Some(None),
@@ -110,7 +110,8 @@ fn says_topic<'a, S: Allocator, A: Allocator>(
     channel: &[u8],
 ) -> Option<Option<&'a [u8]>>
     ensures { (us : Text → Bool) → IsMarked us (meant support.now telling.now) marks →
-        option_map (λ said. option_map (λ text. text.now) said) result ≡ says_topic (key_by support.now channel.now) us (meant support.now telling.now) }
+        option_map (λ said. option_map (λ text. text.now) said) result
+        ≡ says_topic (key_by support.now channel.now) us (meant support.now telling.now) }
 {
     match telling {
         Telling::Joined(name, _, _) => {
@@ -140,7 +141,8 @@ fn says_member<S: Allocator, A: Allocator>(
     nick: &[u8],
 ) -> Option<bool>
     ensures { (us : Text → Bool) → IsMarked us (meant support.now telling.now) marks →
-        result ≡ says_member (key_by support.now channel.now) us (meant support.now telling.now) (key_by support.now nick.now) }
+        result ≡ says_member (key_by support.now channel.now) us (meant support.now telling.now)
+        (key_by support.now nick.now) }
 {
     match telling {
         Telling::Joined(name, who, _) => {
@@ -179,7 +181,8 @@ fn name_before<'a, S: Allocator, A: Allocator>(
     nick: &'a [u8],
 ) -> Option<&'a [u8]>
     ensures { (us : Text → Bool) → IsMarked us (meant support.now telling.now) marks →
-        option_map (λ name. key_by support.now name.now) result ≡ name_before us (meant support.now telling.now) (key_by support.now nick.now) }
+        option_map (λ name. key_by support.now name.now) result
+        ≡ name_before us (meant support.now telling.now) (key_by support.now nick.now) }
 {
     match telling {
         Telling::Renamed(old, new) => {
@@ -230,7 +233,8 @@ pub(crate) fn name_on<'a, A: Allocator>(
     channel: &[u8],
 ) -> Option<&'a [u8]>
     requires { IsReadable support.now kept.now }
-    ensures { option_map (λ name. name.now) result ≡ name_on (readings_of (tape_of kept.now)) (key_by support.now channel.now) }
+    ensures { option_map (λ name. name.now) result
+        ≡ name_on (readings_of (tape_of kept.now)) (key_by support.now channel.now) }
 {
     let mut i = kept.len();
     while i > 0 {
@@ -269,7 +273,8 @@ pub(crate) fn topic_in<'a, A: Allocator>(
 ) -> Option<&'a [u8]>
     requires readable { IsReadable support.now kept.now }
     requires on { is_on (readings_of (tape_of kept.now)) (key_by support.now channel.now) ≡ true }
-    ensures { option_map (λ text. text.now) result ≡ topic_of (readings_of (tape_of kept.now)) (key_by support.now channel.now) }
+    ensures { option_map (λ text. text.now) result
+        ≡ topic_of (readings_of (tape_of kept.now)) (key_by support.now channel.now) }
 {
     let mut i = kept.len();
     while i > 0 {
@@ -292,7 +297,9 @@ fn was_made_member<'a, A: Allocator>(
 ) -> bool
     requires readable { IsReadable support.now kept.now }
     requires on { is_on (readings_of (tape_of kept.now)) (key_by support.now channel.now) ≡ true }
-    ensures { result ≡ unwrap_or (last_of (says_member (key_by support.now channel.now)) (readings_of (tape_of kept.now)) (key_by support.now nick.entry.now)) false }
+    ensures { result
+        ≡ unwrap_or (last_of (says_member (key_by support.now channel.now)) (readings_of
+        (tape_of kept.now)) (key_by support.now nick.entry.now)) false }
 {
     let mut i = kept.len();
     while i > 0 {
@@ -318,160 +325,11 @@ pub(crate) fn is_member<A: Allocator>(
     nick: &[u8],
 ) -> bool
     requires { IsReadable support.now kept.now }
-    ensures { result ≡ is_member (readings_of (tape_of kept.now)) (key_by support.now channel.now) (key_by support.now nick.now) }
+    ensures { result
+        ≡ is_member (readings_of (tape_of kept.now)) (key_by support.now channel.now)
+        (key_by support.now nick.now) }
 {
     name_on(support, kept, channel).is_some() && was_made_member(support, kept, channel, nick)
-}
-
-/// What is looked for by place: the channels that we are on, or the members of the channel of this name.
-#[derive(Clone, Copy)]
-pub(crate) enum Shown<'a> {
-    Channels,
-    Members(&'a [u8]),
-}
-
-/// The name that a line brings up: a channel's or a person's.
-fn named_by<'a, A: Allocator>(shown: Shown<'_>, telling: &Telling<'a, A>) -> Option<&'a [u8]>
-    ensures { (settings : List Token) → key_list settings (option_map (λ name. name.now) result) ≡ names_in shown.entry (meant settings telling.now) }
-{
-    match (shown, telling) {
-        (Shown::Channels, Telling::Joined(name, _, _)) => Some(*name),
-        (Shown::Members(_), Telling::Joined(_, who, _) | Telling::Renamed(_, who)) => Some(*who),
-        _ => None,
-    }
-}
-
-/// Whether what has this name is there.
-fn is_there<A: Allocator>(
-    support: &Support<A>,
-    kept: &[Kept<A>],
-    shown: Shown<'_>,
-    name: &[u8],
-) -> bool
-    requires { IsReadable support.now kept.now }
-    ensures { result ≡ is_shown support.now shown.entry (readings_of (tape_of kept.now)) (key_by support.now name.now) }
-{
-    match shown {
-        Shown::Channels => name_on(support, kept, name).is_some(),
-        Shown::Members(channel) => is_member(support, kept, channel, name),
-    }
-}
-
-/// Whether a name's key stands before another's.
-fn is_before<S: Allocator>(support: &Support<S>, a: &[u8], b: &[u8]) -> bool
-    ensures { result ≡ is_lt (bytes_cmp (key_by support.now a.now) (key_by support.now b.now)) }
-{
-    support.mapping().order(a, b).is_lt()
-}
-
-/// Whether a name's key stands above that of the one that was given, if any.
-fn is_above<S: Allocator>(support: &Support<S>, after: Option<&[u8]>, name: &[u8]) -> bool
-    ensures { result ≡ above (key_in support.now (option_map (λ a. a.now) after.entry)) (key_by support.now name.now) }
-{
-    match after {
-        Some(after) => is_before(support, after, name),
-        None => true,
-    }
-}
-
-/// Whether a name's key stands before that of the best so far, if any.
-fn is_better<S: Allocator>(support: &Support<S>, best: Option<&[u8]>, name: &[u8]) -> bool
-    ensures { result ≡ improves (key_in support.now (option_map (λ b. b.now) best.entry)) (key_by support.now name.now) }
-{
-    match best {
-        Some(best) => is_before(support, name, best),
-        None => true,
-    }
-}
-
-/// The best so far, or what a line names where that is there, above the given one and before the best.
-fn consider<'a, A: Allocator>(
-    support: &Support<A>,
-    kept: &[Kept<A>],
-    shown: Shown<'_>,
-    after: Option<&[u8]>,
-    best: Option<&'a [u8]>,
-    telling: &Telling<'a, A>,
-) -> Option<&'a [u8]>
-    requires { IsReadable support.now kept.now }
-    ensures { key_in support.now (option_map (λ n. n.now) result) ≡ considered (is_shown support.now shown.entry (readings_of (tape_of kept.now))) (key_in support.now (option_map (λ a. a.now) after.entry)) (key_in support.now (option_map (λ b. b.now) best.entry)) (names_in shown.entry (meant support.now telling.now)) }
-{
-    let Some(name) = named_by(shown, telling) else {
-        return best;
-    };
-    if is_above(support, after, name)
-        && is_better(support, best, name)
-        && is_there(support, kept, shown, name)
-    {
-        Some(name)
-    } else {
-        best
-    }
-}
-
-/// The name with the least key above the given one, among what is there.
-pub(crate) fn next_shown<'a, A: Allocator>(
-    support: &Support<A>,
-    kept: &'a [Kept<A>],
-    shown: Shown<'_>,
-    after: Option<&[u8]>,
-) -> Option<&'a [u8]>
-    requires { IsReadable support.now kept.now }
-    ensures { IsNext (is_shown support.now shown.entry (readings_of (tape_of kept.now))) (key_in support.now (option_map (λ a. a.now) after.entry)) (key_in support.now (option_map (λ n. n.now) result)) }
-{
-    let mut best = None;
-    let mut i = kept.len();
-    while i > 0 {
-        i -= 1;
-        let entry = &kept[i];
-        if entry.lost {
-            return best;
-        }
-        if !entry.fixed {
-            return best;
-        }
-        best = consider(support, kept, shown, after, best, &told(&entry.line));
-    }
-    best
-}
-
-/// The name at a place, counted from 0, in the order of the keys.
-pub(crate) fn shown_at<'a, A: Allocator>(
-    support: &Support<A>,
-    kept: &'a [Kept<A>],
-    shown: Shown<'_>,
-    place: usize,
-) -> Option<&'a [u8]>
-    requires { IsReadable support.now kept.now }
-    ensures { key_in support.now (option_map (λ n. n.now) result) ≡ shown_key support.now shown.entry (readings_of (tape_of kept.now)) place }
-{
-    let mut at = next_shown(support, kept, shown, None);
-    for _place in 0..place {
-        match at {
-            Some(name) => at = next_shown(support, kept, shown, Some(name)),
-            None => return None,
-        }
-    }
-    at
-}
-
-/// How many there are.
-pub(crate) fn shown_count<A: Allocator>(
-    support: &Support<A>,
-    kept: &[Kept<A>],
-    shown: Shown<'_>,
-) -> usize
-    requires readable { IsReadable support.now kept.now }
-    requires few { length kept.now < 2 ^ 64 }
-    ensures { result ≡ shown_len support.now shown.entry (readings_of (tape_of kept.now)) }
-{
-    let mut count = 0;
-    let mut at = next_shown(support, kept, shown, None);
-    while let Some(name) = at {
-        count += 1;
-        at = next_shown(support, kept, shown, Some(name));
-    }
-    count
 }
 
 /// The nick of this person, where the last of these lines, which tells this, spells it.
@@ -483,8 +341,10 @@ fn spelled_by<'a, A: Allocator>(
     nick: &[u8],
 ) -> Option<&'a [u8]>
     requires { IsReadable support.now kept.now }
-    ensures { (us : Text → Bool) → IsMarked us (meant support.now telling.now) marks → option_map (λ spelled. Some spelled.now) result
-        ≡ says_spelling us (is_on (readings_of (tape_of kept.now))) (meant support.now telling.now) (key_by support.now nick.now) }
+    ensures { (us : Text → Bool) → IsMarked us (meant support.now telling.now) marks →
+        option_map (λ spelled. Some spelled.now) result
+        ≡ says_spelling us (is_on (readings_of (tape_of kept.now))) (meant support.now telling.now)
+        (key_by support.now nick.now) }
 {
     match telling {
         Telling::Joined(channel, who, _) => {
@@ -513,7 +373,8 @@ pub(crate) fn spelling_in<'a, A: Allocator>(
 ) -> Option<&'a [u8]>
     requires readable { IsReadable support.now kept.now }
     requires seen { in_sight (readings_of (tape_of kept.now)) (key_by support.now nick.now) ≡ true }
-    ensures { option_map (λ spelled. spelled.now) result ≡ spelling_of (readings_of (tape_of kept.now)) (key_by support.now nick.now) }
+    ensures { option_map (λ spelled. spelled.now) result
+        ≡ spelling_of (readings_of (tape_of kept.now)) (key_by support.now nick.now) }
 {
     let mut i = kept.len();
     while i > 0 {

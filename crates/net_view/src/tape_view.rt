@@ -6,9 +6,8 @@ use crate::OutOfMemory;
 use crate::channel::{Channel, Member};
 use crate::item::Item;
 use crate::network_view::NetworkView;
-use crate::tape::{
-    Kept, Shown, marks_of, name_on, own_in, ready_in, shown_at, shown_count, spelling_in, topic_in,
-};
+use crate::shown::{Shown, shown_at, shown_count};
+use crate::tape::{Kept, marks_of, name_on, own_in, ready_in, spelling_in, topic_in};
 use crate::told::{Telling, is_state_line, told};
 use irc_line::Line;
 use irc_support::Support;

@@ -4,7 +4,10 @@ ghost use Rattle.std.specs.Prelude.{◌≡◌, ◌≤◌, List, option_map};
 ghost use Rattle.irc_support.specs.Text.{is_word};
 ghost use Rattle.irc_support.specs.Tokens.{Token};
 ghost use Rattle.net_view.specs.Arrival.{Received};
-ghost use Rattle.net_view.specs.StateLines.{told, told_by_welcome, told_by_join, told_by_part, told_by_kick, told_by_quit, told_by_nick, told_by_topic_at, told_by_no_topic, unless_empty, account_said, actor_nick, is_state_line};
+ghost use Rattle.net_view.specs.StateLines.{told, told_by_welcome, told_by_join, told_by_part};
+ghost use Rattle.net_view.specs.StateLines.{told_by_kick, told_by_quit, told_by_nick};
+ghost use Rattle.net_view.specs.StateLines.{told_by_topic_at, told_by_no_topic, unless_empty};
+ghost use Rattle.net_view.specs.StateLines.{account_said, actor_nick, is_state_line};
 ghost use Rattle.net_view.specs.Tells.{meant};
 
 use irc_line::Line;
@@ -63,7 +66,8 @@ impl<'a, A: Allocator> Telling<'a, A> {
 
     /// Whether the settings are fixed after it, where this held before it.
     pub(crate) fn fixes(&self, welcomed: bool, ready: bool) -> bool
-        ensures { result ≡ unwrap_or (option_map (λ settles. settles && welcomed) (settles_said self.now)) ready }
+        ensures { result
+            ≡ unwrap_or (option_map (λ settles. settles && welcomed) (settles_said self.now)) ready }
     {
         match self {
             Telling::Welcomed(_) => false,
@@ -74,7 +78,8 @@ impl<'a, A: Allocator> Telling<'a, A> {
 
     /// The person that the line comes from, where it turns on that.
     pub(crate) fn doer(&self) -> Option<&'a [u8]>
-        ensures { (settings : List Token) → option_map (λ nick. key_by settings nick.now) result ≡ doer (meant settings self.now) }
+        ensures { (settings : List Token) →
+            option_map (λ nick. key_by settings nick.now) result ≡ doer (meant settings self.now) }
     {
         match self {
             Telling::Joined(_, who, _)
@@ -87,7 +92,9 @@ impl<'a, A: Allocator> Telling<'a, A> {
 
     /// The person that the line names, where it turns on that.
     pub(crate) fn person_named(&self) -> Option<&'a [u8]>
-        ensures { (settings : List Token) → option_map (λ nick. key_by settings nick.now) result ≡ person_named (meant settings self.now) }
+        ensures { (settings : List Token) →
+            option_map (λ nick. key_by settings nick.now) result
+            ≡ person_named (meant settings self.now) }
     {
         match self {
             Telling::Kicked(_, who) | Telling::Renamed(_, who) => Some(*who),
@@ -247,7 +254,8 @@ fn unless_empty(text: &[u8]) -> Option<&[u8]>
 /// What a topic tells whose channel is at this place, with the text behind it.
 fn told_by_topic_at<A: Allocator>(line: &Line<A>, place: usize) -> Telling<'_, A>
     requires { place ≤ 1 }
-    ensures { (settings : List Token) → meant settings result ≡ told_by_topic_at place settings line.now }
+    ensures { (settings : List Token) →
+        meant settings result ≡ told_by_topic_at place settings line.now }
 {
     let Some(channel) = line.param(place) else {
         return Telling::Silent;

@@ -9,7 +9,7 @@ use Rattle.net_view.specs.Readers.{channel_shown}
 use Rattle.net_view.specs.Least.{key_in}
 use Rattle.net_view.specs.Shown.{shown_key}
 use Rattle.net_view.specs.Tape.{tape_of}
-use Rattle.net_view.specs.declared.tape.Shown.TheVariants.{Channels}
+use Rattle.net_view.specs.declared.shown.Shown.TheVariants.{Channels}
 use Rattle.net_view.proofs.TapePlaces as places
 use Rattle.net_view.proofs.tape_view.TapeViewNetworkView.channel_at.Goals as goal
 

@@ -4,7 +4,7 @@ use Rattle.net_view.specs.Transcript.{readings_of}
 use Rattle.net_view.specs.Tape.{tape_of}
 use Rattle.net_view.specs.Least.{key_in}
 use Rattle.net_view.specs.Shown.{shown_key, shown_len}
-use Rattle.net_view.proofs.tape.shown_count.Given as goal
+use Rattle.net_view.proofs.shown.shown_count.Given as goal
 
 abbrev pub invariant-loop-at : goal.invariant-loop-at
 invariant-loop-at g l = record {

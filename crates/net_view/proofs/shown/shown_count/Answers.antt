@@ -6,7 +6,7 @@ use Rattle.net_view.specs.Least.{key_in}
 use Rattle.net_view.specs.Shown.{shown_key}
 use Rattle.net_view.specs.Settings.{key_by}
 use Rattle.net_view.proofs.ShownPlaces.{key_zero, key_next, key_below, key_end, few_shown}
-use Rattle.net_view.proofs.tape.shown_count.Goals as goal
+use Rattle.net_view.proofs.shown.shown_count.Goals as goal
 
 pub loop-at-init : goal.loop-at-init
 loop-at-init g c = record {

@@ -8,7 +8,7 @@ use Rattle.net_view.specs.Least.{key_in}
 use Rattle.net_view.specs.Shown.{is_shown}
 use Rattle.net_view.proofs.TapeBack.{line_at, readable_before}
 use Rattle.net_view.proofs.NextShown.{IsNextOf, next_loop, next_all, next_none, none_shown, lost_gone, unfixed_gone}
-use Rattle.net_view.proofs.tape.next_shown.Goals as goal
+use Rattle.net_view.proofs.shown.next_shown.Goals as goal
 
 pub loop-i-init : goal.loop-i-init
 loop-i-init g c =

@@ -6,7 +6,7 @@ use Rattle.net_view.specs.Least.{key_in}
 use Rattle.net_view.specs.Shown.{shown_key}
 use Rattle.net_view.specs.Settings.{key_by}
 use Rattle.net_view.proofs.ShownPlaces.{key_zero, key_next, key_none}
-use Rattle.net_view.proofs.tape.shown_at.Goals as goal
+use Rattle.net_view.proofs.shown.shown_at.Goals as goal
 
 pub loop-place-init : goal.loop-place-init
 loop-place-init g c = key_zero c.args.support.now c.args.shown (readings_of (tape_of c.args.kept.now)) (key_in c.args.support.now (option_map (λ n. n.now) c.next_shown-at.result)) c.next_shown-at.ensures

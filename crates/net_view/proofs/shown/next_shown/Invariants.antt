@@ -7,7 +7,7 @@ use Rattle.net_view.specs.Least.{key_in}
 use Rattle.net_view.specs.Shown.{is_shown}
 use Rattle.net_view.proofs.TapeBack.{line_at}
 use Rattle.net_view.proofs.NextShown.{IsNextOf}
-use Rattle.net_view.proofs.tape.next_shown.Given as goal
+use Rattle.net_view.proofs.shown.next_shown.Given as goal
 
 abbrev pub invariant-loop-i : goal.invariant-loop-i
 invariant-loop-i g l = record {
