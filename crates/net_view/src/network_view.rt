@@ -21,7 +21,7 @@ use std::alloc::Allocator;
 pub trait NetworkView {
     ghost view: { Self → View };
 
-    /// Where the settings lie in memory.
+    /// The allocator of the settings.
     type Memory: Allocator;
 
     /// Takes the next item. Only a state line, as `:bob!b@h JOIN #c`, may need memory; without it the view

@@ -287,8 +287,8 @@ pub(crate) fn topic_in<'a, A: Allocator>(
     None
 }
 
-/// Whether the person was made a member of the channel, on which we are, and of its last line that speaks of
-/// both. The person is followed back under earlier names.
+/// Whether the last line that speaks of the channel, on which we are, and of the person makes the person a
+/// member. The person is followed back under earlier names.
 fn was_made_member<'a, A: Allocator>(
     support: &Support<A>,
     kept: &'a [Kept<A>],

@@ -18,7 +18,8 @@ use std::marker::Model;
 /// mark beside the last kept line.
 ///
 /// Readers take no memory. They are slow: the time of one by place grows with a power of the number of the
-/// kept lines. The lines of a network that is long connected are kept all.
+/// kept lines, and that of `take` of a state line with their number. All lines are kept, however long the
+/// network is connected.
 #[derive(Drop)]
 pub struct TapeView<A: Allocator = Global> {
     kept: Vec<Kept<A>, A>,

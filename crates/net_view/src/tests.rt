@@ -104,8 +104,13 @@ fn a_loss_after_a_change_of_name(rt: HostRuntime) -> Result<(), Fail> {
         &rt,
         &[
             (b":s 001 Me :hi", b"Me"),
+            (b":s 005 Me PREFIX=(ov)@+ CHANTYPES=# :are supported", b"Me"),
+            (b":s 376 Me :end", b"Me"),
             (b":Me!m@h JOIN #c", b"Me / #c Me"),
-            (b":Me!m@h NICK Moi", b"Moi / #c Moi"),
+            (b":bob!b@h JOIN #c", b"Me / #c bob Me"),
+            (b":bob!b@h NICK Bob2", b"Me / #c Bob2 Me"),
+            (b":Me!m@h NICK Moi", b"Moi / #c Bob2 Moi"),
+            (b":s KICK #c bob2 :out", b"Moi / #c Moi"),
             (b"lost", b"Moi"),
         ],
     )
