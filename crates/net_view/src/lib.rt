@@ -25,4 +25,4 @@ pub use std::alloc::AllocError as OutOfMemory;
 pub use tape_view::TapeView;
 
 #[cfg(test)]
-mod tests;
+mod view_tests;
