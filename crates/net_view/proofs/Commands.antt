@@ -1,15 +1,15 @@
 -- Which state line a line is: a line has one of the commands only.
-use Rattle.std.specs.Prelude.{◌≡◌, Bool, true, false, cond, List, [], ◌∷◌}
-use Rattle.std.specs.List.{list_any}
+use Rattle.std.specs.Prelude.{◌≡◌, true, false, cond, List, [], ◌∷◌}
 use Rattle.std.specs.Str.{bytes_eq, str_to_ascii_lowercase, str_eq_ignore_ascii_case}
 use Rattle.std.proofs.Common.{refl, ap, ◌∙◌, codes}
 use Rattle.std.proofs.lemmas.Slice.Eq.{bytes_eq-Decides}
 use Rattle.irc_line.specs.Line.{Parts, has_command}
 use Rattle.irc_support.specs.Text.{Text}
 use Rattle.irc_support.specs.Tokens.{Token}
+use Rattle.net_view.proofs.Tests.{or_false}
 use Rattle.net_view.specs.Told.{Told, Silent, Settles, Supports}
 use Rattle.net_view.specs.Arrival.{Received}
-use Rattle.net_view.specs.StateLines.{StateLine, state_lines, told_by, told_by_any_line, commands_read, is_state_line, told, told_by_welcome, told_by_join, told_by_part, told_by_kick, told_by_quit, told_by_nick, told_by_mode, told_by_mode_reply, told_by_topic, told_by_topic_reply, told_by_no_topic, told_by_names, told_by_account, told_by_away}
+use Rattle.net_view.specs.StateLines.{StateLine, state_lines, told_by, is_of, is_state_line, told, told_by_welcome, told_by_join, told_by_part, told_by_kick, told_by_quit, told_by_nick, told_by_mode, told_by_mode_reply, told_by_topic, told_by_topic_reply, told_by_no_topic, told_by_names, told_by_account, told_by_away}
 
 -- a line of a command has each other exactly where the two are one but for the case of letters
 pub has_command-named : (line : Parts) (name : Text) → has_command line name ≡ true → (other : Text) → has_command line other ≡ str_eq_ignore_ascii_case name other
@@ -26,69 +26,84 @@ told_by-named (s ∷ lines) name settings line e =
     ap (λ b. cond b (s.tells settings line) (told_by lines settings line)) (has_command-named line name e s.command)
     ∙ ap (λ t. cond (str_eq_ignore_ascii_case name s.command) (s.tells settings line) t) (told_by-named lines name settings line e)
 
--- whether the views read lines of this command
-pub is_state_line-named : (line : Parts) (name : Text) → has_command line name ≡ true → is_state_line line ≡ list_any (str_eq_ignore_ascii_case name) commands_read
-is_state_line-named line name e = ap (λ (f : Text → Bool). list_any f commands_read) (λ i other. has_command-named line name e other i)
+-- what a line of none of these commands tells
+told_by_none : (lines : List StateLine) (settings : List Token) (line : Parts) → is_of lines line ≡ false → told_by lines settings line ≡ Silent
+told_by_none [] settings line e = refl
+told_by_none (s ∷ lines) settings line e =
+    let parts = or_false (has_command line s.command) (is_of lines line) e in
+    ap (λ b. cond b (s.tells settings line) (told_by lines settings line)) (parts.0) ∙ told_by_none lines settings line (parts.1)
 
--- a line that the views read tells what it tells
-pub told-read : (settings : List Token) (line : Parts) → is_state_line line ≡ true → told settings (Received line) ≡ told_by_any_line settings line
-unfolding told
-told-read settings line e = ap (λ b. cond b (told_by_any_line settings line) Silent) e
-
--- and any other nothing
+-- what is no state line tells nothing
 pub told-unread : (settings : List Token) (line : Parts) → is_state_line line ≡ false → told settings (Received line) ≡ Silent
 unfolding told
-told-unread settings line e = ap (λ b. cond b (told_by_any_line settings line) Silent) e
+told-unread settings line e = told_by_none state_lines settings line e
 
 -- ---- what a line of each command tells
 
-pub told_of_welcome : (settings : List Token) (line : Parts) → has_command line (codes "001") ≡ true → told_by_any_line settings line ≡ told_by_welcome settings line
+pub told_of_welcome : (settings : List Token) (line : Parts) → has_command line (codes "001") ≡ true → told settings (Received line) ≡ told_by_welcome settings line
+unfolding told state_lines
 told_of_welcome settings line e = told_by-named state_lines (codes "001") settings line e
 
-pub told_of_isupport : (settings : List Token) (line : Parts) → has_command line (codes "005") ≡ true → told_by_any_line settings line ≡ Supports line.params
+pub told_of_isupport : (settings : List Token) (line : Parts) → has_command line (codes "005") ≡ true → told settings (Received line) ≡ Supports line.params
+unfolding told state_lines
 told_of_isupport settings line e = told_by-named state_lines (codes "005") settings line e
 
-pub told_of_end_of_motd : (settings : List Token) (line : Parts) → has_command line (codes "376") ≡ true → told_by_any_line settings line ≡ Settles
+pub told_of_end_of_motd : (settings : List Token) (line : Parts) → has_command line (codes "376") ≡ true → told settings (Received line) ≡ Settles
+unfolding told state_lines
 told_of_end_of_motd settings line e = told_by-named state_lines (codes "376") settings line e
 
-pub told_of_no_motd : (settings : List Token) (line : Parts) → has_command line (codes "422") ≡ true → told_by_any_line settings line ≡ Settles
+pub told_of_no_motd : (settings : List Token) (line : Parts) → has_command line (codes "422") ≡ true → told settings (Received line) ≡ Settles
+unfolding told state_lines
 told_of_no_motd settings line e = told_by-named state_lines (codes "422") settings line e
 
-pub told_of_join : (settings : List Token) (line : Parts) → has_command line (codes "JOIN") ≡ true → told_by_any_line settings line ≡ told_by_join settings line
+pub told_of_join : (settings : List Token) (line : Parts) → has_command line (codes "JOIN") ≡ true → told settings (Received line) ≡ told_by_join settings line
+unfolding told state_lines
 told_of_join settings line e = told_by-named state_lines (codes "JOIN") settings line e
 
-pub told_of_part : (settings : List Token) (line : Parts) → has_command line (codes "PART") ≡ true → told_by_any_line settings line ≡ told_by_part settings line
+pub told_of_part : (settings : List Token) (line : Parts) → has_command line (codes "PART") ≡ true → told settings (Received line) ≡ told_by_part settings line
+unfolding told state_lines
 told_of_part settings line e = told_by-named state_lines (codes "PART") settings line e
 
-pub told_of_kick : (settings : List Token) (line : Parts) → has_command line (codes "KICK") ≡ true → told_by_any_line settings line ≡ told_by_kick settings line
+pub told_of_kick : (settings : List Token) (line : Parts) → has_command line (codes "KICK") ≡ true → told settings (Received line) ≡ told_by_kick settings line
+unfolding told state_lines
 told_of_kick settings line e = told_by-named state_lines (codes "KICK") settings line e
 
-pub told_of_quit : (settings : List Token) (line : Parts) → has_command line (codes "QUIT") ≡ true → told_by_any_line settings line ≡ told_by_quit settings line
+pub told_of_quit : (settings : List Token) (line : Parts) → has_command line (codes "QUIT") ≡ true → told settings (Received line) ≡ told_by_quit settings line
+unfolding told state_lines
 told_of_quit settings line e = told_by-named state_lines (codes "QUIT") settings line e
 
-pub told_of_nick : (settings : List Token) (line : Parts) → has_command line (codes "NICK") ≡ true → told_by_any_line settings line ≡ told_by_nick settings line
+pub told_of_nick : (settings : List Token) (line : Parts) → has_command line (codes "NICK") ≡ true → told settings (Received line) ≡ told_by_nick settings line
+unfolding told state_lines
 told_of_nick settings line e = told_by-named state_lines (codes "NICK") settings line e
 
-pub told_of_mode : (settings : List Token) (line : Parts) → has_command line (codes "MODE") ≡ true → told_by_any_line settings line ≡ told_by_mode settings line
+pub told_of_mode : (settings : List Token) (line : Parts) → has_command line (codes "MODE") ≡ true → told settings (Received line) ≡ told_by_mode settings line
+unfolding told state_lines
 told_of_mode settings line e = told_by-named state_lines (codes "MODE") settings line e
 
-pub told_of_mode_reply : (settings : List Token) (line : Parts) → has_command line (codes "324") ≡ true → told_by_any_line settings line ≡ told_by_mode_reply settings line
+pub told_of_mode_reply : (settings : List Token) (line : Parts) → has_command line (codes "324") ≡ true → told settings (Received line) ≡ told_by_mode_reply settings line
+unfolding told state_lines
 told_of_mode_reply settings line e = told_by-named state_lines (codes "324") settings line e
 
-pub told_of_topic : (settings : List Token) (line : Parts) → has_command line (codes "TOPIC") ≡ true → told_by_any_line settings line ≡ told_by_topic settings line
+pub told_of_topic : (settings : List Token) (line : Parts) → has_command line (codes "TOPIC") ≡ true → told settings (Received line) ≡ told_by_topic settings line
+unfolding told state_lines
 told_of_topic settings line e = told_by-named state_lines (codes "TOPIC") settings line e
 
-pub told_of_topic_reply : (settings : List Token) (line : Parts) → has_command line (codes "332") ≡ true → told_by_any_line settings line ≡ told_by_topic_reply settings line
+pub told_of_topic_reply : (settings : List Token) (line : Parts) → has_command line (codes "332") ≡ true → told settings (Received line) ≡ told_by_topic_reply settings line
+unfolding told state_lines
 told_of_topic_reply settings line e = told_by-named state_lines (codes "332") settings line e
 
-pub told_of_no_topic : (settings : List Token) (line : Parts) → has_command line (codes "331") ≡ true → told_by_any_line settings line ≡ told_by_no_topic settings line
+pub told_of_no_topic : (settings : List Token) (line : Parts) → has_command line (codes "331") ≡ true → told settings (Received line) ≡ told_by_no_topic settings line
+unfolding told state_lines
 told_of_no_topic settings line e = told_by-named state_lines (codes "331") settings line e
 
-pub told_of_names : (settings : List Token) (line : Parts) → has_command line (codes "353") ≡ true → told_by_any_line settings line ≡ told_by_names settings line
+pub told_of_names : (settings : List Token) (line : Parts) → has_command line (codes "353") ≡ true → told settings (Received line) ≡ told_by_names settings line
+unfolding told state_lines
 told_of_names settings line e = told_by-named state_lines (codes "353") settings line e
 
-pub told_of_account : (settings : List Token) (line : Parts) → has_command line (codes "ACCOUNT") ≡ true → told_by_any_line settings line ≡ told_by_account settings line
+pub told_of_account : (settings : List Token) (line : Parts) → has_command line (codes "ACCOUNT") ≡ true → told settings (Received line) ≡ told_by_account settings line
+unfolding told state_lines
 told_of_account settings line e = told_by-named state_lines (codes "ACCOUNT") settings line e
 
-pub told_of_away : (settings : List Token) (line : Parts) → has_command line (codes "AWAY") ≡ true → told_by_any_line settings line ≡ told_by_away settings line
+pub told_of_away : (settings : List Token) (line : Parts) → has_command line (codes "AWAY") ≡ true → told settings (Received line) ≡ told_by_away settings line
+unfolding told state_lines
 told_of_away settings line e = told_by-named state_lines (codes "AWAY") settings line e

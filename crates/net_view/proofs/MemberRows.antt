@@ -11,11 +11,12 @@ use Rattle.irc_support.specs.Settings.{mapping_of, is_channel}
 use Rattle.irc_support.specs.ModeChanges.{changes}
 use Rattle.irc_support.specs.NamesReply.{words}
 use Rattle.net_view.specs.Arrival.{Lost}
-use Rattle.net_view.specs.Transcript.{Reading}
+use Rattle.net_view.specs.Transcript.{Reading, standing, readings_of}
 use Rattle.net_view.specs.LookBack.{name_traced}
 use Rattle.net_view.specs.Presence.{name_on}
 use Rattle.net_view.specs.Modes.{mode_of}
-use Rattle.net_view.proofs.Transcripts.{stands, reads, heard, read, read_after, member, members, welcome, joined, with_bob}
+use Rattle.net_view.specs.StateLines.{state_lines, told}
+use Rattle.net_view.proofs.Transcripts.{heard, read, read_after, member, members, welcome, joined, with_bob}
 
 -- ranks go along with a NICK, and a MODE finds them under the new one
 abbrev ranks_go_along : List Reading
@@ -26,11 +27,11 @@ ranks_go_along = read (joined ++
     ∷ [])
 
 bob_is_rob : members ranks_go_along (codes "#c") (codes "bob" ∷ codes "me" ∷ codes "rob" ∷ []) ≡ codes "me" ∷ codes "rob" ∷ []
-unfolding ranks_that rank_count words ranking_of spelled_by mapping_of is_channel is_word set_tokens changes kind_of
+unfolding told state_lines ranks_that rank_count words ranking_of spelled_by mapping_of is_channel is_word set_tokens changes kind_of
 bob_is_rob = refl
 
 one_rank_left : member ranks_go_along (codes "#c") (codes "rob") ≡ Some (1 ∷ [], (Some (codes "rob")), None, None)
-unfolding ranks_that rank_count words ranking_of spelled_by mapping_of is_channel is_word set_tokens changes kind_of
+unfolding told state_lines ranks_that rank_count words ranking_of spelled_by mapping_of is_channel is_word set_tokens changes kind_of
 one_rank_left = refl
 
 -- two NICKs in a row, and a KICK under the last name; ours changes too
@@ -42,15 +43,15 @@ two_nicks = read (with_bob ++
     ∷ [])
 
 bob_twice_renamed : members two_nicks (codes "#c") (codes "bob" ∷ codes "rob" ∷ codes "bob2" ∷ codes "me" ∷ codes "moi" ∷ []) ≡ codes "bob2" ∷ codes "moi" ∷ []
-unfolding ranks_that rank_count words ranking_of spelled_by mapping_of is_channel is_word set_tokens changes kind_of
+unfolding told state_lines ranks_that rank_count words ranking_of spelled_by mapping_of is_channel is_word set_tokens changes kind_of
 bob_twice_renamed = refl
 
 traced_to_bob : name_traced (read_after with_bob (codes ":bob!b@h NICK rob" ∷ codes ":rob!b@h NICK Bob2" ∷ [])) (codes "bob2") ≡ Some (codes "bob")
-unfolding ranks_that rank_count words ranking_of spelled_by mapping_of is_channel is_word set_tokens changes kind_of
+unfolding told state_lines ranks_that rank_count words ranking_of spelled_by mapping_of is_channel is_word set_tokens changes kind_of
 traced_to_bob = refl
 
-own_nick_renamed : (stands (heard (with_bob ++ codes ":Me!m@h NICK Moi" ∷ []))).own ≡ Some (codes "Moi")
-unfolding ranks_that rank_count words ranking_of spelled_by mapping_of is_channel is_word set_tokens changes kind_of
+own_nick_renamed : (standing (heard (with_bob ++ codes ":Me!m@h NICK Moi" ∷ []))).own ≡ Some (codes "Moi")
+unfolding told state_lines ranks_that rank_count words ranking_of spelled_by mapping_of is_channel is_word set_tokens changes kind_of
 own_nick_renamed = refl
 
 -- a KICK names the nick in any case
@@ -62,7 +63,7 @@ kicked = read (with_bob ++
     ∷ [])
 
 bob_kicked : members kicked (codes "#c") (codes "bob" ∷ codes "rob" ∷ codes "bob2" ∷ codes "me" ∷ []) ≡ codes "me" ∷ []
-unfolding ranks_that rank_count words ranking_of spelled_by mapping_of is_channel is_word set_tokens changes kind_of
+unfolding told state_lines ranks_that rank_count words ranking_of spelled_by mapping_of is_channel is_word set_tokens changes kind_of
 bob_kicked = refl
 
 -- another's NICK onto our own nick tells nothing, nor does an actor that is not nameable
@@ -73,7 +74,7 @@ nick_onto_ours = read (with_bob ++
     ∷ [])
 
 both_stay : members nick_onto_ours (codes "#c") (codes "bob" ∷ codes "me" ∷ codes "@x" ∷ []) ≡ codes "bob" ∷ codes "me" ∷ []
-unfolding ranks_that rank_count words ranking_of spelled_by mapping_of is_channel is_word set_tokens changes kind_of
+unfolding told state_lines ranks_that rank_count words ranking_of spelled_by mapping_of is_channel is_word set_tokens changes kind_of
 both_stay = refl
 
 -- a NICK onto another's nick: who was called so before is gone
@@ -85,7 +86,7 @@ nick_onto_another = read (with_bob ++
     ∷ [])
 
 eve_is_bob : member nick_onto_another (codes "#c") (codes "eve") ≡ Some ([], (Some (codes "eve")), None, None)
-unfolding ranks_that rank_count words ranking_of spelled_by mapping_of is_channel is_word set_tokens changes kind_of
+unfolding told state_lines ranks_that rank_count words ranking_of spelled_by mapping_of is_channel is_word set_tokens changes kind_of
 eve_is_bob = refl
 
 -- when we join anew the members start with us alone, without ranks
@@ -96,11 +97,11 @@ joined_anew = read (with_bob ++
     ∷ [])
 
 alone : members joined_anew (codes "#c") (codes "bob" ∷ codes "me" ∷ []) ≡ codes "me" ∷ []
-unfolding ranks_that rank_count words ranking_of spelled_by mapping_of is_channel is_word set_tokens changes kind_of
+unfolding told state_lines ranks_that rank_count words ranking_of spelled_by mapping_of is_channel is_word set_tokens changes kind_of
 alone = refl
 
 rank_lost : member joined_anew (codes "#c") (codes "me") ≡ Some ([], (Some (codes "Me")), None, None)
-unfolding ranks_that rank_count words ranking_of spelled_by mapping_of is_channel is_word set_tokens changes kind_of
+unfolding told state_lines ranks_that rank_count words ranking_of spelled_by mapping_of is_channel is_word set_tokens changes kind_of
 rank_lost = refl
 
 -- a name list after a PART counts; one of a channel that we left does not
@@ -111,7 +112,7 @@ listed_after_part = read (with_bob ++
     ∷ [])
 
 bob_listed : member listed_after_part (codes "#c") (codes "bob") ≡ Some (1 ∷ [], (Some (codes "bob")), None, None)
-unfolding ranks_that rank_count words ranking_of spelled_by mapping_of is_channel is_word set_tokens changes kind_of
+unfolding told state_lines ranks_that rank_count words ranking_of spelled_by mapping_of is_channel is_word set_tokens changes kind_of
 bob_listed = refl
 
 -- a name list of a channel that we left tells nothing
@@ -122,7 +123,7 @@ left = read (with_bob ++
     ∷ [])
 
 nobody : members left (codes "#c") (codes "bob" ∷ codes "me" ∷ []) ≡ []
-unfolding ranks_that rank_count words ranking_of spelled_by mapping_of is_channel is_word set_tokens changes kind_of
+unfolding told state_lines ranks_that rank_count words ranking_of spelled_by mapping_of is_channel is_word set_tokens changes kind_of
 nobody = refl
 
 -- the last word of a name list on a person decides each rank
@@ -133,7 +134,7 @@ several_ranks = read (joined ++
     ∷ [])
 
 joined_without_ranks : member several_ranks (codes "#c") (codes "bob") ≡ Some ([], (Some (codes "bob")), None, None)
-unfolding ranks_that rank_count words ranking_of spelled_by mapping_of is_channel is_word set_tokens changes kind_of
+unfolding told state_lines ranks_that rank_count words ranking_of spelled_by mapping_of is_channel is_word set_tokens changes kind_of
 joined_without_ranks = refl
 
 -- a limit takes its parameter when it is set, and none when it is unset
@@ -144,11 +145,11 @@ modes_and_ranks = read (with_bob ++
     ∷ [])
 
 both_ranks : member modes_and_ranks (codes "#c") (codes "bob") ≡ Some (0 ∷ 1 ∷ [], (Some (codes "bob")), None, None)
-unfolding ranks_that rank_count words ranking_of spelled_by mapping_of is_channel is_word set_tokens changes kind_of
+unfolding told state_lines ranks_that rank_count words ranking_of spelled_by mapping_of is_channel is_word set_tokens changes kind_of
 both_ranks = refl
 
 no_limit : map (mode_of modes_and_ranks (codes "#c")) (codes "l") ≡ None ∷ []
-unfolding ranks_that rank_count words ranking_of spelled_by mapping_of is_channel is_word set_tokens changes kind_of
+unfolding told state_lines ranks_that rank_count words ranking_of spelled_by mapping_of is_channel is_word set_tokens changes kind_of
 no_limit = refl
 
 -- names are compared by their keys
@@ -159,53 +160,53 @@ key_of_a_name = read (joined ++
     ∷ [])
 
 one_name : members key_of_a_name (codes "#c") (codes "a{b" ∷ codes "me" ∷ []) ≡ codes "me" ∷ []
-unfolding ranks_that rank_count words ranking_of spelled_by mapping_of is_channel is_word set_tokens changes kind_of
+unfolding told state_lines ranks_that rank_count words ranking_of spelled_by mapping_of is_channel is_word set_tokens changes kind_of
 one_name = refl
 
 -- ---- the channels that we are on
 
 name_as_joined : name_on (read (welcome ++ codes ":Me!m@h JOIN #C" ∷ codes ":bob!b@h JOIN #c" ∷ [])) (codes "#c") ≡ Some (codes "#C")
-unfolding ranks_that rank_count words ranking_of spelled_by mapping_of is_channel is_word set_tokens changes kind_of
+unfolding told state_lines ranks_that rank_count words ranking_of spelled_by mapping_of is_channel is_word set_tokens changes kind_of
 name_as_joined = refl
 
 no_channel_name : name_on (read (welcome ++ codes ":Me!m@h JOIN &c" ∷ [])) (codes "&c") ≡ None
-unfolding ranks_that rank_count words ranking_of spelled_by mapping_of is_channel is_word set_tokens changes kind_of
+unfolding told state_lines ranks_that rank_count words ranking_of spelled_by mapping_of is_channel is_word set_tokens changes kind_of
 no_channel_name = refl
 
 off_after_our_quit : name_on (read (joined ++ codes ":Me!m@h QUIT :bye" ∷ [])) (codes "#c") ≡ None
-unfolding ranks_that rank_count words ranking_of spelled_by mapping_of is_channel is_word set_tokens changes kind_of
+unfolding told state_lines ranks_that rank_count words ranking_of spelled_by mapping_of is_channel is_word set_tokens changes kind_of
 off_after_our_quit = refl
 
 off_after_a_kick : name_on (read (joined ++ codes ":s KICK #c me :out" ∷ [])) (codes "#c") ≡ None
-unfolding ranks_that rank_count words ranking_of spelled_by mapping_of is_channel is_word set_tokens changes kind_of
+unfolding told state_lines ranks_that rank_count words ranking_of spelled_by mapping_of is_channel is_word set_tokens changes kind_of
 off_after_a_kick = refl
 
-off_after_a_loss : name_on (reads (Lost ∷ heard joined)) (codes "#c") ≡ None
-unfolding ranks_that rank_count words ranking_of spelled_by mapping_of is_channel is_word set_tokens changes kind_of
+off_after_a_loss : name_on (readings_of (Lost ∷ heard joined)) (codes "#c") ≡ None
+unfolding told state_lines ranks_that rank_count words ranking_of spelled_by mapping_of is_channel is_word set_tokens changes kind_of
 off_after_a_loss = refl
 
 off_after_a_welcome : name_on (read (joined ++ codes ":t 001 You :hi" ∷ [])) (codes "#c") ≡ None
-unfolding ranks_that rank_count words ranking_of spelled_by mapping_of is_channel is_word set_tokens changes kind_of
+unfolding told state_lines ranks_that rank_count words ranking_of spelled_by mapping_of is_channel is_word set_tokens changes kind_of
 off_after_a_welcome = refl
 
 -- ---- own nick, ready, settings
 
-a_loss_keeps_us : stands (Lost ∷ heard joined) ≡ stands (heard joined)
-unfolding ranks_that rank_count words ranking_of spelled_by mapping_of is_channel is_word set_tokens changes kind_of
+a_loss_keeps_us : standing (Lost ∷ heard joined) ≡ standing (heard joined)
+unfolding told state_lines ranks_that rank_count words ranking_of spelled_by mapping_of is_channel is_word set_tokens changes kind_of
 a_loss_keeps_us = refl
 
-a_welcome_begins_anew : stands (heard (joined ++ codes ":t 001 You :hi" ∷ [])) ≡ record { own = Some (codes "You"); ready = false; settings = [] }
-unfolding ranks_that rank_count words ranking_of spelled_by mapping_of is_channel is_word set_tokens changes kind_of
+a_welcome_begins_anew : standing (heard (joined ++ codes ":t 001 You :hi" ∷ [])) ≡ record { own = Some (codes "You"); ready = false; settings = [] }
+unfolding told state_lines ranks_that rank_count words ranking_of spelled_by mapping_of is_channel is_word set_tokens changes kind_of
 a_welcome_begins_anew = refl
 
-no_welcome : stands (heard (codes ":s 001 @x :hi" ∷ codes ":s 376 Me :end" ∷ codes ":s 005 Me A=1 :are supported" ∷ [])) ≡ record { own = None; ready = false; settings = [] }
-unfolding ranks_that rank_count words ranking_of spelled_by mapping_of is_channel is_word set_tokens changes kind_of
+no_welcome : standing (heard (codes ":s 001 @x :hi" ∷ codes ":s 376 Me :end" ∷ codes ":s 005 Me A=1 :are supported" ∷ [])) ≡ record { own = None; ready = false; settings = [] }
+unfolding told state_lines ranks_that rank_count words ranking_of spelled_by mapping_of is_channel is_word set_tokens changes kind_of
 no_welcome = refl
 
-settings_follow_no_late_isupport : (stands (heard (joined ++ codes ":s 005 Me CASEMAPPING=ascii :are supported" ∷ []))).settings ≡ (stands (heard joined)).settings
-unfolding ranks_that rank_count words ranking_of spelled_by mapping_of is_channel is_word set_tokens changes kind_of
+settings_follow_no_late_isupport : (standing (heard (joined ++ codes ":s 005 Me CASEMAPPING=ascii :are supported" ∷ []))).settings ≡ (standing (heard joined)).settings
+unfolding told state_lines ranks_that rank_count words ranking_of spelled_by mapping_of is_channel is_word set_tokens changes kind_of
 settings_follow_no_late_isupport = refl
 
-a_join_without_a_source_fixes_the_settings : stands (heard (codes ":s 001 Me :hi" ∷ codes "JOIN" ∷ codes ":s 005 Me A=1 :are supported" ∷ [])) ≡ record { own = Some (codes "Me"); ready = true; settings = [] }
-unfolding ranks_that rank_count words ranking_of spelled_by mapping_of is_channel is_word set_tokens changes kind_of
+a_join_without_a_source_fixes_the_settings : standing (heard (codes ":s 001 Me :hi" ∷ codes "JOIN" ∷ codes ":s 005 Me A=1 :are supported" ∷ [])) ≡ record { own = Some (codes "Me"); ready = true; settings = [] }
+unfolding told state_lines ranks_that rank_count words ranking_of spelled_by mapping_of is_channel is_word set_tokens changes kind_of
 a_join_without_a_source_fixes_the_settings = refl

@@ -1,11 +1,11 @@
 -- The least of what is shown above a key, found among what the lines bring up.
-use Rattle.std.specs.Prelude.{◌≡◌, ℕ, ◌+◌, ◌-◌, ◌<◌, ◌≤◌, Bool, true, false, cond, not, ◌&&◌, ◌||◌, List, [], ◌∷◌, ◌++◌, take, length, get_or, is_some, ◌⊎◌}
+use Rattle.std.specs.Prelude.{◌≡◌, ℕ, ◌+◌, ◌-◌, ◌<◌, ◌≤◌, Bool, true, false, cond, not, ◌&&◌, List, [], ◌∷◌, ◌++◌, take, length, get_or, is_some}
 use Rattle.std.specs.List.{list_any}
-use Rattle.std.specs.Option.{IfSome, MatchOption, option_and_then, unwrap_or}
-use Rattle.std.specs.Ordering.{is_lt}
-use Rattle.std.proofs.Common.{Option, Some, None, codes, refl, sym, ap, ◌∙◌, subst, arith, inl, inr, ⊎_elim}
+use Rattle.std.specs.Option.{option_and_then, unwrap_or}
+use Rattle.std.specs.Cmp.Lexicographic.{nat_list_cmp_total}
+use Rattle.std.proofs.Common.{Option, Some, None, refl, sym, ap, ◌∙◌, subst, ⊎_elim}
 use Rattle.std.proofs.lemmas.Option.{none-some, same_Some}
-use Rattle.irc_line.specs.Line.{Parts, has_command}
+use Rattle.irc_line.specs.Line.{Parts}
 use Rattle.net_view.specs.Text.{Text}
 use Rattle.net_view.specs.Tokens.{Token}
 use Rattle.net_view.specs.Settings.{key_by}
@@ -14,7 +14,7 @@ use Rattle.net_view.specs.declared.shown.Shown.{Shown}
 use Rattle.net_view.specs.declared.shown.Shown.TheVariants.{Channels, Members}
 use Rattle.net_view.specs.declared.told.Telling.{Telling}
 use Rattle.net_view.specs.Names.{same, bytes_cmp}
-use Rattle.net_view.specs.Told.{Told, Joined, Renamed, Present, Disconnected}
+use Rattle.net_view.specs.Told.{Disconnected}
 use Rattle.net_view.specs.Arrival.{Arrival, Received}
 use Rattle.net_view.specs.StateLines.{told}
 use Rattle.net_view.specs.Transcript.{standing, settings_of, Reading, readings_of, ours}
@@ -24,81 +24,24 @@ use Rattle.net_view.specs.Members.{says_member, is_member}
 use Rattle.net_view.specs.Named.{named, channels_in, people_in}
 use Rattle.net_view.specs.Tells.{meant}
 use Rattle.net_view.specs.Tape.{with_lost, tape_of, IsReadable}
-use Rattle.net_view.specs.Least.{above, improves, considered, IsNext}
+use Rattle.net_view.specs.Least.{considered, IsNext}
 use Rattle.net_view.specs.Shown.{names_in, is_shown}
 use Rattle.net_view.proofs.Tests.{no_true, and_parts}
-use Rattle.net_view.proofs.Keys.{is_same}
+use Rattle.net_view.proofs.Keys.{bytes_exact}
 use Rattle.net_view.proofs.Covers.{begins_none, says_member_none, name_stays}
-use Rattle.net_view.proofs.Places.{before_trans, not_before_itself, false_unless}
+use Rattle.net_view.proofs.NextKey as keys
 use Rattle.net_view.proofs.InSight.{stays_on, silent_begins_nothing, said_or_before, traced}
-use Rattle.net_view.proofs.ReadCommands.{IsRead, told_read}
 use Rattle.net_view.proofs.TapeBack.{tape_more, tape_at, readings_line, line_at, reading, asked, fixed_at, told_at, unready_off}
 
 -- the same of the keys that pass another test
-pub record IsNextOf (there seen : Text → Bool) (after best : Option Text) : Type 0 where
-  pub found : IfSome best (λ b. (there b ≡ true) × (above after b ≡ true))
-  pub least : (c : Text) → seen c ≡ true → there c ≡ true → above after c ≡ true → MatchOption best ⊥ (λ b. is_lt (bytes_cmp c b) ≡ false)
-
-or_cases : (a b : Bool) → (a || b) ≡ true → (a ≡ true) ⊎ (b ≡ true)
-or_cases true b e = inl refl
-or_cases false b e = inr e
-
-module _ (there : Text → Bool) where
-  next_same : (seen : Text → Bool) (after best : Option Text) (c : Text) → IsNextOf there seen after best → (there c ≡ true → above after c ≡ true → MatchOption best ⊥ (λ b. is_lt (bytes_cmp c b) ≡ false)) → IsNextOf there (λ q. same q c || seen q) after best
-  next_same seen after best c old here = record {
-    found = old.found;
-    least = λ q in_seen on_q ab. ⊎_elim
-        (λ e. subst (λ x. MatchOption best ⊥ (λ b. is_lt (bytes_cmp x b) ≡ false)) (sym (is_same q c e)) (here (subst (λ x. there x ≡ true) (is_same q c e) on_q) (subst (λ x. above after x ≡ true) (is_same q c e) ab)))
-        (λ e. old.least q e on_q ab)
-        (or_cases (same q c) (seen q) in_seen);
-  }
-
-  below_best : (best : Option Text) (c q : Text) → ((b : Text) → best ≡ Some b → is_lt (bytes_cmp c b) ≡ true) → MatchOption best ⊥ (λ b. is_lt (bytes_cmp q b) ≡ false) → is_lt (bytes_cmp q c) ≡ false
-  below_best None c q less_c h = absurd h
-  below_best (Some b) c q less_c h = false_unless (is_lt (bytes_cmp q c)) (λ e. no_true (sym h ∙ before_trans q c b e (less_c b refl)))
-
-  next_less : (seen : Text → Bool) (after best : Option Text) (c : Text) → IsNextOf there seen after best → there c ≡ true → above after c ≡ true →
-      ((b : Text) → best ≡ Some b → is_lt (bytes_cmp c b) ≡ true) → IsNextOf there (λ q. same q c || seen q) after (Some c)
-  next_less seen after best c old on_c ab_c less_c = record {
-    found = (on_c, ab_c);
-    least = λ q in_seen on_q ab. ⊎_elim
-        (λ e. subst (λ x. is_lt (bytes_cmp x c) ≡ false) (sym (is_same q c e)) (not_before_itself c))
-        (λ e. below_best best c q less_c (old.least q e on_q ab))
-        (or_cases (same q c) (seen q) in_seen);
-  }
-
-  improved : (best : Option Text) (c : Text) → improves best c ≡ true → (b : Text) → best ≡ Some b → is_lt (bytes_cmp c b) ≡ true
-  improved None c i b e = absurd (none-some b e)
-  improved (Some d) c i b e = subst (λ x. is_lt (bytes_cmp c x) ≡ true) (same_Some d b e) i
-
-  not_improved : (best : Option Text) (c : Text) → improves best c ≡ false → MatchOption best ⊥ (λ b. is_lt (bytes_cmp c b) ≡ false)
-  not_improved None c e = absurd (no_true (sym e))
-  not_improved (Some b) c e = e
-
-  next_considered : (seen : Text → Bool) (after best : Option Text) (c : Text) → IsNextOf there seen after best → IsNextOf there (λ q. same q c || seen q) after (considered there after best (c ∷ []))
-  next_considered seen after best c old =
-      elim (above after c && improves best c && there c) as (λ v. (above after c && improves best c && there c) ≡ v → IsNextOf there (λ q. same q c || seen q) after (cond v (Some c) best)) [
-        | true ↦ λ e.
-            let p = and_parts (above after c && improves best c) (there c) e in
-            let q = and_parts (above after c) (improves best c) (p.0) in
-            next_less seen after best c old (p.1) (q.0) (improved best c (q.1))
-        | false ↦ λ e. next_same seen after best c old (λ on ab. not_improved best c (false_unless (improves best c)
-            (λ i. no_true (sym e ∙ ap (λ a. a && improves best c && there c) ab ∙ ap (λ b. b && there c) i ∙ on))))
-      ] refl
+abbrev pub IsNextOf : (Text → Bool) → (Text → Bool) → Option Text → Option Text → Type 0
+IsNextOf = keys.IsNextOf bytes_cmp
 
 names_lost : (shown : Shown) → names_in shown Disconnected ≡ []
 names_lost Channels = refl
 names_lost (Members channel) = refl
 
-pub one_named : (more : Bool) (shown : Shown) (t : Told) → IsRead more t → length (names_in shown t) ≤ 1
-one_named more Channels (Joined channel valid who account) r = omega arith
-one_named more (Members c) (Joined channel valid who account) r = omega arith
-one_named more (Members c) (Renamed old new) r = omega arith
-one_named more Channels _ r = omega arith
-one_named more (Members c) (Present channel listings) r = absurd r
-one_named more (Members c) _ r = omega arith
-
-named_line : (shown : Shown) (b : Bool) (l : Parts) (older : List Arrival) → named (names_in shown) (readings_of (with_lost b (Received l ∷ older))) ≡ names_in shown (told (settings_of older) (Received l)) ++ named (names_in shown) (readings_of older)
+pub named_line : (shown : Shown) (b : Bool) (l : Parts) (older : List Arrival) → named (names_in shown) (readings_of (with_lost b (Received l ∷ older))) ≡ names_in shown (told (settings_of older) (Received l)) ++ named (names_in shown) (readings_of older)
 named_line shown b l older =
     let t = told (settings_of older) (Received l) in
     let s = standing older in
@@ -115,31 +58,9 @@ named_more {A} shown ks i k lt at =
 
 -- ---- looking back
 
-fewer : (there seen others : Text → Bool) (after best : Option Text) → ((c : Text) → others c ≡ true → seen c ≡ true) → IsNextOf there seen after best → IsNextOf there others after best
-fewer there seen others after best h old = record { found = old.found; least = λ c o. old.least c (h c o) }
-
-not_true : (b : Bool) → not b ≡ true → b ≡ false
-not_true true e = absurd (no_true e)
-not_true false e = refl
-
--- what was there before the item or is named by it
-seen_or_named : (now older named : Bool) → (now ≡ true → older ≡ false → named ≡ true) → not older ≡ true → (named || not now) ≡ true
-seen_or_named false older true h e = refl
-seen_or_named false older false h e = refl
-seen_or_named true older named h e = ap (λ b. b || false) (h refl (not_true older e))
-
-or_false_left : (a b : Bool) → (a || false || b) ≡ true → (a || b) ≡ true
-or_false_left true b e = refl
-or_false_left false b e = e
-
-next_named : (there now older : Text → Bool) (names : List Text) (after best : Option Text) → length names ≤ 1 → ((c : Text) → now c ≡ true → older c ≡ false → list_any (same c) names ≡ true) →
+next_named : (there now older : Text → Bool) (names : List Text) (after best : Option Text) → ((c : Text) → now c ≡ true → older c ≡ false → list_any (same c) names ≡ true) →
     IsNextOf there (λ c. not (now c)) after best → IsNextOf there (λ c. not (older c)) after (considered there after best names)
-next_named there now older [] after best one brings old = fewer there (λ c. not (now c)) (λ c. not (older c)) after best (λ c e. seen_or_named (now c) (older c) false (brings c) e) old
-next_named there now older (k ∷ []) after best one brings old =
-    fewer there (λ c. same c k || not (now c)) (λ c. not (older c)) after (considered there after best (k ∷ []))
-    (λ c e. or_false_left (same c k) (not (now c)) (seen_or_named (now c) (older c) (same c k || false) (brings c) e))
-    (next_considered there (λ c. not (now c)) after best k old)
-next_named there now older (k ∷ l ∷ names) after best one brings old = absurd (omega (arith, one))
+next_named = keys.next_named nat_list_cmp_total bytes_exact
 
 -- ---- what an item brings up
 
@@ -199,14 +120,13 @@ module _ {A : Type 0} (ks : List (Kept A)) (i : ℕ) (k : Kept A) (pos : 0 < i) 
       let whole = is ∙ ap (λ t. considered there after best (names_in shown t)) (told_at ks i k pos within at settings r h fixed tells) in
       subst (λ b. IsNextOf there (λ c. not (is_shown settings shown (line_at ks (i - 1)) c)) after b) (sym whole)
       (next_named there (is_shown settings shown (line_at ks i)) (is_shown settings shown (line_at ks (i - 1))) (names_in shown here.told) after best
-      (one_named (has_command k.line (codes "005")) shown here.told (told_read (settings_of (tape_of (take (i - 1) ks))) k.line))
       (λ c e f. brought_up settings shown here (line_at ks (i - 1)) c (sym (ap (λ rs. is_shown settings shown rs c) (unlost lost)) ∙ e) f) old)
 
 pub next_all : (there older : Text → Bool) (after best : Option Text) → ((c : Text) → older c ≡ false) → IsNextOf there (λ c. not (older c)) after best → IsNext there after best
-next_all there older after best none h = record { found = h.found; least = λ c. h.least c (ap not (none c)) }
+next_all = keys.next_all
 
 pub next_none : (there : Text → Bool) (after : Option Text) → IsNextOf there (λ c. not (there c)) after None
-next_none there after = record { found = tt; least = λ c gone on_c ab. absurd (no_true (sym (not_true (there c) gone) ∙ on_c)) }
+next_none = keys.next_none
 
 pub none_shown : (A : Type 0) (settings : List Token) (shown : Shown) (c : Text) → is_shown settings shown (readings_of (tape_of {A = A} [])) c ≡ false
 unfolding tape_of

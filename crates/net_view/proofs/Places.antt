@@ -1,191 +1,45 @@
--- The entries of a finite map by place: what is the least above a key, again and again.
-use Rattle.std.specs.Prelude.{◌≡◌, ℕ, zero, suc, ◌+◌, ◌<◌, ◌≤◌, Bool, true, false, cond, ◌&&◌, T, List, [], ◌∷◌, length, is_some, slice_get}
-use Rattle.std.specs.Option.{option_map, IfSome, MatchOption}
-use Rattle.std.specs.declared.cmp.Ordering.{Ordering}
-use Rattle.std.specs.declared.cmp.Ordering.TheVariants.{Less, Equal, Greater}
+-- The entries of a map whose keys are those of names, by place.
+use Rattle.std.specs.Prelude.{◌≡◌, ℕ, ◌+◌, ◌<◌, ◌≤◌, Bool, true, false, List, length, is_some, slice_get}
+use Rattle.std.specs.Option.{option_map}
 use Rattle.std.specs.Ordering.{is_lt}
-use Rattle.std.specs.Cmp.{eq_by_cmp_equiv, tied_itself}
 use Rattle.std.specs.Cmp.Lexicographic.{nat_list_cmp_total}
 use Rattle.std.specs.FinMap as fin
 use Rattle.std.specs.FinMap.Entries.{below_all}
-use Rattle.std.proofs.Common.{Option, Some, None, refl, sym, ap, ◌∙◌, subst, arith}
-use Rattle.std.proofs.lemmas.Option.{none-some, same_Some, slice_get_within}
+use Rattle.std.proofs.Common.{Option, Some, None}
 use Rattle.net_view.specs.Text.{Text}
 use Rattle.net_view.specs.Names.{same, bytes_cmp}
-use Rattle.net_view.specs.Least.{above, IsNext}
-use Rattle.net_view.proofs.Tests.{no_true, and_parts}
-use Rattle.net_view.proofs.Keys.{is_same}
-
--- ---- order
-
--- the first entry above the given key, of entries whose keys rise
-abbrev first_above : {X : Type 0} → Option Text → List (Text × X) → Option (Text × X)
-first_above after [] = None
-first_above after (e ∷ es) = cond (above after e.0) (Some e) (first_above after es)
-
-pub and_last : (a b : Bool) → (a && b) ≡ true → b ≡ true
-and_last a b e = (and_parts a b e).1
-
-less : (o : Ordering) → is_lt o ≡ true → o ≡ Less
-less Less e = refl
-less Equal e = cc
-less Greater e = cc
+use Rattle.net_view.specs.Least.{IsNext}
+use Rattle.net_view.proofs.Keys.{bytes_exact}
+use Rattle.net_view.proofs.KeyPlaces as keys
+pub use Rattle.net_view.proofs.KeyPlaces.{and_last, at_key, false_unless, first_and, none_mapped, T_true}
 
 pub before_trans : (a b c : Text) → is_lt (bytes_cmp a b) ≡ true → is_lt (bytes_cmp b c) ≡ true → is_lt (bytes_cmp a c) ≡ true
-before_trans a b c e f = ap is_lt (nat_list_cmp_total.trans a b c (less (bytes_cmp a b) e) (less (bytes_cmp b c) f))
+before_trans = keys.before_trans nat_list_cmp_total bytes_exact
 
 pub not_before_itself : (a : Text) → is_lt (bytes_cmp a a) ≡ false
-not_before_itself a = ap is_lt (tied_itself nat_list_cmp_total a)
-
-pub false_unless : (b : Bool) → (b ≡ true → ⊥) → b ≡ false
-false_unless true f = absurd (f refl)
-false_unless false f = refl
-
--- ---- entries whose keys rise
-
-pub first_and : (a b : Bool) → (a && b) ≡ true → a ≡ true
-first_and true b e = refl
-first_and false b e = absurd (no_true e)
-
-pub below_found : {X : Type 0} (k b : Text) (es : List (Text × X)) → below_all bytes_cmp k es ≡ true → is_some (fin.find bytes_cmp b es) ≡ true → is_lt (bytes_cmp k b) ≡ true
-below_found k b [] h f = absurd (no_true f)
-below_found k b (e ∷ es) h f =
-    elim (same b e.0) as (λ v. same b e.0 ≡ v → is_some (cond v (Some e.1) (fin.find bytes_cmp b es)) ≡ true → is_lt (bytes_cmp k b) ≡ true) [
-      | true ↦ λ q _. subst (λ x. is_lt (bytes_cmp k x) ≡ true) (sym (is_same b e.0 q)) (first_and (is_lt (bytes_cmp k e.0)) (below_all bytes_cmp k es) h)
-      | false ↦ λ q g. below_found k b es (and_last (is_lt (bytes_cmp k e.0)) (below_all bytes_cmp k es) h) g
-    ] refl f
+not_before_itself = keys.not_before_itself nat_list_cmp_total bytes_exact
 
 pub same_itself : (k : Text) → same k k ≡ true
-same_itself k = (eq_by_cmp_equiv nat_list_cmp_total).refl k
+same_itself = keys.same_itself nat_list_cmp_total bytes_exact
 
--- what holds of the best of these entries
-record IsBest {X : Type 0} (es : List (Text × X)) (after best : Option Text) : Type 0 where
-  found : IfSome best (λ b. (is_some (fin.find bytes_cmp b es) ≡ true) × (above after b ≡ true))
-  least : (c : Text) → is_some (fin.find bytes_cmp c es) ≡ true → above after c ≡ true → MatchOption best ⊥ (λ b. is_lt (bytes_cmp c b) ≡ false)
-
-found_later : {X : Type 0} (e : Text × X) (es : List (Text × X)) (c : Text) → is_some (fin.find bytes_cmp c es) ≡ true → is_some (fin.find bytes_cmp c (e ∷ es)) ≡ true
-found_later e es c h = elim (same c e.0) as (λ v. is_some (cond v (Some e.1) (fin.find bytes_cmp c es)) ≡ true) [ true ↦ refl | false ↦ h ]
-
-found_here : {X : Type 0} (e : Text × X) (es : List (Text × X)) → is_some (fin.find bytes_cmp e.0 (e ∷ es)) ≡ true
-found_here e es = ap (λ v. is_some (cond v (Some e.1) (fin.find bytes_cmp e.0 es))) (same_itself e.0)
-
-is_first_here : {X : Type 0} (e : Text × X) (es : List (Text × X)) (after best : Option Text) → below_all bytes_cmp e.0 es ≡ true → IsBest (e ∷ es) after best → above after e.0 ≡ true → best ≡ Some e.0
-is_first_here e es after None below h ab = absurd (h.least e.0 (found_here e es) ab)
-is_first_here e es after (Some b) below h ab =
-    elim (same b e.0) as (λ v. same b e.0 ≡ v → is_some (cond v (Some e.1) (fin.find bytes_cmp b es)) ≡ true → Some b ≡ Some e.0) [
-      | true ↦ λ q _. ap Some (is_same b e.0 q)
-      | false ↦ λ q g. absurd (no_true (sym (h.least e.0 (found_here e es) ab) ∙ below_found e.0 b es below g))
-    ] refl (h.found.0)
-
-best_later : {X : Type 0} (e : Text × X) (es : List (Text × X)) (after best : Option Text) → IsBest (e ∷ es) after best → above after e.0 ≡ false → IsBest es after best
-best_later e es after None h ab = record { found = tt; least = λ c f a. h.least c (found_later e es c f) a }
-best_later e es after (Some b) h ab = record {
-  found = (
-    elim (same b e.0) as (λ v. same b e.0 ≡ v → is_some (cond v (Some e.1) (fin.find bytes_cmp b es)) ≡ true → is_some (fin.find bytes_cmp b es) ≡ true) [
-      | true ↦ λ q _. absurd (no_true (sym ab ∙ subst (λ x. above after x ≡ true) (is_same b e.0 q) (h.found.1)))
-      | false ↦ λ q g. g
-    ] refl (h.found.0),
-    h.found.1,
-  );
-  least = λ c f a. h.least c (found_later e es c f) a;
-}
-
-is_first : {X : Type 0} (es : List (Text × X)) (after best : Option Text) → fin.is_sorted bytes_cmp es ≡ true → IsBest es after best → best ≡ option_map (λ e. e.0) (first_above after es)
-is_first [] after None sorted h = refl
-is_first [] after (Some b) sorted h = absurd (no_true (h.found.0))
-is_first (e ∷ es) after best sorted h =
-    elim (above after e.0) as (λ a. above after e.0 ≡ a → best ≡ option_map (λ e. e.0) (cond a (Some e) (first_above after es))) [
-      | true ↦ λ ab. is_first_here e es after best (first_and (below_all bytes_cmp e.0 es) (fin.is_sorted bytes_cmp es) sorted) h ab
-      | false ↦ λ ab. is_first es after best (and_last (below_all bytes_cmp e.0 es) (fin.is_sorted bytes_cmp es) sorted) (best_later e es after best h ab)
-    ] refl
-
-pub T_true : (b : Bool) → T b → b ≡ true
-T_true true h = refl
-T_true false h = absurd h
-
-is_some_mapped : {A B : Type 0} (f : A → B) (o : Option A) → is_some (option_map f o) ≡ is_some o
-is_some_mapped f None = refl
-is_some_mapped f (Some x) = refl
-
-pub none_mapped : {A B : Type 0} (f : A → B) (o : Option A) → None ≡ option_map f o → o ≡ None
-none_mapped f None e = refl
-none_mapped f (Some x) e = absurd (none-some (f x) e)
-
-found_both : {X : Type 0} (there : Text → Bool) (es : List (Text × X)) (after best : Option Text) → IfSome best (λ b. (there b ≡ true) × (above after b ≡ true)) → ((c : Text) → is_some (fin.find bytes_cmp c es) ≡ there c) → IfSome best (λ b. (is_some (fin.find bytes_cmp b es) ≡ true) × (above after b ≡ true))
-found_both there es after None h is = tt
-found_both there es after (Some b) h is = (is b ∙ h.0, h.1)
-
-first_of_all : {X : Type 0} (es : List (Text × X)) → first_above None es ≡ slice_get es 0
-first_of_all [] = refl
-first_of_all (e ∷ es) = refl
-
-all_above : {X : Type 0} (k : Text) (es : List (Text × X)) → below_all bytes_cmp k es ≡ true → first_above (Some k) es ≡ slice_get es 0
-all_above k [] h = refl
-all_above k (e ∷ es) h = ap (λ b. cond b (Some e) (first_above (Some k) es)) (first_and (is_lt (bytes_cmp k e.0)) (below_all bytes_cmp k es) h)
-
-not_both : (a b : Text) → is_lt (bytes_cmp a b) ≡ true → is_lt (bytes_cmp b a) ≡ false
-not_both a b h = false_unless (is_lt (bytes_cmp b a)) (λ e. no_true (sym (not_before_itself a) ∙ before_trans a b a h e))
+pub below_found : {X : Type 0} (k b : Text) (es : List (Text × X)) → below_all bytes_cmp k es ≡ true → is_some (fin.find bytes_cmp b es) ≡ true → is_lt (bytes_cmp k b) ≡ true
+below_found = keys.below_found nat_list_cmp_total bytes_exact
 
 pub find_at : {X : Type 0} (es : List (Text × X)) (j : ℕ) (x : Text × X) → slice_get es j ≡ Some x → is_some (fin.find bytes_cmp x.0 es) ≡ true
-find_at [] j x e = absurd (none-some x e)
-find_at (y ∷ es) zero x e = subst (λ (z : Text × _). is_some (fin.find bytes_cmp z.0 (y ∷ es)) ≡ true) (same_Some y x e) (found_here y es)
-find_at (y ∷ es) (suc j) x e = found_later y es x.0 (find_at es j x e)
-
--- the entry after the one at a place
-pub next_place : {X : Type 0} (es : List (Text × X)) (j : ℕ) (x : Text × X) → fin.is_sorted bytes_cmp es ≡ true → slice_get es j ≡ Some x → first_above (Some x.0) es ≡ slice_get es (suc j)
-next_place [] j x sorted e = absurd (none-some x e)
-next_place (y ∷ es) zero x sorted e =
-    ap (λ (z : Text × _). first_above (Some z.0) (y ∷ es)) (sym (same_Some y x e))
-    ∙ ap (λ b. cond b (Some y) (first_above (Some y.0) es)) (not_before_itself y.0)
-    ∙ all_above y.0 es (first_and (below_all bytes_cmp y.0 es) (fin.is_sorted bytes_cmp es) sorted)
-next_place (y ∷ es) (suc j) x sorted e =
-    ap (λ b. cond b (Some y) (first_above (Some x.0) es)) (not_both y.0 x.0 (below_found y.0 x.0 es (first_and (below_all bytes_cmp y.0 es) (fin.is_sorted bytes_cmp es) sorted) (find_at es j x e)))
-    ∙ next_place es j x (and_last (below_all bytes_cmp y.0 es) (fin.is_sorted bytes_cmp es) sorted) e
-
-none_later : {X : Type 0} (es : List X) (j i : ℕ) → slice_get es j ≡ None → j ≤ i → slice_get es i ≡ None
-none_later [] j i e h = refl
-none_later (y ∷ es) zero i e h = absurd (none-some y (sym e))
-none_later (y ∷ es) (suc j) zero e h = absurd (omega arith)
-none_later (y ∷ es) (suc j) (suc i) e h = none_later es j i e (omega arith)
-
-pub at_key : {X : Type 0} (o : Option (Text × X)) (k : Text) → Some k ≡ option_map (λ e. e.0) o → (x : Text × X) × (o ≡ Some x) × (x.0 ≡ k)
-at_key None k e = absurd (none-some k (sym e))
-at_key (Some x) k e = (x, refl, sym (same_Some k x.0 e))
-
-end_of : {X : Type 0} (es : List X) (j : ℕ) → slice_get es j ≡ None → j ≤ length es → j ≡ length es
-end_of [] j e h = omega arith
-end_of (y ∷ es) zero e h = absurd (none-some y (sym e))
-end_of (y ∷ es) (suc j) e h = let r = end_of es j e (omega arith) in omega arith
+find_at = keys.find_at nat_list_cmp_total bytes_exact
 
 module _ {X : Type 0} (m : fin.FinMap bytes_cmp X) (there : Text → Bool) (is : (c : Text) → is_some (fin.get m c) ≡ there c) where
-  abbrev es : List (Text × X)
-  es = fin.entries m
-
-  -- the next key is that of the next entry
-  next_entry : (after best : Option Text) → IsNext there after best → best ≡ option_map (λ e. e.0) (first_above after es)
-  next_entry after best h =
-      let at : (c : Text) → is_some (fin.find bytes_cmp c es) ≡ there c = λ c. ap is_some (sym (fin.get-entries m c)) ∙ is c in
-      is_first es after best (T_true (fin.is_sorted bytes_cmp es) (fin.entries_sorted m)) (record {
-        found = found_both there es after best h.found at;
-        least = λ c f ab. h.least c (sym (at c) ∙ f) ab;
-      })
-
   pub place_zero : (best : Option Text) → IsNext there None best → best ≡ option_map (λ e. e.0) (slice_get (fin.entries m) 0)
-  place_zero best h = next_entry None best h ∙ ap (option_map (λ e. e.0)) (first_of_all es)
+  place_zero = keys.place_zero nat_list_cmp_total bytes_exact m there is
 
   pub place_next : (j : ℕ) (k : Text) (best : Option Text) → Some k ≡ option_map (λ e. e.0) (slice_get (fin.entries m) j) → IsNext there (Some k) best → best ≡ option_map (λ e. e.0) (slice_get (fin.entries m) (j + 1))
-  place_next j k best at h =
-      let r = at_key (slice_get es j) k at in
-      next_entry (Some k) best h
-      ∙ ap (λ q. option_map (λ e. e.0) (first_above (Some q) es)) (sym (r.2))
-      ∙ ap (option_map (λ e. e.0)) (next_place es j (r.0) (T_true (fin.is_sorted bytes_cmp es) (fin.entries_sorted m)) (r.1))
-      ∙ ap (λ n. option_map (λ e. e.0) (slice_get es n)) (omega arith)
+  place_next = keys.place_next nat_list_cmp_total bytes_exact m there is
 
   pub place_none : (j i : ℕ) → None ≡ option_map (λ (e : Text × X). e.0) (slice_get (fin.entries m) j) → j ≤ i → None ≡ option_map (λ (e : Text × X). e.0) (slice_get (fin.entries m) i)
-  place_none j i e h = sym (ap (option_map (λ e. e.0)) (none_later es j i (none_mapped (λ (e : Text × X). e.0) (slice_get es j) e) h))
+  place_none = keys.place_none nat_list_cmp_total bytes_exact m there is
 
   pub place_below : (j : ℕ) (k : Text) → Some k ≡ option_map (λ (e : Text × X). e.0) (slice_get (fin.entries m) j) → j < length (fin.entries m)
-  place_below j k at = let r = at_key (slice_get es j) k at in slice_get_within es j (r.0) (r.1)
+  place_below = keys.place_below nat_list_cmp_total bytes_exact m there is
 
   pub place_end : (j : ℕ) → None ≡ option_map (λ (e : Text × X). e.0) (slice_get (fin.entries m) j) → j ≤ length (fin.entries m) → j ≡ length (fin.entries m)
-  place_end j e h = end_of es j (none_mapped (λ (e : Text × X). e.0) (slice_get es j) e) h
+  place_end = keys.place_end nat_list_cmp_total bytes_exact m there is

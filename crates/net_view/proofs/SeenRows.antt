@@ -10,6 +10,7 @@ use Rattle.irc_support.specs.Settings.{mapping_of, is_channel}
 use Rattle.irc_support.specs.ModeChanges.{changes}
 use Rattle.irc_support.specs.NamesReply.{words}
 use Rattle.net_view.specs.Seen.{HeldCaps, all_caps, seen_ranks}
+use Rattle.net_view.specs.StateLines.{state_lines, told}
 use Rattle.net_view.proofs.Transcripts.{read, joined}
 
 abbrev no_caps : HeldCaps
@@ -23,28 +24,28 @@ op_and_voice = joined ++ codes ":s 353 Me = #c :Me @+bob" ∷ []
 
 -- at the boundary the highest is shown, with multi-prefix all are
 highest_at_first : seen no_caps op_and_voice 0 (codes "bob") ≡ 0 ∷ []
-unfolding ranks_that rank_count words ranking_of spelled_by mapping_of is_channel is_word set_tokens changes kind_of
+unfolding told state_lines ranks_that rank_count words ranking_of spelled_by mapping_of is_channel is_word set_tokens changes kind_of
 highest_at_first = refl
 
 all_with_multi_prefix : seen all_caps op_and_voice 0 (codes "bob") ≡ 0 ∷ 1 ∷ []
-unfolding ranks_that rank_count words ranking_of spelled_by mapping_of is_channel is_word set_tokens changes kind_of
+unfolding told state_lines ranks_that rank_count words ranking_of spelled_by mapping_of is_channel is_word set_tokens changes kind_of
 all_with_multi_prefix = refl
 
 -- the voice was not shown, and is not when the higher rank is taken
 hidden_below : seen no_caps (op_and_voice ++ codes ":s MODE #c -o bob" ∷ []) 1 (codes "bob") ≡ []
-unfolding ranks_that rank_count words ranking_of spelled_by mapping_of is_channel is_word set_tokens changes kind_of
+unfolding told state_lines ranks_that rank_count words ranking_of spelled_by mapping_of is_channel is_word set_tokens changes kind_of
 hidden_below = refl
 
 -- who comes after that is shown it
 shown_to_who_comes_later : seen no_caps (op_and_voice ++ codes ":s MODE #c -o bob" ∷ []) 0 (codes "bob") ≡ 1 ∷ []
-unfolding ranks_that rank_count words ranking_of spelled_by mapping_of is_channel is_word set_tokens changes kind_of
+unfolding told state_lines ranks_that rank_count words ranking_of spelled_by mapping_of is_channel is_word set_tokens changes kind_of
 shown_to_who_comes_later = refl
 
 -- a name list shows it, and so does the MODE that gives it, also under a new nick
 shown_by_a_list : seen no_caps (op_and_voice ++ codes ":s MODE #c -o bob" ∷ codes ":s 353 Me = #c :Me +bob" ∷ []) 2 (codes "bob") ≡ 1 ∷ []
-unfolding ranks_that rank_count words ranking_of spelled_by mapping_of is_channel is_word set_tokens changes kind_of
+unfolding told state_lines ranks_that rank_count words ranking_of spelled_by mapping_of is_channel is_word set_tokens changes kind_of
 shown_by_a_list = refl
 
 shown_by_a_mode : seen no_caps (op_and_voice ++ codes ":s MODE #c -v+v bob bob" ∷ codes ":bob!b@h NICK rob" ∷ []) 2 (codes "rob") ≡ 0 ∷ 1 ∷ []
-unfolding ranks_that rank_count words ranking_of spelled_by mapping_of is_channel is_word set_tokens changes kind_of
+unfolding told state_lines ranks_that rank_count words ranking_of spelled_by mapping_of is_channel is_word set_tokens changes kind_of
 shown_by_a_mode = refl

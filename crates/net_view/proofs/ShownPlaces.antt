@@ -1,40 +1,32 @@
 -- What is shown, by place.
-use Rattle.std.specs.Prelude.{◌≡◌, ℕ, zero, suc, ◌+◌, ◌<◌, ◌≤◌, Bool, true, false, cond, List, [], ◌∷◌, take, length, get_or, is_some}
+use Rattle.std.specs.Prelude.{◌≡◌, ℕ, suc, ◌+◌, ◌<◌, ◌≤◌, Bool, true, false, cond, List, [], ◌∷◌, length, is_some}
 use Rattle.std.specs.Cmp.Lexicographic.{nat_list_cmp_total}
 use Rattle.std.specs.FinMap as fin
-use Rattle.std.proofs.Common.{Option, Some, None, codes, refl, sym, ap, ◌∙◌, subst, arith, length-append}
-use Rattle.std.proofs.lemmas.List.{take_all, get_or_default}
-use Rattle.irc_line.specs.Line.{has_command}
+use Rattle.std.proofs.Common.{Option, Some, None, refl, ap, ◌∙◌, arith}
 use Rattle.net_view.specs.Text.{Text}
 use Rattle.net_view.specs.Tokens.{Token}
 use Rattle.net_view.specs.Settings.{key_by}
-use Rattle.net_view.specs.declared.tape.Kept.{Kept}
 use Rattle.net_view.specs.declared.shown.Shown.{Shown}
 use Rattle.net_view.specs.declared.shown.Shown.TheVariants.{Channels, Members}
 use Rattle.net_view.specs.Names.{bytes_cmp}
-use Rattle.net_view.specs.Arrival.{Received}
-use Rattle.net_view.specs.StateLines.{told}
-use Rattle.net_view.specs.Transcript.{Reading, readings_of, settings_of}
+use Rattle.net_view.specs.Transcript.{Reading}
 use Rattle.net_view.specs.Presence.{name_on}
 use Rattle.net_view.specs.Members.{is_member}
 use Rattle.net_view.specs.Named.{named, channels_in, people_in}
 use Rattle.net_view.specs.Table.{table, put_some}
 use Rattle.net_view.specs.View.{channel_named, channel_of, channels_of, member_of, members_of}
-use Rattle.net_view.specs.Tape.{tape_of}
 use Rattle.net_view.specs.Least.{IsNext}
 use Rattle.net_view.specs.Shown.{names_in, is_shown, shown_key, shown_len}
 use Rattle.net_view.proofs.Channels.{channels_get, members_get}
-use Rattle.net_view.proofs.TapeTests.{is_some_map}
-use Rattle.net_view.proofs.ReadCommands.{told_read}
+use Rattle.net_view.proofs.Tests.{is_some_map}
 use Rattle.net_view.proofs.Places as places
-use Rattle.net_view.proofs.NextShown.{named_more, one_named}
 
 some_where : {X : Type 0} (b : Bool) (x : X) → is_some (cond b (Some x) None) ≡ b
 some_where true x = refl
 some_where false x = refl
 
 channel_there : (settings : List Token) (rs : List Reading) (c : Text) → is_some (fin.get (channels_of rs) c) ≡ is_shown settings Channels rs c
-channel_there settings rs c = ap is_some (channels_get rs c) ∙ sym (is_some_map (channel_named rs c) (name_on rs c))
+channel_there settings rs c = ap is_some (channels_get rs c) ∙ is_some_map (channel_named rs c) (name_on rs c)
 
 member_there : (rs : List Reading) (c n : Text) → is_some (fin.get (members_of rs c) n) ≡ is_member rs c n
 member_there rs c n = ap is_some (members_get rs c n) ∙ some_where (is_member rs c n) _
@@ -59,7 +51,7 @@ pub key_end : (settings : List Token) (shown : Shown) (rs : List Reading) (j : �
 key_end settings Channels rs j e h = places.place_end (channels_of rs) (is_shown settings Channels rs) (channel_there settings rs) j e h
 key_end settings (Members channel) rs j e h = places.place_end (members_of rs (key_by settings channel.now)) (is_shown settings (Members channel) rs) (member_there rs (key_by settings channel.now)) j e h
 
--- ---- there are at most as many as there are lines
+-- ---- there are at most as many as names are brought up
 
 put_len : {X : Type 0} (m : fin.FinMap bytes_cmp X) (k : Text) (o : Option X) (n : ℕ) → fin.len m ≤ n → fin.len (put_some m k o) ≤ suc n
 put_len m k None n h = omega arith
@@ -70,28 +62,6 @@ unfolding table
 table_len {X} [] f = rw (fin.len-empty bytes_cmp X) (omega arith)
 table_len (k ∷ ks) f = put_len (table bytes_cmp ks f) k (f k) (length ks) (table_len ks f)
 
-len_few : (settings : List Token) (shown : Shown) (rs : List Reading) → shown_len settings shown rs ≤ length (named (names_in shown) rs)
+pub len_few : (settings : List Token) (shown : Shown) (rs : List Reading) → shown_len settings shown rs ≤ length (named (names_in shown) rs)
 len_few settings Channels rs = rw (← fin.len-entries (channels_of rs)) (table_len (named channels_in rs) (channel_of rs))
 len_few settings (Members channel) rs = rw (← fin.len-entries (members_of rs (key_by settings channel.now))) (table_len (named people_in rs) (member_of rs (key_by settings channel.now)))
-
-named_few : {A : Type 0} (shown : Shown) (ks : List (Kept A)) (i : ℕ) → i ≤ length ks → length (named (names_in shown) (readings_of (tape_of (take i ks)))) ≤ i
-unfolding tape_of
-named_few shown ks zero h = omega arith
-named_few shown [] (suc i) h = absurd (omega arith)
-named_few shown (k ∷ ks) (suc i) h =
-    let all = k ∷ ks in
-    let r = named_few shown all i (omega arith) in
-    let x = get_or all i k in
-    let same_x : x ≡ get_or all i x = get_or_default all i k x (omega arith) in
-    let t = told (settings_of (tape_of (take i all))) (Received x.line) in
-    let rest = named (names_in shown) (readings_of (tape_of (take i all))) in
-    let e : length (named (names_in shown) (readings_of (tape_of (take (i + 1) all)))) ≡ length (names_in shown t) + length rest =
-    ap length (named_more shown all i x (omega arith) same_x) ∙ length-append (names_in shown t) rest in
-    let j : suc i ≡ i + 1 = omega arith in
-    subst (λ n. length (named (names_in shown) (readings_of (tape_of (take n all)))) ≤ n) (sym j) (omega (arith, e, one_named (has_command x.line (codes "005")) shown t (told_read (settings_of (tape_of (take i all))) x.line), r))
-
-pub few_shown : {A : Type 0} (settings : List Token) (shown : Shown) (ks : List (Kept A)) → shown_len settings shown (readings_of (tape_of ks)) ≤ length ks
-few_shown settings shown ks =
-    let a = len_few settings shown (readings_of (tape_of ks)) in
-    let b = subst (λ l. length (named (names_in shown) (readings_of (tape_of l))) ≤ length ks) (take_all (length ks) ks (omega arith)) (named_few shown ks (length ks) (omega arith)) in
-    omega (arith, a, b)

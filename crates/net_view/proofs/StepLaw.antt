@@ -7,7 +7,8 @@ use Rattle.irc_support.specs.Text.{Text}
 use Rattle.net_view.specs.Names.{bytes_cmp}
 use Rattle.net_view.specs.Told.{Silent}
 use Rattle.net_view.specs.Arrival.{Arrival, Received, Lost}
-use Rattle.net_view.specs.StateLines.{told, told_by_any_line, is_state_item}
+use Rattle.net_view.specs.StateLines.{told, is_state_item}
+use Rattle.net_view.proofs.Commands.{told-unread}
 use Rattle.net_view.specs.Transcript.{Standing, standing, standing_after, Reading, readings_of, ours}
 use Rattle.net_view.specs.Named.{named, people_in}
 use Rattle.net_view.specs.Facts.{in_sight, known, says_spelling, says_account, says_away}
@@ -65,7 +66,7 @@ view_quiet items x silent =
 -- a line that is no state line tells nothing
 told_none : (settings : List Token) (x : Arrival) → is_state_item x ≡ false → told settings x ≡ Silent
 unfolding told
-told_none settings (Received line) e = ap (λ b. cond b (told_by_any_line settings line) Silent) e
+told_none settings (Received line) e = told-unread settings line e
 told_none settings Lost e = absurd (no_true (sym e))
 
 pub view_unchanged : (items : List Arrival) (x : Arrival) → is_state_item x ≡ false → view_of (items ++ x ∷ []) ≡ view_of items

@@ -64,6 +64,11 @@ own_meant settings (telling.Parted channel who) marks s m = refl
 own_meant settings (telling.Kicked channel who) marks s m = refl
 own_meant settings (telling.Quits who) marks s m = refl
 own_meant settings (telling.Titled channel text) marks s m = refl
+own_meant settings (telling.Changed channel line) marks s m = refl
+own_meant settings (telling.Listed channel line) marks s m = refl
+own_meant settings (telling.Present channel line) marks s m = refl
+own_meant settings (telling.HasAccount who account) marks s m = refl
+own_meant settings (telling.IsAway who text) marks s m = refl
 own_meant settings (telling.Renamed old new) marks s m =
     ap (λ b. cond b (Some new.now) s.own) (sym m.by_us)
     ∙ elim marks.by_us as (λ b. cond b (Some new.now) s.own ≡ option_or (cond b (Some new.now) None) s.own) [ true ↦ refl | false ↦ refl ]
@@ -78,6 +83,11 @@ ready_meant settings (telling.Parted channel who) s = refl
 ready_meant settings (telling.Kicked channel who) s = refl
 ready_meant settings (telling.Quits who) s = refl
 ready_meant settings (telling.Titled channel text) s = refl
+ready_meant settings (telling.Changed channel line) s = refl
+ready_meant settings (telling.Listed channel line) s = refl
+ready_meant settings (telling.Present channel line) s = refl
+ready_meant settings (telling.HasAccount who account) s = refl
+ready_meant settings (telling.IsAway who text) s = refl
 ready_meant settings (telling.Renamed old new) s = refl
 
 -- the last of some lines, and those before it

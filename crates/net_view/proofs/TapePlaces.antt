@@ -11,16 +11,18 @@ use Rattle.net_view.specs.Tokens.{Token}
 use Rattle.net_view.specs.Names.{same, bytes_cmp}
 use Rattle.net_view.specs.Arrival.{Arrival}
 use Rattle.net_view.specs.Transcript.{Reading, readings_of}
-use Rattle.net_view.specs.Presence.{name_on}
+use Rattle.net_view.specs.Presence.{is_on, name_on}
 use Rattle.net_view.specs.Topic.{topic_of}
-use Rattle.net_view.specs.Members.{is_member}
+use Rattle.irc_support.specs.Ranks.{ranks_that}
+use Rattle.net_view.specs.LookBack.{last_of}
+use Rattle.net_view.specs.Members.{is_member, rank_decided, says_member}
 use Rattle.net_view.specs.Facts.{in_sight, spelling_of}
 use Rattle.net_view.specs.View.{Channel, Person, channel_named, channel_of, channels_of, members_of, view_back}
 use Rattle.net_view.specs.Readers.{MemberParts, channel_shown, known_at, member_parts, member_shown, members_shown}
 use Rattle.net_view.specs.Sound.{IsSpelling}
 use Rattle.net_view.specs.declared.shown.Shown.TheVariants.{Channels}
 use Rattle.net_view.specs.Shown.{shown_key}
-use Rattle.net_view.proofs.Tests.{no_true}
+use Rattle.net_view.proofs.Tests.{and_parts, no_true}
 use Rattle.net_view.proofs.Keys.{is_same}
 use Rattle.net_view.proofs.Channels.{channels_get, members_get}
 use Rattle.net_view.proofs.People.{people_get, spelling_field}
@@ -69,12 +71,12 @@ module _ (settings : List Token) (items : List Arrival) (i : ℕ) where
   no_members e = ap (λ o. option_map_or (λ (ch : Channel). length (fin.entries ch.members)) o 0) (no_channel e)
 
   -- the channel of this key is at this place
-  record IsThere (k : Text) : Type 0 where
-    channel : Channel
-    shown : channel_shown (view_back items) i ≡ Some channel
-    found : option_map (channel_named rs k) (name_on rs k) ≡ Some channel
+  pub record IsThere (k : Text) : Type 0 where
+    pub channel : Channel
+    pub shown : channel_shown (view_back items) i ≡ Some channel
+    pub found : option_map (channel_named rs k) (name_on rs k) ≡ Some channel
 
-  there : (k : Text) → Some k ≡ shown_key settings Channels (readings_of items) i → IsThere k
+  pub there : (k : Text) → Some k ≡ shown_key settings Channels (readings_of items) i → IsThere k
   there k e =
       let x = at_key (slice_get (fin.entries (channels_of rs)) i) k e in
       let entry = x.0 in
@@ -105,7 +107,7 @@ module _ (settings : List Token) (items : List Arrival) (i : ℕ) where
   pub no_member_of_none : (j : ℕ) → None ≡ shown_key settings Channels (readings_of items) i → member_shown (view_back items) i j ≡ None
   no_member_of_none j e = ap (λ o. option_and_then (λ (ch : Channel). option_map (member_parts (view_back items)) (slice_get (fin.entries ch.members) j)) o) (no_channel e)
 
-  member_entry : (k : Text) (j : ℕ) → Some k ≡ shown_key settings Channels (readings_of items) i → member_shown (view_back items) i j ≡ option_map (member_parts (view_back items)) (slice_get (fin.entries (members_of (readings_of items) k)) j)
+  pub member_entry : (k : Text) (j : ℕ) → Some k ≡ shown_key settings Channels (readings_of items) i → member_shown (view_back items) i j ≡ option_map (member_parts (view_back items)) (slice_get (fin.entries (members_of (readings_of items) k)) j)
   member_entry k j e =
       let t = there k e in
       ap (λ o. option_and_then (λ (ch : Channel). option_map (member_parts (view_back items)) (slice_get (fin.entries ch.members) j)) o) t.shown
@@ -127,6 +129,19 @@ module _ (settings : List Token) (items : List Arrival) (i : ℕ) where
         was : {X : Type 0} (b : Bool) (v : X) → is_some (cond b (Some v) None) ≡ true → b ≡ true
         was true v h = refl
         was false v h = h
+
+  pub shown_on : (k n : Text) (j : ℕ) → Some n ≡ option_map (λ (x : Text × List ℕ). x.0) (slice_get (fin.entries (members_of (readings_of items) k)) j) → is_on (readings_of items) k ≡ true
+  shown_on k n j e = (and_parts (is_on rs k) (unwrap_or (last_of (says_member k) rs n) false) (is_shown_member k n j e)).0
+
+  pub ranks_shown : (k n : Text) (j : ℕ) → Some k ≡ shown_key settings Channels (readings_of items) i → Some n ≡ option_map (λ (x : Text × List ℕ). x.0) (slice_get (fin.entries (members_of (readings_of items) k)) j) →
+      option_map (λ (m : MemberParts). m.ranks) (member_shown (view_back items) i j) ≡ Some (ranks_that (rank_decided (readings_of items) k n))
+  ranks_shown k n j e f =
+      let x = at_key (slice_get (fin.entries (members_of rs k)) j) n f in
+      ap (option_map (λ (m : MemberParts). m.ranks)) (member_entry k j e ∙ ap (option_map (member_parts (view_back items))) (x.1))
+      ∙ sym (entry_at (members_of rs k) j (x.0) (x.1))
+      ∙ ap (fin.get (members_of rs k)) (x.2)
+      ∙ members_get rs k n
+      ∙ ap (λ b. cond b (Some (ranks_that (rank_decided rs k n))) None) (is_shown_member k n j f)
 
   pub shown_in_sight : (k n : Text) (j : ℕ) → Some n ≡ option_map (λ (x : Text × List ℕ). x.0) (slice_get (fin.entries (members_of (readings_of items) k)) j) → in_sight (readings_of items) n ≡ true
   shown_in_sight k n j e = sees rs k n (is_shown_member k n j e)

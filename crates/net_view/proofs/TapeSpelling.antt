@@ -38,7 +38,7 @@ module _ {A : Type 0} (ks : List (Kept A)) (i : ℕ) (k : Kept A) (pos : 0 < i) 
   here = reading ks i k pos within at
 
   -- where somebody is in sight no loss came after the line
-  no_loss : line_at ks i ≡ here ∷ line_at ks (i - 1)
+  pub no_loss : line_at ks i ≡ here ∷ line_at ks (i - 1)
   no_loss =
       elim k.lost as (λ b. k.lost ≡ b → line_at ks i ≡ here ∷ line_at ks (i - 1)) [
         | true ↦ λ e.

@@ -13,7 +13,8 @@ use Rattle.irc_support.specs.Text.{Text}
 use Rattle.net_view.specs.declared.told.Telling.{Telling}
 use Rattle.net_view.specs.declared.told.Telling.TheVariants as telling
 use Rattle.irc_support.specs.Line as line
-use Rattle.net_view.proofs.ReadCommands.{isupport_told, supports_said}
+use Rattle.net_view.proofs.Commands.{told_of_isupport}
+use Rattle.net_view.proofs.ReadCommands.{supports_said}
 use Rattle.net_view.specs.Transcript.{standing, own_nick, is_us, is_ready, ready_after, settings_of, settings_after}
 use Rattle.net_view.specs.Tells.{meant, us_of, settles_said, IsMarked}
 use Rattle.net_view.specs.Tape.{with_lost, played_back, tape_of, AreMarked, IsMarkedLine, IsMarkedTape}
@@ -24,7 +25,7 @@ use Rattle.net_view.specs.StateLines.{told}
 use Rattle.net_view.proofs.TapeBack.{marked_split, ready_meant}
 use Rattle.net_view.proofs.Emptied.{view_lost, emptied}
 
-tape_push : {A : Type 0} (ks : List (Kept A)) (k : Kept A) → tape_of (ks ++ k ∷ []) ≡ with_lost k.lost (Received k.line ∷ tape_of ks)
+pub tape_push : {A : Type 0} (ks : List (Kept A)) (k : Kept A) → tape_of (ks ++ k ∷ []) ≡ with_lost k.lost (Received k.line ∷ tape_of ks)
 unfolding tape_of
 tape_push ks k = ap played_back (reverse-append ks (k ∷ []))
 
@@ -48,14 +49,14 @@ lost_again : (b : Bool) (items : List Arrival) → view_back (Lost ∷ items) �
 lost_again true items = back_lost items ∙ sym (ap lost_view (back_lost items))
 lost_again false items = back_lost items
 
-record EndsWith {A : Type 0} (ks : List A) (i : ℕ) (x : A) : Type 0 where
-  front : List A
-  last : A
-  whole : ks ≡ front ++ last ∷ []
-  marked : set ks i x ≡ front ++ x ∷ []
-  is : get_or ks i x ≡ last
+pub record EndsWith {A : Type 0} (ks : List A) (i : ℕ) (x : A) : Type 0 where
+  pub front : List A
+  pub last : A
+  pub whole : ks ≡ front ++ last ∷ []
+  pub marked : set ks i x ≡ front ++ x ∷ []
+  pub is : get_or ks i x ≡ last
 
-split_last : {A : Type 0} (ks : List A) (i : ℕ) (x : A) → suc i ≡ length ks → EndsWith ks i x
+pub split_last : {A : Type 0} (ks : List A) (i : ℕ) (x : A) → suc i ≡ length ks → EndsWith ks i x
 split_last [] i x e = absurd (omega arith)
 split_last (k ∷ []) zero x e = record { front = []; last = k; whole = refl; marked = refl; is = refl }
 split_last (k ∷ []) (suc i) x e = absurd (omega arith)
@@ -109,7 +110,7 @@ pub record IsNewLine {A B : Type 0} (settings : List Token) (ks : List (Kept A))
   pub marks : IsMarked (us_of settings own) (meant settings r) k.marks
   pub fixed : k.fixed ≡ unwrap_or (option_map (λ b. b && is_some own) (settles_said r)) (is_ready (tape_of ks))
 
-told_line : {A B : Type 0} (settings : List Token) (ks : List (Kept A)) (k : Kept A) (r : Telling B) (own : Option Text) → IsNewLine settings ks k r own → meant settings r ≡ told (settings_of (tape_of ks)) (Received k.line)
+pub told_line : {A B : Type 0} (settings : List Token) (ks : List (Kept A)) (k : Kept A) (r : Telling B) (own : Option Text) → IsNewLine settings ks k r own → meant settings r ≡ told (settings_of (tape_of ks)) (Received k.line)
 told_line settings ks k r own h = h.tells settings ∙ ap (λ s. told s (Received k.line)) (sym h.in_force)
 
 line_is_marked : {A B : Type 0} (settings : List Token) (ks : List (Kept A)) (k : Kept A) (r : Telling B) (own : Option Text) → IsNewLine settings ks k r own → IsMarkedLine (tape_of ks) k
@@ -138,7 +139,7 @@ pub supports_settings : {B : Type 0} (settings new : List Token) (l : Parts) (r 
     settings_after (meant settings r) (record { own = own; ready = ready; settings = settings }) ≡ new
 supports_settings settings new l r x own ready tells supports welcomed unready is =
     let command : has_command l (codes "005") ≡ true = supports_said settings l x.now.params (sym (tells settings) ∙ ap (meant settings) supports) in
-    ap (λ t. settings_after t (record { own = own; ready = ready; settings = settings })) (tells settings ∙ isupport_told settings l command)
+    ap (λ t. settings_after t (record { own = own; ready = ready; settings = settings })) (tells settings ∙ told_of_isupport settings l command)
     ∙ ap (λ b. cond (b && not ready) (set_tokens settings l.params) settings) welcomed
     ∙ ap (λ b. cond (not b) (set_tokens settings l.params) settings) unready
     ∙ ap (λ b. cond b (set_tokens settings l.params) settings) (sym command)
@@ -160,6 +161,11 @@ idle_settings settings (telling.Parted channel who) own ready w s = refl
 idle_settings settings (telling.Kicked channel who) own ready w s = refl
 idle_settings settings (telling.Quits who) own ready w s = refl
 idle_settings settings (telling.Titled channel text) own ready w s = refl
+idle_settings settings (telling.Changed channel line) own ready w s = refl
+idle_settings settings (telling.Listed channel line) own ready w s = refl
+idle_settings settings (telling.Present channel line) own ready w s = refl
+idle_settings settings (telling.HasAccount who account) own ready w s = refl
+idle_settings settings (telling.IsAway who text) own ready w s = refl
 idle_settings settings (telling.Renamed old new) own ready w s = refl
 
 -- the settings after one more line

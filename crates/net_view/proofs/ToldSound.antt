@@ -13,7 +13,7 @@ use Rattle.irc_support.specs.NamesReply.{words, word_of, words_between}
 use Rattle.net_view.specs.Names.{Name, name_of, nameable}
 use Rattle.net_view.specs.Told.{Told, LetterChange, Silent, Welcomed, Settles, Joined, Parted, Kicked, Quits, Renamed, HasAccount, IsAway}
 use Rattle.net_view.specs.Arrival.{Arrival, Received, Lost}
-use Rattle.net_view.specs.StateLines.{told_by_welcome, told_by_join, told_by_part, told_by_kick, told_by_quit, told_by_nick, told_by_mode, told_by_mode_reply, told_by_topic_at, told_by_no_topic, told_by_names, told_by_account, told_by_away, with, actor, or_silent, unless_empty, account_said, letter_change, mode_change, listing, told_by_any_line, is_state_line, told}
+use Rattle.net_view.specs.StateLines.{told_by_welcome, told_by_join, told_by_part, told_by_kick, told_by_quit, told_by_nick, told_by_mode, told_by_mode_reply, told_by_topic_at, told_by_no_topic, told_by_names, told_by_account, told_by_away, with, actor, or_silent, unless_empty, account_said, letter_change, mode_change, listing, state_lines, told}
 use Rattle.net_view.specs.Sound.{rank_limit, IsFilled, IsAccount}
 use Rattle.net_view.proofs.PartsSound.{IsSoundName, IsSoundListing, Each, IsSoundMode, IsSoundTold, each_found, then_sound, map_sound, or_sound, when_sound, nameable_sound, actor_sound, filled_sound, account_sound, mode_sound, letter_sound, listing_sound}
 
@@ -95,7 +95,8 @@ away_sound : (settings : List Token) (line : Parts) → IsSoundTold settings (to
 away_sound settings line = quietly settings _ (by_person settings (actor settings line) (λ (who : Name). IsAway who.key (with line 0 unless_empty)) (actor_sound settings line)
     (λ who n. then_sound IsFilled (slice_get line.params 0) unless_empty filled_sound))
 
-pub line_sound : (settings : List Token) (line : Parts) → IsSoundTold settings (told_by_any_line settings line)
+line_sound : (settings : List Token) (line : Parts) → IsSoundTold settings (told settings (Received line))
+unfolding told state_lines
 line_sound settings line =
     either_sound settings (has_command line (codes "001")) _ _ (welcome_sound settings line)
     (either_sound settings (has_command line (codes "005")) _ _ tt
@@ -115,8 +116,8 @@ line_sound settings line =
     (either_sound settings (has_command line (codes "ACCOUNT")) _ _ (account_line_sound settings line)
     (either_sound settings (has_command line (codes "AWAY")) _ _ (away_sound settings line) tt))))))))))))))))
 
--- what any item tells is well formed, whichever lines the views read
+-- what any item tells is well formed
 pub told_sound : (settings : List Token) (x : Arrival) → IsSoundTold settings (told settings x)
 unfolding told
-told_sound settings (Received line) = either_sound settings (is_state_line line) (told_by_any_line settings line) Silent (line_sound settings line) tt
+told_sound settings (Received line) = line_sound settings line
 told_sound settings Lost = tt

@@ -1,39 +1,20 @@
--- Worked transcripts as text, read with all state lines, whichever the views read.
+-- Worked transcripts as text.
 use Rattle.std.specs.Prelude.{ℕ, List, [], ◌∷◌, ◌++◌, map, reverse, filter, if◌then◌else◌}
 use Rattle.std.proofs.Common.{Option, Some, None, codes}
 use Rattle.irc_line.specs.Reading.{parts_of}
 use Rattle.irc_support.specs.Text.{Text}
-use Rattle.irc_support.specs.Tokens.{Token}
 use Rattle.irc_support.specs.Ranks.{ranks_that}
-use Rattle.net_view.specs.Told.{Told, Disconnected}
-use Rattle.net_view.specs.Arrival.{Arrival, Received, Lost}
-use Rattle.net_view.specs.StateLines.{told_by_any_line}
-use Rattle.net_view.specs.Transcript.{Standing, standing, standing_after, Reading}
+use Rattle.net_view.specs.Arrival.{Arrival, Received}
+use Rattle.net_view.specs.Transcript.{Reading, readings_of}
 use Rattle.net_view.specs.Members.{is_member, rank_decided}
 use Rattle.net_view.specs.Facts.{spelling_of, account_of, away_of}
-
-abbrev pub tells : List Token → Arrival → Told
-tells settings (Received line) = told_by_any_line settings line
-tells settings Lost = Disconnected
-
-abbrev pub stands : List Arrival → Standing
-stands [] = standing []
-stands (x ∷ older) = next (stands older) where
-  next : Standing → Standing
-  next s = standing_after (tells s.settings x) s
-
-abbrev pub reads : List Arrival → List Reading
-reads [] = []
-reads (x ∷ older) = next (stands older) ∷ reads older where
-  next : Standing → Reading
-  next s = record { before = s; told = tells s.settings x }
 
 -- a transcript, the oldest line first
 abbrev pub heard : List Text → List Arrival
 heard lines = reverse (map (λ line. Received (parts_of line)) lines)
 
 abbrev pub read : List Text → List Reading
-read lines = reads (heard lines)
+read lines = readings_of (heard lines)
 
 -- the readings of what came after the first lines alone
 abbrev pub newest : {A : Type 0} → List Text → List A → List A

@@ -30,4 +30,7 @@ pub mod Found
 pub mod Tells
 pub mod Tape
 pub mod Least
+pub mod Letters
 pub mod Shown
+pub mod NameCount
+pub mod KnownFacts

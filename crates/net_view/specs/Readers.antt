@@ -1,6 +1,7 @@
 -- What the readers of a network view answer, by places in key order, counted from 0.
 use Rattle.std.specs.Prelude.{ℕ, List, length, slice_get}
 use Rattle.std.specs.Option.{option_and_then, option_map, option_map_or, unwrap_or}
+use Rattle.std.specs.Borrow.{Bor}
 use Rattle.std.specs.FinMap as map
 use Rattle.std.proofs.Common.{Option}
 use Rattle.irc_support.specs.Text.{Text}
@@ -19,6 +20,10 @@ channel_shown v i = option_map (λ e. e.1) (slice_get (map.entries v.channels) i
 -- parameter, where it has one
 abbrev pub mode_shown : View → ℕ → ℕ → Option (ℕ × Option Text)
 mode_shown v i j = option_and_then (λ (ch : Channel). slice_get (map.entries ch.modes) j) (channel_shown v i)
+
+-- a mode, from its letter and a reference to its parameter
+abbrev pub mode_parts : ℕ × Option (Bor Text) → ℕ × Option Text
+mode_parts mode = (mode.0, option_map (λ param. param.now) mode.1)
 
 -- how many members the channel at this place has
 abbrev pub members_shown : View → ℕ → ℕ

@@ -1,11 +1,15 @@
 -- What is shown by place: channels, or the members of a channel.
-use Rattle.std.specs.Prelude.{ℕ, Bool, List, [], ◌∷◌, is_some, length, slice_get}
+use Rattle.std.specs.Prelude.{ℕ, Bool, List, is_some, length, slice_get, map as map_list}
+use Rattle.std.specs.List.{filter_map}
 use Rattle.std.specs.Option.{option_map}
 use Rattle.std.specs.FinMap as map
-use Rattle.std.proofs.Common.{Option, Some, None}
+use Rattle.std.proofs.Common.{Option}
+use Rattle.irc_line.specs.Line.{Parts}
+use Rattle.irc_support.specs.Line.{words_in}
 use Rattle.net_view.specs.Text.{Text}
 use Rattle.net_view.specs.Tokens.{Token}
 use Rattle.net_view.specs.Settings.{key_by}
+use Rattle.net_view.specs.StateLines.{listing}
 use Rattle.net_view.specs.Told as spec
 use Rattle.net_view.specs.Transcript.{Reading}
 use Rattle.net_view.specs.Presence.{name_on}
@@ -15,10 +19,9 @@ use Rattle.net_view.specs.View.{channels_of, members_of}
 use Rattle.net_view.specs.declared.shown.Shown.{Shown}
 use Rattle.net_view.specs.declared.shown.Shown.TheVariants.{Channels, Members}
 
--- the key of a name, as a list
-abbrev pub key_list : List Token → Option Text → List Text
-key_list settings None = []
-key_list settings (Some name) = key_by settings name ∷ []
+-- the keys of the members that a 353 names
+abbrev pub keys_listed : List Token → Parts → List Text
+keys_listed settings line = map_list (λ l. l.person.key) (filter_map (listing settings) (words_in settings line))
 
 -- the keys that an item names
 abbrev pub names_in : Shown → spec.Told → List Text

@@ -172,7 +172,7 @@ abbrev pub state_line : Text → (List Token → Parts → Told) → StateLine
 state_line command tells = record { command = command; tells = tells }
 
 -- the seventeen state lines
-abbrev pub state_lines : List StateLine
+unfoldable pub state_lines : List StateLine
 state_lines =
     state_line (codes "001") told_by_welcome
     ∷ state_line (codes "005") told_by_isupport
@@ -198,17 +198,13 @@ abbrev pub told_by : List StateLine → List Token → Parts → Told
 told_by [] settings line = Silent
 told_by (s ∷ lines) settings line = if has_command line s.command then s.tells settings line else told_by lines settings line
 
--- what any line tells
-abbrev pub told_by_any_line : List Token → Parts → Told
-told_by_any_line = told_by state_lines
+-- whether it is one of these
+abbrev pub is_of : List StateLine → Parts → Bool
+is_of lines line = list_any (λ s. has_command line s.command) lines
 
--- The commands that the views read. No law opens this list, so each holds whichever lines stand in it.
-unfoldable pub commands_read : List Text
-commands_read = codes "001" ∷ codes "005" ∷ codes "376" ∷ codes "422" ∷ codes "JOIN" ∷ codes "PART" ∷ codes "KICK" ∷ codes "QUIT" ∷ codes "NICK" ∷ codes "TOPIC" ∷ codes "332" ∷ codes "331" ∷ []
-
--- whether a line can tell something
+-- whether a line can tell something: whether it is a state line
 abbrev pub is_state_line : Parts → Bool
-is_state_line line = list_any (has_command line) commands_read
+is_state_line = is_of state_lines
 
 -- whether an item can tell something: a state line, and a loss
 abbrev pub is_state_item : Arrival → Bool
@@ -222,5 +218,5 @@ may_need_memory Lost = false
 
 -- what an item tells
 unfoldable pub told : List Token → Arrival → Told
-told settings (Received line) = if is_state_line line then told_by_any_line settings line else Silent
+told settings (Received line) = told_by state_lines settings line
 told settings Lost = Disconnected

@@ -1,15 +1,18 @@
 -- What a line tells, with names as they are spelled, and what it means; and the marks of who is us.
 use Rattle.std.specs.Prelude.{◌≡◌, Bool, true, false, List, if◌then◌else◌}
+use Rattle.std.specs.List.{filter_map}
 use Rattle.std.specs.Option.{option_map, option_map_or}
 use Rattle.std.proofs.Common.{Option, Some, None}
 use Rattle.irc_support.specs.Text.{Text}
 use Rattle.irc_support.specs.Tokens.{Token}
 use Rattle.irc_support.specs.Settings.{is_channel, key_by}
+use Rattle.irc_support.specs.Line.{changes_in, words_in}
 use Rattle.net_view.specs.Names.{name_of, same}
 use Rattle.net_view.specs.Told as spec
+use Rattle.net_view.specs.StateLines.{letter_change, mode_change, listing}
 use Rattle.net_view.specs.declared.told.Marks.{Marks}
 use Rattle.net_view.specs.declared.told.Telling.{Telling}
-use Rattle.net_view.specs.declared.told.Telling.TheVariants.{Silent, Welcomed, Supports, Settles, Joined, Parted, Kicked, Quits, Renamed, Titled}
+use Rattle.net_view.specs.declared.told.Telling.TheVariants.{Silent, Welcomed, Supports, Settles, Joined, Parted, Kicked, Quits, Renamed, Changed, Listed, Titled, Present, HasAccount, IsAway}
 
 -- what it means under these settings
 abbrev pub meant : {A : Type 0} → List Token → Telling A → spec.Told
@@ -22,6 +25,11 @@ meant settings (Parted channel who) = spec.Parted (key_by settings channel.now) 
 meant settings (Kicked channel who) = spec.Kicked (key_by settings channel.now) (key_by settings who.now)
 meant settings (Quits who) = spec.Quits (key_by settings who.now)
 meant settings (Renamed old new) = spec.Renamed (key_by settings old.now) (name_of settings new.now)
+meant settings (Changed channel line) = spec.Changed (key_by settings channel.now) (filter_map (letter_change settings) (changes_in settings line.now)) (filter_map (mode_change settings) (changes_in settings line.now))
+meant settings (Listed channel line) = spec.Listed (key_by settings channel.now) (filter_map (mode_change settings) (changes_in settings line.now))
+meant settings (Present channel line) = spec.Present (key_by settings channel.now) (filter_map (listing settings) (words_in settings line.now))
+meant settings (HasAccount who account) = spec.HasAccount (key_by settings who.now) (option_map (λ name. name.now) account)
+meant settings (IsAway who text) = spec.IsAway (key_by settings who.now) (option_map (λ t. t.now) text)
 meant settings (Titled channel text) = spec.Titled (key_by settings channel.now) (option_map (λ t. t.now) text)
 
 -- whether a key is that of this nick of ours, under these settings

@@ -1,5 +1,7 @@
 //! What the readers of a network view lend of a channel and of a member.
 
+use irc_support::Ranks;
+
 /// A channel that we are on.
 #[derive(Clone, Copy)]
 pub struct Channel<'a> {
@@ -14,4 +16,10 @@ pub struct Channel<'a> {
 pub struct Member<'a> {
     /// The nick, as spelled last.
     pub nick: &'a [u8],
+    /// The ranks held on this channel, as that of an operator.
+    pub ranks: Ranks,
+    /// The account, where one is known; never empty, and not `*` (IRCv3 extended-join, account-notify).
+    pub account: Option<&'a [u8]>,
+    /// The away text, where the person is known to be away; never empty (IRCv3 away-notify).
+    pub away: Option<&'a [u8]>,
 }

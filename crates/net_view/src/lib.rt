@@ -3,8 +3,13 @@
 
 mod channel;
 mod facts;
+mod held;
 mod item;
+mod known;
 mod laws;
+mod listed;
+mod modes;
+mod name_count;
 mod network_view;
 mod shown;
 mod tape;

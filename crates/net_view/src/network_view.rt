@@ -6,6 +6,7 @@ ghost use Rattle.net_view.specs.Arrival.{Arrival, arrival_of};
 ghost use Rattle.net_view.specs.StateLines.{may_need_memory};
 ghost use Rattle.net_view.specs.View.{View, view_of};
 ghost use Rattle.net_view.specs.Readers.{channels_shown, channel_shown, members_shown, member_shown};
+ghost use Rattle.net_view.specs.Readers.{account_shown, mode_parts, mode_shown};
 
 use crate::OutOfMemory;
 use crate::channel::{Channel, Member};
@@ -59,6 +60,11 @@ pub trait NetworkView {
         ensures topic { option_map (λ channel. option_map (λ topic. topic.now) channel.topic) result
             ≡ option_map (λ channel. channel.topic) (channel_shown (view self.now) i) };
 
+    /// The mode at place `j` of the channel at place `i`: its letter, and its parameter, where it has one. Modes
+    /// are ordered by the bytes of their letters; `None` behind the last one.
+    fn mode_at(&self, i: usize, j: usize) -> Option<(u8, Option<&[u8]>)>
+        ensures { option_map mode_parts result ≡ mode_shown (view self.now) i j };
+
     /// How many members the channel at place `i` has, we among them; 0 from `channel_count` on.
     fn member_count(&self, i: usize) -> usize
         ensures { result ≡ members_shown (view self.now) i };
@@ -66,5 +72,16 @@ pub trait NetworkView {
     /// The member at place `j` of the channel at place `i`; `None` from `member_count` on.
     fn member_at(&self, i: usize, j: usize) -> Option<Member<'_>>
         ensures nick { option_map (λ member. member.nick.now) result
-            ≡ option_map (λ member. member.nick) (member_shown (view self.now) i j) };
+            ≡ option_map (λ member. member.nick) (member_shown (view self.now) i j) }
+        ensures ranks { option_map (λ member. member.ranks) result
+            ≡ option_map (λ member. member.ranks) (member_shown (view self.now) i j) }
+        ensures account { option_map (λ member. option_map (λ name. name.now) member.account) result
+            ≡ option_map (λ member. member.account) (member_shown (view self.now) i j) }
+        ensures away { option_map (λ member. option_map (λ text. text.now) member.away) result
+            ≡ option_map (λ member. member.away) (member_shown (view self.now) i j) };
+
+    /// The account of the person of this nick, where one is known: that of somebody who is a member of a
+    /// channel that we are on.
+    fn account_of(&self, nick: &[u8]) -> Option<&[u8]>
+        ensures { option_map (λ name. name.now) result ≡ account_shown (view self.now) nick.now };
 }

@@ -6,14 +6,17 @@ ghost use Rattle.irc_support.specs.Tokens.{Token};
 ghost use Rattle.irc_support.specs.Settings.{key_by};
 ghost use Rattle.net_view.specs.Names.{bytes_cmp};
 ghost use Rattle.net_view.specs.Transcript.{readings_of};
+ghost use Rattle.net_view.specs.Named.{named};
 ghost use Rattle.net_view.specs.Tells.{meant};
 ghost use Rattle.net_view.specs.Tape.{tape_of, IsReadable};
-ghost use Rattle.net_view.specs.Least.{above, considered, improves, key_in, IsNext};
-ghost use Rattle.net_view.specs.Shown.{key_list, names_in, is_shown, shown_key, shown_len};
+ghost use Rattle.net_view.specs.Least.{above, better, considered, improves, key_in, IsNext};
+ghost use Rattle.net_view.specs.Shown.{keys_listed, names_in, is_shown, shown_key, shown_len};
 
 use crate::tape::{Kept, is_member, name_on};
 use crate::told::{Telling, told};
-use irc_support::Support;
+use irc_line::Line;
+use irc_names::is_nameable;
+use irc_support::{Support, names};
 use std::alloc::Allocator;
 
 /// What is looked for by place: the channels that we are on, or the members of the channel of this name.
@@ -21,19 +24,6 @@ use std::alloc::Allocator;
 pub(crate) enum Shown<'a> {
     Channels,
     Members(&'a [u8]),
-}
-
-/// The name that a line brings up: a channel's or a person's.
-fn named_by<'a, A: Allocator>(shown: Shown<'_>, telling: &Telling<'a, A>) -> Option<&'a [u8]>
-    ensures { (settings : List Token) →
-        key_list settings (option_map (λ name. name.now) result)
-        ≡ names_in shown.entry (meant settings telling.now) }
-{
-    match (shown, telling) {
-        (Shown::Channels, Telling::Joined(name, _, _)) => Some(*name),
-        (Shown::Members(_), Telling::Joined(_, who, _) | Telling::Renamed(_, who)) => Some(*who),
-        _ => None,
-    }
 }
 
 /// Whether what has this name is there.
@@ -85,9 +75,57 @@ fn is_better<S: Allocator>(support: &Support<S>, best: Option<&[u8]>, name: &[u8
     }
 }
 
-/// The best so far, or what a line names where that is there, above the given one and before the best.
-fn consider<'a, A: Allocator>(
+/// The best so far, or this name, where it is there, above the given one and before the best.
+fn better<'a, A: Allocator>(
     support: &Support<A>,
+    kept: &[Kept<A>],
+    shown: Shown<'_>,
+    after: Option<&[u8]>,
+    best: Option<&'a [u8]>,
+    name: &'a [u8],
+) -> Option<&'a [u8]>
+    requires { IsReadable support.now kept.now }
+    ensures { key_in support.now (option_map (λ n. n.now) result)
+        ≡ better (is_shown support.now shown.entry (readings_of (tape_of kept.now)))
+        (key_in support.now (option_map (λ a. a.now) after.entry)) (key_in support.now (option_map
+        (λ b. b.now) best.entry)) (key_by support.now name.now) }
+{
+    if is_above(support, after, name)
+        && is_better(support, best, name)
+        && is_there(support, kept, shown, name)
+    {
+        Some(name)
+    } else {
+        best
+    }
+}
+
+/// The best so far, or the best of the members that a 353 names.
+fn best_listed<'a, A: Allocator>(
+    support: &'a Support<A>,
+    kept: &[Kept<A>],
+    shown: Shown<'_>,
+    after: Option<&[u8]>,
+    mut best: Option<&'a [u8]>,
+    line: &'a Line<A>,
+) -> Option<&'a [u8]>
+    requires { IsReadable support.now kept.now }
+    ensures { key_in support.now (option_map (λ n. n.now) result)
+        ≡ considered (is_shown support.now shown.entry (readings_of (tape_of kept.now)))
+        (key_in support.now (option_map (λ a. a.now) after.entry)) (key_in support.now (option_map
+        (λ b. b.now) best.entry)) (keys_listed support.now line.now) }
+{
+    for (_ranks, name) in names(support, line) {
+        if is_nameable(name) {
+            best = better(support, kept, shown, after, best, name);
+        }
+    }
+    best
+}
+
+/// The best so far, or the best of what a line names.
+fn consider<'a, A: Allocator>(
+    support: &'a Support<A>,
     kept: &[Kept<A>],
     shown: Shown<'_>,
     after: Option<&[u8]>,
@@ -100,22 +138,23 @@ fn consider<'a, A: Allocator>(
         (key_in support.now (option_map (λ a. a.now) after.entry)) (key_in support.now (option_map
         (λ b. b.now) best.entry)) (names_in shown.entry (meant support.now telling.now)) }
 {
-    let Some(name) = named_by(shown, telling) else {
-        return best;
-    };
-    if is_above(support, after, name)
-        && is_better(support, best, name)
-        && is_there(support, kept, shown, name)
-    {
-        Some(name)
-    } else {
-        best
+    match (shown, telling) {
+        (Shown::Channels, Telling::Joined(name, _, _)) => {
+            better(support, kept, shown, after, best, name)
+        }
+        (Shown::Members(_), Telling::Joined(_, who, _) | Telling::Renamed(_, who)) => {
+            better(support, kept, shown, after, best, who)
+        }
+        (Shown::Members(_), Telling::Present(_, line)) => {
+            best_listed(support, kept, shown, after, best, line)
+        }
+        _ => best,
     }
 }
 
 /// The name with the least key above the given one, among what is there.
 pub(crate) fn next_shown<'a, A: Allocator>(
-    support: &Support<A>,
+    support: &'a Support<A>,
     kept: &'a [Kept<A>],
     shown: Shown<'_>,
     after: Option<&[u8]>,
@@ -143,7 +182,7 @@ pub(crate) fn next_shown<'a, A: Allocator>(
 
 /// The name at a place, counted from 0, in the order of the keys.
 pub(crate) fn shown_at<'a, A: Allocator>(
-    support: &Support<A>,
+    support: &'a Support<A>,
     kept: &'a [Kept<A>],
     shown: Shown<'_>,
     place: usize,
@@ -169,7 +208,7 @@ pub(crate) fn shown_count<A: Allocator>(
     shown: Shown<'_>,
 ) -> usize
     requires readable { IsReadable support.now kept.now }
-    requires few { length kept.now < 2 ^ 64 }
+    requires few { length (named (names_in shown) (readings_of (tape_of kept.now))) < 2 ^ 64 }
     ensures { result ≡ shown_len support.now shown.entry (readings_of (tape_of kept.now)) }
 {
     let mut count = 0;

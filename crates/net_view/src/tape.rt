@@ -14,6 +14,7 @@ ghost use Rattle.net_view.specs.Facts.{in_sight, says_spelling, spelling_of};
 ghost use Rattle.net_view.specs.Tells.{us_of, meant, IsMarked};
 ghost use Rattle.net_view.specs.Tape.{tape_of, IsMarkedTape, IsReadable};
 
+use crate::listed::{is_same, lists, spelled_in};
 use crate::told::{Marks, Telling, told};
 use irc_line::Line;
 use irc_support::Support;
@@ -27,13 +28,6 @@ pub(crate) struct Kept<A: Allocator> {
     pub(crate) marks: Marks,
     pub(crate) fixed: bool,
     pub(crate) lost: bool,
-}
-
-/// Whether the two are one name.
-fn is_same<S: Allocator>(support: &Support<S>, a: &[u8], b: &[u8]) -> bool
-    ensures { result ≡ same (key_by support.now a.now) (key_by support.now b.now) }
-{
-    support.mapping().same(a, b)
 }
 
 /// Whether this is a nick of ours.
@@ -64,7 +58,7 @@ pub(crate) fn marks_of<S: Allocator, A: Allocator>(
 }
 
 /// What a line says of our being on a channel: nothing, that we are not on it, or its name.
-fn says_on<'a, S: Allocator, A: Allocator>(
+pub(crate) fn says_on<'a, S: Allocator, A: Allocator>(
     support: &Support<S>,
     telling: &Telling<'a, A>,
     marks: Marks,
@@ -162,6 +156,13 @@ fn says_member<S: Allocator, A: Allocator>(
                 None
             }
         }
+        Telling::Present(name, line) => {
+            if is_same(support, channel, name) && lists(support, line, nick) {
+                Some(true)
+            } else {
+                None
+            }
+        }
         Telling::Parted(name, who) | Telling::Kicked(name, who) => {
             if is_same(support, channel, name) && is_same(support, nick, who) {
                 Some(false)
@@ -174,7 +175,7 @@ fn says_member<S: Allocator, A: Allocator>(
 }
 
 /// The name that a person had before a line; `None` where nobody of before is that person.
-fn name_before<'a, S: Allocator, A: Allocator>(
+pub(crate) fn name_before<'a, S: Allocator, A: Allocator>(
     support: &Support<S>,
     telling: &Telling<'a, A>,
     marks: Marks,
@@ -333,8 +334,8 @@ pub(crate) fn is_member<A: Allocator>(
 }
 
 /// The nick of this person, where the last of these lines, which tells this, spells it.
-fn spelled_by<'a, A: Allocator>(
-    support: &Support<A>,
+pub(crate) fn spelled_by<'a, A: Allocator>(
+    support: &'a Support<A>,
     kept: &[Kept<A>],
     telling: &Telling<'a, A>,
     marks: Marks,
@@ -354,6 +355,13 @@ fn spelled_by<'a, A: Allocator>(
                 None
             }
         }
+        Telling::Present(channel, line) => {
+            if name_on(support, kept, channel).is_some() {
+                spelled_in(support, line, nick)
+            } else {
+                None
+            }
+        }
         Telling::Renamed(_, new) => {
             if is_same(support, nick, new) && (marks.by_us || !marks.names_us) {
                 Some(*new)
@@ -367,7 +375,7 @@ fn spelled_by<'a, A: Allocator>(
 
 /// The nick of a person in sight, as spelled last.
 pub(crate) fn spelling_in<'a, A: Allocator>(
-    support: &Support<A>,
+    support: &'a Support<A>,
     kept: &'a [Kept<A>],
     nick: &[u8],
 ) -> Option<&'a [u8]>

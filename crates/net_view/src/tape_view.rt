@@ -4,7 +4,11 @@ ghost use Rattle.std.specs.Prelude.{◌≡◌, [], IfOk};
 
 use crate::OutOfMemory;
 use crate::channel::{Channel, Member};
+use crate::held::ranks_in;
 use crate::item::Item;
+use crate::known::{Fact, fact_in};
+use crate::modes::{letter_at, mode_in};
+use crate::name_count::with_named;
 use crate::network_view::NetworkView;
 use crate::shown::{Shown, shown_at, shown_count};
 use crate::tape::{Kept, marks_of, name_on, own_in, ready_in, spelling_in, topic_in};
@@ -25,19 +29,22 @@ pub struct TapeView<A: Allocator = Global> {
     kept: Vec<Kept<A>, A>,
     // the settings in force
     support: Support<A>,
+    // how many names of channels and persons the kept lines bring up
+    names: usize,
 }
 
 impl<A: Allocator> Model for TapeView<A> {
     ghost use Rattle.std.specs.Prelude.{◌≡◌, List};
     ghost use Rattle.net_view.specs.Transcript.{settings_of};
     ghost use Rattle.net_view.specs.Arrival.{Arrival};
+    ghost use Rattle.net_view.specs.NameCount.{IsCounted};
     ghost use Rattle.net_view.specs.Tape.{tape_of, IsMarkedTape};
 
     ghost Value = { List Arrival };
 
     ghost view = { λ v. tape_of v.kept.items };
 
-    ghost invariant = { λ v. IsMarkedTape v.kept.items × (settings_of (tape_of v.kept.items) ≡ v.support) };
+    ghost invariant = { λ v. IsMarkedTape v.kept.items × (settings_of (tape_of v.kept.items) ≡ v.support) × IsCounted v.kept.items v.names };
 }
 
 impl<A: Allocator + Copy> TapeView<A> {
@@ -49,6 +56,7 @@ impl<A: Allocator + Copy> TapeView<A> {
         Ok(TapeView {
             kept: Vec::new(alloc),
             support,
+            names: 0,
         })
     }
 }
@@ -68,6 +76,7 @@ impl<A: Allocator + Copy> TapeView<A> {
         let welcomed = own.is_some();
         let ready = ready_in(&self.kept);
         let fixed = telling.fixes(welcomed, ready);
+        let names = with_named(&self.support, &telling, self.names).ok_or(OutOfMemory)?;
         let line_kept = line.copy_in(*self.kept.allocator())?;
         let kept = Kept {
             line: line_kept,
@@ -80,6 +89,7 @@ impl<A: Allocator + Copy> TapeView<A> {
                 let support = Support::new(*self.kept.allocator())?;
                 self.kept.push(kept)?;
                 self.support = support;
+                self.names = names;
             }
             Telling::Supports(_) if welcomed && !ready => {
                 self.kept.push(kept)?;
@@ -87,8 +97,12 @@ impl<A: Allocator + Copy> TapeView<A> {
                     let _ = self.kept.pop();
                     return Err(refused);
                 }
+                self.names = names;
             }
-            _ => self.kept.push(kept)?,
+            _ => {
+                self.kept.push(kept)?;
+                self.names = names;
+            }
         }
         Ok(())
     }
@@ -145,6 +159,13 @@ impl<A: Allocator + Copy> NetworkView for TapeView<A> {
         Some(Channel { name, topic })
     }
 
+    fn mode_at(&self, i: usize, j: usize) -> Option<(u8, Option<&[u8]>)> {
+        let channel = shown_at(&self.support, &self.kept, Shown::Channels, i)?;
+        let letter = letter_at(&self.support, &self.kept, channel, j)?;
+        let param = mode_in(&self.support, &self.kept, channel, letter)?;
+        Some((letter, param))
+    }
+
     fn member_count(&self, i: usize) -> usize {
         match shown_at(&self.support, &self.kept, Shown::Channels, i) {
             Some(channel) => shown_count(&self.support, &self.kept, Shown::Members(channel)),
@@ -156,6 +177,18 @@ impl<A: Allocator + Copy> NetworkView for TapeView<A> {
         let channel = shown_at(&self.support, &self.kept, Shown::Channels, i)?;
         let member = shown_at(&self.support, &self.kept, Shown::Members(channel), j)?;
         let nick = spelling_in(&self.support, &self.kept, member)?;
-        Some(Member { nick })
+        let account = fact_in(&self.support, &self.kept, member, Fact::Account);
+        let away = fact_in(&self.support, &self.kept, member, Fact::Away);
+        let ranks = ranks_in(&self.support, &self.kept, channel, member);
+        Some(Member {
+            nick,
+            ranks,
+            account,
+            away,
+        })
+    }
+
+    fn account_of(&self, nick: &[u8]) -> Option<&[u8]> {
+        fact_in(&self.support, &self.kept, nick, Fact::Account)
     }
 }

@@ -2,6 +2,7 @@
 
 use super::*;
 use irc_line::Line;
+use irc_support::Ranks;
 use std::alloc::Global;
 use std::process::Abort;
 use std::test::Fail;
@@ -14,17 +15,62 @@ fn item(alloc: Global, text: &[u8]) -> Result<Item, Fail> {
     Ok(Item::Line(line.ok_or("the text is a line")?))
 }
 
-/// The members of a channel, in order.
-fn show_members<V: NetworkView>(view: &V, channel: usize, text: &mut Vec<u8>) -> Result<(), Fail> {
-    for place in 0..view.member_count(channel) {
-        let member = view.member_at(channel, place).ok_or("no such member")?;
-        text.push(b' ')?;
-        text.extend_from_slice(member.nick)?;
+/// The modes of a channel in braces, in order, each with its parameter.
+fn show_modes<V: NetworkView>(view: &V, channel: usize, text: &mut Vec<u8>) -> Result<(), Fail> {
+    if view.mode_at(channel, 0).is_none() {
+        return Ok(());
+    }
+    text.push(b' ')?;
+    text.push(b'{')?;
+    for place in 0..256 {
+        let Some((letter, param)) = view.mode_at(channel, place) else {
+            break;
+        };
+        if place > 0 {
+            text.push(b' ')?;
+        }
+        text.push(letter)?;
+        text.extend_from_slice(param.unwrap_or(b""))?;
+    }
+    text.push(b'}')?;
+    Ok(())
+}
+
+/// The symbols of a set of ranks, the highest first.
+fn show_ranks<V: NetworkView>(view: &V, ranks: Ranks, text: &mut Vec<u8>) -> Result<(), Fail> {
+    for rank in 0..16 {
+        if ranks.has(rank) {
+            let symbol = view.support().symbol(rank).ok_or("no such rank")?;
+            text.push(symbol)?;
+        }
     }
     Ok(())
 }
 
-/// Our nick, then each channel with its topic in brackets and its members, in order.
+/// A text behind a mark, where there is one.
+fn show_fact(mark: u8, fact: Option<&[u8]>, text: &mut Vec<u8>) -> Result<(), Fail> {
+    if let Some(fact) = fact {
+        text.push(mark)?;
+        text.extend_from_slice(fact)?;
+    }
+    Ok(())
+}
+
+/// The members of a channel, in order: symbols, nick, an account behind `=`, an away text behind `~`.
+fn show_members<V: NetworkView>(view: &V, channel: usize, text: &mut Vec<u8>) -> Result<(), Fail> {
+    for place in 0..view.member_count(channel) {
+        if let Some(member) = view.member_at(channel, place) {
+            text.push(b' ')?;
+            show_ranks(view, member.ranks, text)?;
+            text.extend_from_slice(member.nick)?;
+            show_fact(b'=', member.account, text)?;
+            show_fact(b'~', member.away, text)?;
+        }
+    }
+    Ok(())
+}
+
+/// Our nick, then each channel with its modes, its topic in brackets and its members, in order.
 fn shown<V: NetworkView>(alloc: Global, view: &V) -> Result<Vec<u8>, Fail> {
     let mut text = Vec::new(alloc);
     if let Some(nick) = view.own() {
@@ -34,6 +80,7 @@ fn shown<V: NetworkView>(alloc: Global, view: &V) -> Result<Vec<u8>, Fail> {
         let channel = view.channel_at(place).ok_or("no such channel")?;
         text.extend_from_slice(b" / ")?;
         text.extend_from_slice(channel.name)?;
+        show_modes(view, place, &mut text)?;
         if let Some(topic) = channel.topic {
             text.extend_from_slice(b" [")?;
             text.extend_from_slice(topic)?;
@@ -249,5 +296,113 @@ fn what_readers_answer(rt: HostRuntime) -> Result<(), Fail> {
     assert!(rt; view.ready() && view.channel_count() == 1 && view.member_count(0) == 1);
     assert!(rt; view.channel_at(1).is_none() && view.member_count(1) == 0);
     assert!(rt; view.member_at(0, 1).is_none() && view.member_at(1, 0).is_none());
+    Ok(())
+}
+
+#[test]
+fn modes_in_the_order_of_their_letters(rt: HostRuntime) -> Result<(), Fail> {
+    check_rows(
+        &rt,
+        &[
+            (b":s 001 Me :hi", b"Me"),
+            (b":s 376 Me :end", b"Me"),
+            (b":s MODE #c +m", b"Me"),
+            (b":Me!m@h JOIN #c", b"Me / #c Me"),
+            (b":s MODE #c +tkn key", b"Me / #c {kkey n t} Me"),
+            (b":s MODE #C +lv-t 5 me", b"Me / #c {kkey l5 n} +Me"),
+            (b":s MODE #c +l 7", b"Me / #c {kkey l7 n} +Me"),
+            (b":s MODE #d +s", b"Me / #c {kkey l7 n} +Me"),
+            (b":s MODE #c -l+b-k x!*@* key", b"Me / #c {n} +Me"),
+            (b":s MODE #c +k :a b", b"Me / #c {n} +Me"),
+            (b":s 324 Me #c +il 3", b"Me / #c {i l3} +Me"),
+            (b":s MODE #c +zxZs", b"Me / #c {i l3 s} +Me"),
+            (b":s 324 Me #c", b"Me / #c +Me"),
+            (b":s MODE #c +i-i+i", b"Me / #c {i} +Me"),
+            (b":Me!m@h JOIN #c", b"Me / #c Me"),
+        ],
+    )
+}
+
+#[test]
+fn ranks_and_name_lists(rt: HostRuntime) -> Result<(), Fail> {
+    check_rows(
+        &rt,
+        &[
+            (b":s 001 Me :hi", b"Me"),
+            (b":s 005 Me PREFIX=(ov)@+ CHANTYPES=# :are supported", b"Me"),
+            (b":s 353 Me = #c :bob", b"Me"),
+            (b":Me!m@h JOIN #c", b"Me / #c Me"),
+            (
+                b":s 353 Me = #c :Me @+Bob!b@h +eve ~no @",
+                b"Me / #c @+Bob +eve Me",
+            ),
+            (b":s 353 Me = #d :zoe", b"Me / #c @+Bob +eve Me"),
+            (b":bob!b@h NICK rob", b"Me / #c +eve Me @+rob"),
+            (b":bob!b@h JOIN #c", b"Me / #c bob +eve Me @+rob"),
+            (
+                b":s MODE #c -o+v-v rob bob eve",
+                b"Me / #c +bob eve Me +rob",
+            ),
+            (b":s MODE #c -v+o Rob", b"Me / #c +bob eve Me rob"),
+            (
+                b":s MODE #c +v-v+v rob rob rob",
+                b"Me / #c +bob eve Me +rob",
+            ),
+            (
+                b":s 353 Me = #c :@eve bob +bob @bob",
+                b"Me / #c @bob @eve Me +rob",
+            ),
+            (b":eve!e@h PART #c", b"Me / #c @bob Me +rob"),
+            (b":s MODE #c +o eve", b"Me / #c @bob Me +rob"),
+            (b":eve!e@h JOIN #c", b"Me / #c @bob eve Me +rob"),
+            (b":bob!b@h JOIN #c", b"Me / #c bob eve Me +rob"),
+            (b":Me!m@h JOIN #c", b"Me / #c Me"),
+        ],
+    )
+}
+
+#[test]
+fn what_is_known_of_persons(rt: HostRuntime) -> Result<(), Fail> {
+    check_rows(
+        &rt,
+        &[
+            (b":s 001 Me :hi", b"Me"),
+            (b":bob!b@h ACCOUNT early", b"Me"),
+            (b":Me!m@h JOIN #c", b"Me / #c Me"),
+            (b":Me!m@h JOIN #d", b"Me / #c Me / #d Me"),
+            (
+                b":bob!b@h JOIN #c bobacc :Bob",
+                b"Me / #c bob=bobacc Me / #d Me",
+            ),
+            (
+                b":bob!b@h JOIN #d",
+                b"Me / #c bob=bobacc Me / #d bob=bobacc Me",
+            ),
+            (b":bob!b@h PART #c", b"Me / #c Me / #d bob=bobacc Me"),
+            (b":bob!b@h NICK rob", b"Me / #c Me / #d Me rob=bobacc"),
+            (b":rob!b@h ACCOUNT *", b"Me / #c Me / #d Me rob"),
+            (b":rob!b@h AWAY :lunch", b"Me / #c Me / #d Me rob~lunch"),
+            (b":rob!b@h ACCOUNT r", b"Me / #c Me / #d Me rob=r~lunch"),
+            (b":rob!b@h AWAY", b"Me / #c Me / #d Me rob=r"),
+            (b":rob!b@h PART #d", b"Me / #c Me / #d Me"),
+            (b":rob!b@h JOIN #c", b"Me / #c Me rob / #d Me"),
+        ],
+    )
+}
+
+#[test]
+fn accounts_by_nick(rt: HostRuntime) -> Result<(), Fail> {
+    let texts: [&[u8]; 3] = [
+        b":s 001 Me :hi",
+        b":Me!m@h JOIN #c",
+        b":bob!b@h JOIN #c bobacc :Bob",
+    ];
+    let mut view = TapeView::new(rt.alloc())?;
+    for text in texts {
+        view.take(&item(rt.alloc(), text)?)?;
+    }
+    assert!(rt; view.account_of(b"BOB") == Some(b"bobacc".as_slice()));
+    assert!(rt; view.account_of(b"Me").is_none());
+    assert!(rt; view.account_of(b"eve").is_none());
     Ok(())
 }

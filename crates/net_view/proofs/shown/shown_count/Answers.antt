@@ -5,7 +5,7 @@ use Rattle.net_view.specs.Tape.{tape_of}
 use Rattle.net_view.specs.Least.{key_in}
 use Rattle.net_view.specs.Shown.{shown_key}
 use Rattle.net_view.specs.Settings.{key_by}
-use Rattle.net_view.proofs.ShownPlaces.{key_zero, key_next, key_below, key_end, few_shown}
+use Rattle.net_view.proofs.ShownPlaces.{key_zero, key_next, key_below, key_end, len_few}
 use Rattle.net_view.proofs.shown.shown_count.Goals as goal
 
 pub loop-at-init : goal.loop-at-init
@@ -18,7 +18,7 @@ pub overflow_add-count : goal.overflow_add-count
 overflow_add-count g c =
     let here : Some (key_by c.args.support.now c.in-Some.name.now) ≡ shown_key c.args.support.now c.args.shown (readings_of (tape_of c.args.kept.now)) c.loop-at.count = ap (λ o. key_in c.args.support.now (option_map (λ n. n.now) o)) (sym c.in-Some.is) ∙ c.loop-at.invariant.here in
     let below = key_below c.args.support.now c.args.shown (readings_of (tape_of c.args.kept.now)) c.loop-at.count (key_by c.args.support.now c.in-Some.name.now) here in
-    let few = few_shown c.args.support.now c.args.shown c.args.kept.now in
+    let few = len_few c.args.support.now c.args.shown (readings_of (tape_of c.args.kept.now)) in
     omega (arith, below, few, c.requires.few)
 
 pub loop-at-smaller : goal.loop-at-smaller

@@ -8,7 +8,7 @@ use Rattle.net_view.specs.Facts.{says_spelling}
 use Rattle.net_view.specs.Tells.{meant}
 use Rattle.net_view.specs.Tape.{tape_of}
 use Rattle.net_view.proofs.Tests.{cond_and_false}
-use Rattle.net_view.proofs.TapeTests.{is_some_map}
+use Rattle.net_view.proofs.Tests.{is_some_map}
 use Rattle.net_view.proofs.tape.spelled_by.Goals as goal
 use Rattle.net_view.proofs.tape.spelled_by.Goals.{else-is_same-via-then-is_same+else-is_some, else-is_same-via-else-is_same}
 
@@ -18,7 +18,7 @@ returns-then-is_some g c us marked =
     let n = key_by s c.args.nick.now in
     let on = is_on (readings_of (tape_of c.args.kept.now)) in
     let spelled = Some (Some c.in-Joined.who.now) in
-    let here : on (key_by s c.in-Joined.channel.now) ≡ true = ap is_some (sym c.name_on.ensures) ∙ sym (is_some_map (λ name. name.now) c.name_on.result) ∙ sym c.is_some.ensures ∙ c.if-is_some.true in
+    let here : on (key_by s c.in-Joined.channel.now) ≡ true = ap is_some (sym c.name_on.ensures) ∙ is_some_map (λ name. name.now) c.name_on.result ∙ sym c.is_some.ensures ∙ c.if-is_some.true in
     let so : same n (key_by s c.in-Joined.who.now) ≡ true = sym c.is_same.ensures ∙ c.if-is_same.true in
     sym (ap (λ t. says_spelling us on (meant s t) n) c.in-Joined.is
     ∙ ap (λ b. cond (b && same n (key_by s c.in-Joined.who.now)) spelled None) here
@@ -35,6 +35,6 @@ returns-else-is_same g c us marked =
     let not_so : same n (key_by s c.in-Joined.who.now) ≡ false → None ≡ says_spelling us on (meant s c.args.telling.now) n =
     λ e. sym (ap (λ t. says_spelling us on (meant s t) n) c.in-Joined.is ∙ cond_and_false (on (key_by s c.in-Joined.channel.now)) (same n (key_by s c.in-Joined.who.now)) spelled None e) in
     elim c.else-is_same.branch [
-      | else-is_same-via-then-is_same+else-is_some w ↦ not_on (ap is_some (sym w.name_on.ensures) ∙ sym (is_some_map (λ name. name.now) w.name_on.result) ∙ sym w.is_some.ensures ∙ w.if-is_some.false)
+      | else-is_same-via-then-is_same+else-is_some w ↦ not_on (ap is_some (sym w.name_on.ensures) ∙ is_some_map (λ name. name.now) w.name_on.result ∙ sym w.is_some.ensures ∙ w.if-is_some.false)
       | else-is_same-via-else-is_same w ↦ not_so (sym c.is_same.ensures ∙ w.if-is_same.false)
     ]

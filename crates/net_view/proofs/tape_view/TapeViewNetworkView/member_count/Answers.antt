@@ -8,6 +8,7 @@ use Rattle.net_view.specs.Least.{key_in}
 use Rattle.net_view.specs.Shown.{shown_key, shown_len}
 use Rattle.net_view.specs.Tape.{tape_of}
 use Rattle.net_view.specs.declared.shown.Shown.TheVariants.{Channels, Members}
+use Rattle.net_view.proofs.Counted.{few_counted}
 use Rattle.net_view.proofs.TapePlaces as places
 use Rattle.net_view.proofs.tape_view.TapeViewNetworkView.member_count.Goals as goal
 
@@ -21,3 +22,6 @@ returns-in-Some g c =
     ∙ ap (λ ks. shown_len c.self.inside.support (Members c.in-Some.channel) (readings_of (tape_of ks))) c.deref-in-Some.ensures.value
     ∙ sym (places.members_counted c.self.inside.support items c.args.i channel channel_key)
     ∙ ap (λ v. members_shown (view_back v) c.args.i) c.self.view_is
+
+pub shown_count-requires-clause-few : goal.shown_count-requires-clause-few
+shown_count-requires-clause-few g c = few_counted (Members c.in-Some.channel) c.self.inside.kept.items _ c.self.inside.names c.deref-in-Some.ensures.value c.self.invariant.2

@@ -5,6 +5,7 @@ use Rattle.net_view.specs.Step.{after}
 use Rattle.net_view.specs.Arrival.{Received, arrival_of}
 use Rattle.net_view.specs.Tape.{tape_of}
 use Rattle.net_view.proofs.StepLaw.{view_step, view_back_step, view_unchanged}
+use Rattle.net_view.proofs.Counted.{loss_counted}
 use Rattle.net_view.proofs.TapeTake.{loss_taken, loss_marked, loss_settings, loss_of_nothing}
 use Rattle.net_view.proofs.tape_view.TapeViewNetworkView.take.Goals as goal
 
@@ -37,4 +38,5 @@ pub invariant_of-self : goal.invariant_of-self
 invariant_of-self g c = (
   loss_marked c.self.inside.kept.items _ c.index_mut.result.now (grind (arith, nat_tests, c.self.inside.kept.ok.0)) c.index_mut.ensures.value (c.self.invariant.0),
   loss_settings c.self.inside.kept.items _ c.index_mut.result.now (grind (arith, nat_tests, c.self.inside.kept.ok.0)) c.index_mut.ensures.value ∙ c.self.invariant.1,
+  loss_counted c.self.inside.kept.items _ c.index_mut.result.now _ (grind (arith, nat_tests, c.self.inside.kept.ok.0)) c.index_mut.ensures.value c.self.invariant.2,
 )
