@@ -1,3 +1,5 @@
 pub mod WordsLemmas
 pub mod ReportLemmas
+pub mod ModeLemmas
+pub mod MemberLemmas
 pub mod StreamLemmas

@@ -1,5 +1,6 @@
 pub mod Check
 pub mod Command
 pub mod Faults
+pub mod Readers
 pub mod Report
 pub mod Stream

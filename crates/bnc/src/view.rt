@@ -128,8 +128,10 @@ pub fn report_input<V: NetworkView, R: Read, W: Write>(
 /// ```text
 /// :s 001 Me :hi               nick Me
 /// :Me!m@h JOIN #c             channel #c
-/// :bob!b@h JOIN #c            member bob
-///                             member Me
+/// :s MODE #c +k key           modes +k key
+/// :bob!b@h JOIN #c            member @bob away lunch
+/// :s MODE #c +o bob           member Me
+/// :bob!b@h AWAY :lunch
 /// ```
 pub fn run_view<R: Read, W: Write>(alloc: Global, reader: &mut R, out: &mut W) -> Result<(), Fault>
     ensures written { OnOk result ((bytes : List ℕ)
@@ -146,5 +148,7 @@ pub fn run_view<R: Read, W: Write>(alloc: Global, reader: &mut R, out: &mut W) -
     report_input(alloc, &mut view, reader, out)
 }
 
+#[cfg(test)]
+mod sessions;
 #[cfg(test)]
 mod tests;

@@ -8,6 +8,32 @@ const WELCOME: &str = ":s 001 Me :hi\r\n";
 
 const JOINED: &str = ":s 001 Me :hi\r\n:Me!m@h JOIN #c\r\n:bob!b@h JOIN #c\r\n";
 
+const READY: &str =
+    ":s 001 Me :hi\n:s 005 Me PREFIX=(ov)@+ CHANTYPES=# :are supported\n:s 376 Me :end\n:Me!m@h JOIN #c\n";
+
+const TOLD: &str = ":s 332 Me #c :Hello all
+:s 324 Me #c +kl key 9
+:s 353 Me = #c :Me @+bob +eve
+:s 366 Me #c :End
+:bob!b@h ACCOUNT bobacc
+:bob!b@h AWAY :gone fishing
+";
+
+const TOLD_REPORT: &str = "nick Me
+channel #c
+modes +kl key 9
+topic Hello all
+member @+bob account bobacc away gone fishing
+member +eve
+member Me
+";
+
+const TWO_CHANNELS: &str = ":Me!m@h JOIN #d
+:bob!b@h JOIN #c bobacc :Bob
+:bob!b@h JOIN #d
+:bob!b@h PART #c
+";
+
 /// A reader that gives some bytes a call, and then fails in each call from one on.
 #[derive(Drop)]
 struct Faulty<'a> {
@@ -115,17 +141,12 @@ fn people_who_change_their_names_and_go(rt: HostRuntime) -> Result<(), Fail> {
 }
 
 #[test]
-fn names_that_differ_in_case_are_one(rt: HostRuntime) -> Result<(), Fail> {
-    let input =
-        b":s 001 Me :hi\r\n:s 005 Me PREFIX=(ov)@+ CHANTYPES=# :are supported\r\n:s 376 Me :end\r\n:Me!m@h JOIN #c\r\n:a[b!x@h JOIN #c\r\n:A{B!x@h PART #c\r\n";
-    let report = report_on(rt.alloc(), input)?;
-    assert!(rt; report.as_slice() == "nick Me\nchannel #c\nmember Me\n".as_bytes());
-    Ok(())
-}
-
-#[test]
 fn names_by_the_settings_of_the_network(rt: HostRuntime) -> Result<(), Fail> {
     let rows = [
+        (
+            ":s 001 Me :hi\n:s 005 Me PREFIX=(ov)@+ CHANTYPES=# :are supported\n:s 376 Me :end\n:Me!m@h JOIN #c\n:a[b!x@h JOIN #c\n:A{B!x@h PART #c\n",
+            "nick Me\nchannel #c\nmember Me\n",
+        ),
         (
             ":s 001 Me :hi\n:s 005 Me PREFIX=(ov)@+ CHANTYPES=# CASEMAPPING=ascii :are supported\n:s 376 Me :end\n:Me!m@h JOIN #c\n:a[b!x@h JOIN #c\n:A{B!x@h PART #c\n",
             "nick Me\nchannel #c\nmember a[b\nmember Me\n",
@@ -143,16 +164,107 @@ fn names_by_the_settings_of_the_network(rt: HostRuntime) -> Result<(), Fail> {
 }
 
 #[test]
+fn a_rank_stays_with_who_is_renamed(rt: HostRuntime) -> Result<(), Fail> {
+    let alloc = rt.alloc();
+    let lines = ":s 353 Me = #c :Me @+bob\n:bob!b@h NICK rob\n:s MODE #c -o rob\n";
+    let input = format!(in alloc; "{READY}{lines}")?;
+    let report = report_on(alloc, input.as_bytes())?;
+    assert!(rt; report.as_slice() == "nick Me\nchannel #c\nmember Me\nmember +rob\n".as_bytes());
+    Ok(())
+}
+
+#[test]
+fn modes_of_a_channel(rt: HostRuntime) -> Result<(), Fail> {
+    let alloc = rt.alloc();
+    let rows = [
+        (
+            ":bob!b@h JOIN #c\n:s MODE #c +lo 5 bob\n",
+            "modes +l 5\nmember @bob\nmember Me\n",
+        ),
+        (
+            ":bob!b@h JOIN #c\n:s MODE #c +lo 5 bob\n:s MODE #c -l+v bob\n",
+            "member @+bob\nmember Me\n",
+        ),
+        (
+            ":s MODE #c +nt\n:s 324 Me #c +k key\n",
+            "modes +k key\nmember Me\n",
+        ),
+        (
+            ":s MODE #c +nt\n:s 324 Me #c +k key\n:s MODE #c -k\n",
+            "modes +k key\nmember Me\n",
+        ),
+        (
+            ":s MODE #c +nt\n:s 324 Me #c +k key\n:s MODE #c -k\n:s MODE #c -k x\n",
+            "member Me\n",
+        ),
+        (":s MODE #c +tln 5\n", "modes +lnt 5\nmember Me\n"),
+    ];
+    for (lines, want) in rows {
+        let input = format!(in alloc; "{READY}{lines}")?;
+        let report = report_on(alloc, input.as_bytes())?;
+        let whole = format!(in alloc; "nick Me\nchannel #c\n{want}")?;
+        assert!(rt; report.as_slice() == whole.as_bytes());
+    }
+    Ok(())
+}
+
+#[test]
 fn topics(rt: HostRuntime) -> Result<(), Fail> {
     let alloc = rt.alloc();
-    let topic = ":s 001 Me :hi\n:Me!m@h JOIN #c\n:s 332 Me #c :Hello all\n";
-    let report = report_on(alloc, topic.as_bytes())?;
-    assert!(rt;
-        report.as_slice() == "nick Me\nchannel #c\ntopic Hello all\nmember Me\n".as_bytes()
-    );
-    let none = format!(in alloc; "{topic}:s 331 Me #c :No topic is set\n")?;
-    let report = report_on(alloc, none.as_bytes())?;
-    assert!(rt; report.as_slice() == "nick Me\nchannel #c\nmember Me\n".as_bytes());
+    let rows = [
+        (
+            ":s 332 Me #c :Hello all\n",
+            "nick Me\nchannel #c\ntopic Hello all\nmember Me\n",
+        ),
+        (
+            ":s 332 Me #c :Hello all\n:s 331 Me #c :No topic is set\n",
+            "nick Me\nchannel #c\nmember Me\n",
+        ),
+    ];
+    for (lines, want) in rows {
+        let input = format!(in alloc; "{READY}{lines}")?;
+        let report = report_on(alloc, input.as_bytes())?;
+        assert!(rt; report.as_slice() == want.as_bytes());
+    }
+    Ok(())
+}
+
+#[test]
+fn all_that_is_told_of_a_channel(rt: HostRuntime) -> Result<(), Fail> {
+    let alloc = rt.alloc();
+    let input = format!(in alloc; "{READY}{TOLD}")?;
+    let report = report_on(alloc, input.as_bytes())?;
+    assert!(rt; report.as_slice() == TOLD_REPORT.as_bytes());
+    Ok(())
+}
+
+#[test]
+fn what_is_known_of_a_person(rt: HostRuntime) -> Result<(), Fail> {
+    let alloc = rt.alloc();
+    let rows = [
+        (
+            ":bob!b@h JOIN #c bobacc :Bob\n:bob!b@h PART #c\n:bob!b@h JOIN #c\n",
+            "nick Me\nchannel #c\nmember bob\nmember Me\n",
+        ),
+        (
+            ":bob!b@h JOIN #c\n:bob!b@h NICK Me\n:@x!u@h JOIN #c\n:s MODE #c +k :a b\n",
+            "nick Me\nchannel #c\nmember bob\nmember Me\n",
+        ),
+        (
+            TWO_CHANNELS,
+            "nick Me\nchannel #c\nmember Me\nchannel #d\nmember bob account bobacc\nmember Me\n",
+        ),
+    ];
+    for (lines, want) in rows {
+        let input = format!(in alloc; "{READY}{lines}")?;
+        let report = report_on(alloc, input.as_bytes())?;
+        assert!(rt; report.as_slice() == want.as_bytes());
+    }
+    let later = ":bob!b@h NICK rob\n:rob!b@h ACCOUNT *\n:rob!b@h AWAY :lunch\n";
+    let input = format!(in alloc; "{READY}{TWO_CHANNELS}{later}")?;
+    let report = report_on(alloc, input.as_bytes())?;
+    let want = "nick Me\nchannel #c\nmember Me\nchannel #d\nmember Me\nmember rob away lunch\n";
+    assert!(rt; report.as_slice() == want.as_bytes());
     Ok(())
 }
 
