@@ -2,7 +2,7 @@ use Rattle.std.proofs.Common.{◌≡◌, rules, append_assoc}
 use Rattle.std.specs.Prelude.{option_map}
 use Rattle.irc_line.specs.Writing.{text_of, retagged}
 use Rattle.irc_line.proofs.Making.{made-is, retagged-writable, value-writable}
-use Rattle.irc_line.proofs.line.Line.with_tags.Goals as goal
+use Rattle.irc_line.proofs.line.Line.copy_tagged_in.Goals as goal
 
 pub invariant_of-result : goal.invariant_of-result
 invariant_of-result g c =
