@@ -15,7 +15,7 @@ mod tokens;
 
 pub use kind::Kind;
 pub use mode_changes::{Change, ModeChanges, changes};
-pub use name_list::{NameWords, Names};
+pub use name_list::{NameWords, Names, next_word};
 pub use names_reply::{name_words, names};
 pub use ranks::Ranks;
 pub use std::alloc::AllocError as OutOfMemory;
