@@ -176,3 +176,45 @@ first_of_set (k ∷ ranks) test is = elim (sure (nat_lt k 16)) [
   | inr past ↦ let high : 16 ≤ k = grind (arith, nat_tests) in
       absurd (none_past k ranks (ap (λ rs. has_rank rs k) (sym is) ∙ has_rank-past test k high))
 ]
+
+-- ---- a set without its highest rank
+
+-- ranks that fail are passed over
+skip_among : (test : ℕ → Bool) (c a k : ℕ) → a ≤ k → k < a + c → ((i : ℕ) → a ≤ i → i ≤ k → test i ≡ false) → among test a c ≡ among test (k + 1) (a + c - k - 1)
+skip_among test zero a k low high none = absurd (omega arith)
+skip_among test (suc c) a k low high none = elim (sure (a == k)) [
+  | inl here ↦ let same : a ≡ k = grind (arith, nat_tests) in
+      let at = none k (omega arith) (omega arith) in
+      let len : c ≡ k + suc c - k - 1 = omega arith in
+      rw (same, at) (ap (λ n. among test (k + 1) n) len)
+  | inr apart ↦ let ne : a ≢ k = grind (arith, nat_tests) in
+      let len : a + 1 + c - k - 1 ≡ a + suc c - k - 1 = omega arith in
+      rw (none a (omega arith) (omega arith)) (skip_among test c (a + 1) k (omega arith) (omega arith) (λ i l h. none i (omega arith) h) ∙ rw len refl)
+]
+
+and_no : (b : Bool) → (b && false) ≡ false
+and_no true = refl
+and_no false = refl
+
+split_first : (test : ℕ → Bool) (k : ℕ) → k < 16 → test k ≡ true → ((i : ℕ) → i < k → test i ≡ false) → ranks_that test ≡ k ∷ ranks_that (λ r. not (r == k) && has_rank (ranks_that test) r)
+unfolding ranks_that
+split_first test k small at before =
+    let n = 0 + rank_count - k - 1 in
+    let left : ℕ → Bool = λ r. not (r == k) && has_rank (ranks_that test) r in
+    let gone : (i : ℕ) → i ≤ k → left i ≡ false = λ i h. elim (sure (i == k)) [
+      | inl here ↦ rw here refl
+      | inr apart ↦ let below : i < k = grind (arith, nat_tests) in
+          ap (λ b. not (i == k) && b) (has_rank-ranks_that test i (omega arith) ∙ before i below) ∙ and_no (not (i == k))
+    ] in
+    let kept : (r : ℕ) → k + 1 ≤ r → r < 16 → left r ≡ test r = λ r l h.
+    let apart : (r == k) ≡ false = other r k (λ e. omega arith) in rw apart (has_rank-ranks_that test r h) in
+    first_among test rank_count 0 k (omega arith) (omega (arith, rank_count-is)) at (λ i l h. before i h)
+    ∙ ap (λ (rs : List ℕ). k ∷ rs) (sym (
+        skip_among left rank_count 0 k (omega arith) (omega (arith, rank_count-is)) (λ i l h. gone i h)
+        ∙ among_agree left test n (k + 1) (λ r l h. kept r l (omega (arith, rank_count-is)))
+      ))
+
+pub split_of_bits : (bits : ℕ) (ranks : List ℕ) → ranks_at_bits bits ≡ ranks → bits ≢ 0 → bits < 2 ^ 16 → ranks ≡ trailing_zeros w16 bits ∷ ranks_that (λ r. not (r == trailing_zeros w16 bits) && has_rank ranks r)
+split_of_bits bits ranks seen some small =
+    let lowest = bit_at-trailing_zeros w16 bits (omega arith) small in
+    rw (← seen) (split_first (λ q. bit_at bits q == 1) (trailing_zeros w16 bits) lowest.0 (rw lowest.1 refl) (λ i h. rw (lowest.2 i h) refl))
