@@ -1,4 +1,4 @@
-use Rattle.std.proofs.Common.{◌≡◌, sym, ◌∙◌}
+use Rattle.std.proofs.Common.{sym, ◌∙◌}
 use Rattle.client_caps.proofs.Requests.{request_taken, request_refused, request_ended}
 use Rattle.client_caps.proofs.request.read_request.Goals as goal
 

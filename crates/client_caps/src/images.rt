@@ -1,0 +1,108 @@
+//! What a client is sent in place of a line, and for a loss of the connection.
+
+ghost use Rattle.std.specs.Prelude.{◌≡◌, ◌∷◌, [], ◌++◌, ◌&&◌, cond, not, IsTrue, IfOk, OnOk, codes, option_map, map, slice_get, take};
+ghost use Rattle.std.specs.List.{list_any, list_all, join_with_byte};
+ghost use Rattle.irc_support.specs.Written.{highest_text};
+ghost use Rattle.irc_support.specs.Line.{split_words_in};
+ghost use Rattle.std.specs.Str.{str_eq_ignore_ascii_case};
+ghost use Rattle.irc_line.specs.Writing.{is_writable, is_part, line_of_parts, retagged};
+ghost use Rattle.irc_support.specs.Text.{Text};
+ghost use Rattle.irc_support.specs.NamesReply.{words_between};
+ghost use Rattle.net_view.specs.StateLines.{actor_nick};
+ghost use Rattle.client_caps.specs.Images.{account_joined, is_passed_on, link_commands, symbols_of};
+ghost use Rattle.client_caps.specs.Images.{join_params, names_with_highest, with_param, word_at};
+
+use crate::caps::Caps;
+use irc_line::Line;
+use irc_names::is_nameable;
+use irc_support::{Ranks, Support, name_words};
+use net_view::{NetworkView, OutOfMemory, is_word};
+use std::alloc::Allocator;
+
+/// Whether this is what two neighbours say to each other alone.
+fn is_link_command(command: &[u8]) -> bool
+    ensures { result ≡ list_any (str_eq_ignore_ascii_case command.now) link_commands }
+{
+    command.eq_ignore_ascii_case(b"PING")
+        || command.eq_ignore_ascii_case(b"PONG")
+        || command.eq_ignore_ascii_case(b"ERROR")
+        || command.eq_ignore_ascii_case(b"CAP")
+        || command.eq_ignore_ascii_case(b"BATCH")
+        || command.eq_ignore_ascii_case(b"AUTHENTICATE")
+}
+
+/// Whether a client with these capabilities is sent the line.
+fn is_passed_on<A: Allocator>(caps: Caps, line: &Line<A>) -> bool
+    ensures { result ≡ is_passed_on caps line.now }
+{
+    let command = line.command();
+    !(is_link_command(command)
+        || !caps.account_notify && command.eq_ignore_ascii_case(b"ACCOUNT")
+        || !caps.away_notify && command.eq_ignore_ascii_case(b"AWAY"))
+}
+
+/// The account that a JOIN is shown with: the one that it names, else the one known before it, else `*`.
+fn account_joined<'a, V: NetworkView, A: Allocator>(view: &'a V, line: &'a Line<A>) -> &'a [u8]
+    ensures { result.now ≡ account_joined (V.view view.now) line.now }
+{
+    if let Some(text) = line.param(1) {
+        if is_word(text) {
+            return text;
+        }
+    }
+    let Some(nick) = line.source_nick() else {
+        return b"*";
+    };
+    if !is_nameable(nick) {
+        return b"*";
+    }
+    view.account_of(nick).unwrap_or(b"*")
+}
+
+/// Adds the symbol of the highest of some ranks.
+fn push_highest<S: Allocator, A: Allocator>(
+    support: &Support<S>,
+    ranks: Ranks,
+    out: &mut Vec<u8, A>,
+) -> Result<(), OutOfMemory>
+    ensures { OnOk result (out.new.items
+        ≡ out.old.items ++ symbols_of support.now (take 1 ranks)) }
+{
+    if let Some(rank) = ranks.top() {
+        if let Some(symbol) = support.symbol(rank) {
+            out.push(symbol)?;
+        }
+    }
+    Ok(())
+}
+
+/// Adds a space, but before the first word.
+fn push_space<A: Allocator>(is_first: bool, out: &mut Vec<u8, A>) -> Result<(), OutOfMemory>
+    ensures { OnOk result (out.new.items ≡ cond is_first out.old.items (out.old.items ++ 32 ∷ [])) }
+{
+    if !is_first {
+        out.push(b' ')?;
+    }
+    Ok(())
+}
+
+/// The words of a `353`, each with the highest of its symbols alone, and one space between them.
+fn highest_names<V: NetworkView, A: Allocator, B: Allocator>(
+    alloc: B,
+    view: &V,
+    line: &Line<A>,
+) -> Result<Vec<u8, B>, OutOfMemory>
+    ensures { IfOk result (λ names. names.items ≡ join_with_byte 32 (map
+        (highest_text (V.view view.now).settings) (split_words_in (V.view view.now).settings line.now))) }
+{
+    let support = view.support();
+    let mut names = Vec::new(alloc);
+    let mut is_first = true;
+    for (ranks, rest) in name_words(support, line) {
+        push_space(is_first, &mut names)?;
+        is_first = false;
+        push_highest(support, ranks, &mut names)?;
+        names.extend_from_slice(rest)?;
+    }
+    Ok(names)
+}
