@@ -1,10 +1,11 @@
 //! What a client is sent in place of a line, and for a loss of the connection.
 
-ghost use Rattle.std.specs.Prelude.{◌≡◌, ◌∷◌, [], ◌++◌, ◌&&◌, cond, not, IsTrue, IfOk, OnOk, codes, option_map, map, slice_get, take};
+ghost use Rattle.std.specs.Prelude.{◌≡◌, true, ◌∷◌, [], ◌++◌, ◌&&◌, cond, not, IsTrue, IfOk, OnOk, codes, option_map, map, slice_get, take};
 ghost use Rattle.std.specs.List.{list_any, list_all, join_with_byte};
 ghost use Rattle.irc_support.specs.Written.{highest_text};
 ghost use Rattle.irc_support.specs.Line.{split_words_in};
 ghost use Rattle.std.specs.Str.{str_eq_ignore_ascii_case};
+ghost use Rattle.irc_line.specs.Line.{has_command};
 ghost use Rattle.irc_line.specs.Writing.{is_writable, is_part, line_of_parts, retagged};
 ghost use Rattle.irc_support.specs.Text.{Text};
 ghost use Rattle.irc_support.specs.NamesReply.{words_between};
@@ -105,4 +106,108 @@ fn highest_names<V: NetworkView, A: Allocator, B: Allocator>(
         names.extend_from_slice(rest)?;
     }
     Ok(names)
+}
+
+/// The parameters of a line, in order.
+fn all_params<A: Allocator, B: Allocator>(
+    alloc: B,
+    line: &Line<A>,
+) -> Result<Vec<&[u8], B>, OutOfMemory>
+    ensures { IfOk result (λ params. map (λ p. p.now) params.items ≡ line.now.params) }
+{
+    let mut params = Vec::new(alloc);
+    for param in line.params() {
+        params.push(param)?;
+    }
+    Ok(params)
+}
+
+/// Puts these words in the place of a `353`'s own, parameter 3, where it has any.
+fn put_names<'a>(params: &mut [&'a [u8]], names: &'a [u8])
+    ensures { map (λ p. p.now) params.new
+        ≡ with_param 3 (λ _. names.now) (map (λ p. p.now) params.old) }
+{
+    if let [_, _, _, words, ..] = params {
+        *words = names;
+    }
+}
+
+/// The line with these tags and parameters, and its own source and command.
+fn with_params<A: Allocator, B: Allocator + Drop>(
+    alloc: B,
+    line: &Line<A>,
+    tags: Option<&[u8]>,
+    params: &[&[u8]],
+) -> Result<Line<B>, OutOfMemory>
+    requires { IsTrue (is_writable (line_of_parts (option_map (λ t. t.now) tags) line.now.source
+        line.now.command (map (λ p. p.now) params.now))) }
+    ensures { IfOk result (λ image. image ≡ line_of_parts (option_map (λ t. t.now) tags.entry)
+        line.now.source line.now.command (map (λ p. p.now) params.now)) }
+{
+    Line::from_parts(alloc, tags, line.source(), line.command(), params)
+}
+
+/// What a JOIN of this channel is sent as.
+fn joined<V: NetworkView, A: Allocator, B: Allocator + Drop>(
+    alloc: B,
+    view: &V,
+    caps: Caps,
+    line: &Line<A>,
+    tags: Option<&[u8]>,
+    channel: &[u8],
+) -> Result<Line<B>, OutOfMemory>
+    requires written { IsTrue (is_writable (line_of_parts (option_map (λ t. t.now) tags) line.now.source
+        line.now.command (join_params (V.view view.now) caps line.now channel.now))) }
+    requires tags { IsTrue (is_part (option_map (λ t. t.now) tags)) }
+    ensures { IfOk result (λ image. image ≡ line_of_parts (option_map (λ t. t.now) tags.entry)
+        line.now.source line.now.command (join_params (V.view view.now) caps line.now channel.now)) }
+{
+    if !caps.extended_join {
+        return with_params(alloc, line, tags, &[channel]);
+    }
+    if line.param_count() > 2 {
+        return line.copy_tagged_in(alloc, tags);
+    }
+    let account = account_joined(view, line);
+    with_params(alloc, line, tags, &[channel, account, b""])
+}
+
+/// A `353` with these words.
+fn relisted<'x, A: Allocator, B: Allocator + Copy + Drop>(
+    alloc: B,
+    line: &'x Line<A>,
+    tags: Option<&[u8]>,
+    names: &'x [u8],
+) -> Result<Line<B>, OutOfMemory>
+    requires { IsTrue (is_writable (line_of_parts (option_map (λ t. t.now) tags) line.now.source
+        line.now.command (with_param 3 (λ _. names.now) line.now.params))) }
+    ensures { IfOk result (λ image. image ≡ line_of_parts (option_map (λ t. t.now) tags.entry)
+        line.now.source line.now.command (with_param 3 (λ _. names.now) line.now.params)) }
+{
+    let mut params = all_params(alloc, line)?;
+    put_names(&mut params, names);
+    with_params(alloc, line, tags, &params)
+}
+
+/// What a `353` is sent as to a client without multi-prefix.
+fn listed<V: NetworkView, A: Allocator, B: Allocator + Copy + Drop>(
+    alloc: B,
+    view: &V,
+    line: &Line<A>,
+    tags: Option<&[u8]>,
+) -> Result<Line<B>, OutOfMemory>
+    requires names { has_command line.now (codes "353") ≡ true }
+    requires tags { IsTrue (is_part (option_map (λ t. t.now) tags)) }
+    requires written { IsTrue (is_writable (line_of_parts (option_map (λ t. t.now) tags)
+        line.now.source line.now.command (with_param 3 (names_with_highest
+        (V.view view.now).settings) line.now.params))) }
+    ensures { IfOk result (λ image. image ≡ line_of_parts (option_map (λ t. t.now) tags.entry)
+        line.now.source line.now.command (with_param 3 (names_with_highest
+        (V.view view.now).settings) line.now.params)) }
+{
+    if line.param_count() < 4 {
+        return line.copy_tagged_in(alloc, tags);
+    }
+    let names = highest_names(alloc, view, line)?;
+    relisted(alloc, line, tags, &names)
 }
