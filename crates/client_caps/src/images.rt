@@ -11,7 +11,7 @@ ghost use Rattle.irc_support.specs.Text.{Text};
 ghost use Rattle.irc_support.specs.NamesReply.{words_between};
 ghost use Rattle.net_view.specs.StateLines.{actor_nick};
 ghost use Rattle.client_caps.specs.Images.{account_joined, is_passed_on, link_commands, symbols_of};
-ghost use Rattle.client_caps.specs.Images.{join_params, names_with_highest, with_param, word_at};
+ghost use Rattle.client_caps.specs.Images.{image_params, join_params, names_with_highest, with_param, word_at};
 
 use crate::caps::Caps;
 use irc_line::Line;
@@ -210,4 +210,32 @@ fn listed<V: NetworkView, A: Allocator, B: Allocator + Copy + Drop>(
     }
     let names = highest_names(alloc, view, line)?;
     relisted(alloc, line, tags, &names)
+}
+
+/// What a line that is passed on is sent as, with these tags.
+fn sent_as<V: NetworkView, A: Allocator, B: Allocator + Copy + Drop>(
+    alloc: B,
+    view: &V,
+    caps: Caps,
+    line: &Line<A>,
+    tags: Option<&[u8]>,
+) -> Result<Line<B>, OutOfMemory>
+    requires tags { IsTrue (is_part (option_map (λ t. t.now) tags)) }
+    requires written { IsTrue (is_writable (line_of_parts (option_map (λ t. t.now) tags)
+        line.now.source line.now.command (image_params (V.view view.now) caps line.now))) }
+    ensures { IfOk result (λ image. image ≡ line_of_parts (option_map (λ t. t.now) tags.entry)
+        line.now.source line.now.command (image_params (V.view view.now) caps line.now)) }
+{
+    if line.is(b"JOIN") {
+        return match line.param(0) {
+            Some(channel) if view.support().is_channel(channel) => {
+                joined(alloc, view, caps, line, tags, channel)
+            }
+            _ => line.copy_tagged_in(alloc, tags),
+        };
+    }
+    if line.is(b"353") && !caps.multi_prefix {
+        return listed(alloc, view, line, tags);
+    }
+    line.copy_tagged_in(alloc, tags)
 }
