@@ -13,6 +13,3 @@ pub use line::{Line, MakeError};
 pub use param_list::Params;
 pub use splitter::{FeedError, LINE_LIMIT, Splitter};
 pub use std::alloc::AllocError as OutOfMemory;
-
-#[cfg(test)]
-mod tests;

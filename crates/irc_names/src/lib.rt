@@ -8,6 +8,3 @@ mod nick;
 pub use case_mapping::CaseMapping;
 pub use nick::is_nameable;
 pub use std::alloc::AllocError as OutOfMemory;
-
-#[cfg(test)]
-mod tests;

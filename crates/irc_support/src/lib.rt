@@ -20,6 +20,3 @@ pub use names_reply::{name_words, names};
 pub use ranks::{RankIter, Ranks};
 pub use std::alloc::AllocError as OutOfMemory;
 pub use support::Support;
-
-#[cfg(test)]
-mod tests;
