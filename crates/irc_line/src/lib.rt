@@ -1,4 +1,5 @@
-//! Lines of IRC: one line by its grammar, read, made and written, and a stream of bytes cut into lines.
+//! Lines of IRC: one line by its grammar, read, made and written, and a stream of bytes cut into
+//! lines.
 #![tactic(auto)]
 
 pub mod laws;

@@ -1,4 +1,5 @@
-//! Names of users and channels: when two are one name, their order, and which nicks something is told of.
+//! Names of users and channels: when two are one name, their order, and which nicks something is
+//! told of.
 #![tactic(auto)]
 
 mod case_mapping;

@@ -1,4 +1,5 @@
-//! What a network says of itself by 005 RPL_ISUPPORT, and what it makes of mode changes and name lists.
+//! What a network says of itself by 005 RPL_ISUPPORT, and what it makes of mode changes and name
+//! lists.
 #![tactic(auto)]
 
 mod chan_modes;

@@ -7,7 +7,9 @@ use Rattle.irc_line.proofs.line.Line.make.Goals as goal
 
 pub invariant_of-result : goal.invariant_of-result
 invariant_of-result g c =
-    let line = untagged_line (option_map (λ s. s.now) c.args.source) c.args.command.now (map (λ p. p.now) c.args.params.now) in
+    let line =
+    untagged_line (option_map (λ s. s.now) c.args.source) c.args.command.now
+    (map (λ p. p.now) c.args.params.now) in
     let can : is_writable line ≡ true = grind (arith, common_steps) in
     let text : c.push_all.new.out.items ≡ text_of line = search (rules, append_assoc) in
     let made = made-is c.push_all.new.out.items line can text in
@@ -15,7 +17,9 @@ invariant_of-result g c =
 
 pub returns-clause-made : goal.returns-clause-made
 returns-clause-made g c =
-    let line = untagged_line (option_map (λ s. s.now) c.args.source) c.args.command.now (map (λ p. p.now) c.args.params.now) in
+    let line =
+    untagged_line (option_map (λ s. s.now) c.args.source) c.args.command.now
+    (map (λ p. p.now) c.args.params.now) in
     let can : is_writable line ≡ true = grind (arith, common_steps) in
     let text : c.push_all.new.out.items ≡ text_of line = search (rules, append_assoc) in
     (made-is c.push_all.new.out.items line can text).parts
