@@ -288,11 +288,11 @@ impl<A: Allocator + Copy> Line<A> {
     /// tags are empty or hold a space, a NUL, a CR or an LF, and before memory is asked for. After
     /// an error the line is unchanged.
     pub fn set_tags(&mut self, tags: Option<&[u8]>) -> Result<(), MakeError>
-        ensures ok { OnOk result
+        ensures taken { OnOk result
             (self.new ≡ retagged self.old (option_map (λ t. t.now) tags.entry)) }
         ensures not_a_line { IsErrOf result MakeError.NotALine
             ↔ (is_part (option_map (λ t. t.now) tags.entry) ≡ false) }
-        ensures err { OnErr result (self.new ≡ self.old) }
+        ensures kept { OnErr result (self.new ≡ self.old) }
     {
         if !is_a_part(tags) {
             return Err(MakeError::NotALine);

@@ -232,7 +232,7 @@ impl<A: Allocator + Copy> Splitter<A> {
         ensures left { OnOk result (self.new ≡ fed self.old piece.now) }
         ensures too_long { IsErrOf result FeedError.TooLong
             ↔ IsTrue (is_too_long (self.old.rest ++ piece.now)) }
-        ensures err { OnErr result ((self.new ≡ self.old) × (out.new.items ≡ out.old.items)) }
+        ensures kept { OnErr result ((self.new ≡ self.old) × (out.new.items ≡ out.old.items)) }
     {
         if runs_over(&self.rest, piece) {
             return Err(FeedError::TooLong);
