@@ -1,10 +1,12 @@
 //! The text of a line.
 
-ghost use Rattle.std.specs.Prelude.{◌≡◌, ◌++◌, ◌∷◌, [], ℕ, List, false, option_map, OnOk, OnErr, map};
+ghost use Rattle.std.specs.Prelude.{◌≡◌, ◌++◌, ◌∷◌, [], ℕ, List, false, option_map, OnOk, OnErr};
+ghost use Rattle.std.specs.Prelude.{map};
 ghost use Rattle.std.specs.List.{list_any, flat_map};
 ghost use Rattle.irc_line.specs.Line.{is_space};
 ghost use Rattle.irc_line.specs.Reading.{params_at};
-ghost use Rattle.irc_line.specs.Writing.{is_word, param_text, marked_text, is_token, is_part, are_params};
+ghost use Rattle.irc_line.specs.Writing.{is_word, param_text, marked_text, is_token, is_part};
+ghost use Rattle.irc_line.specs.Writing.{are_params};
 
 use crate::OutOfMemory;
 use crate::scan::{is_clean, next_param};
@@ -32,7 +34,8 @@ pub fn push_marked<A: Allocator>(
     part: Option<&[u8]>,
     out: &mut Vec<u8, A>,
 ) -> Result<(), OutOfMemory>
-    ensures ok { OnOk result (out.new.items ≡ out.old.items ++ marked_text mark (option_map (λ p. p.now) part.entry)) }
+    ensures ok { OnOk result
+        (out.new.items ≡ out.old.items ++ marked_text mark (option_map (λ p. p.now) part.entry)) }
     ensures err { OnErr result ((more : List ℕ) × (out.new.items ≡ out.old.items ++ more)) }
 {
     if let Some(part) = part {
@@ -57,7 +60,8 @@ fn push_param<A: Allocator>(param: &[u8], out: &mut Vec<u8, A>) -> Result<(), Ou
 
 /// Adds the parameters of what stands behind a command.
 pub fn push_params<A: Allocator>(text: &[u8], out: &mut Vec<u8, A>) -> Result<(), OutOfMemory>
-    ensures ok { OnOk result (out.new.items ≡ out.old.items ++ flat_map param_text (params_at false text.now)) }
+    ensures ok { OnOk result
+        (out.new.items ≡ out.old.items ++ flat_map param_text (params_at false text.now)) }
     ensures err { OnErr result ((more : List ℕ) × (out.new.items ≡ out.old.items ++ more)) }
 {
     let mut rest = text;
@@ -70,7 +74,8 @@ pub fn push_params<A: Allocator>(text: &[u8], out: &mut Vec<u8, A>) -> Result<()
 
 /// Adds these parameters.
 pub fn push_all<A: Allocator>(params: &[&[u8]], out: &mut Vec<u8, A>) -> Result<(), OutOfMemory>
-    ensures { OnOk result (out.new.items ≡ out.old.items ++ flat_map param_text (map (λ p. p.now) params.now)) }
+    ensures { OnOk result
+        (out.new.items ≡ out.old.items ++ flat_map param_text (map (λ p. p.now) params.now)) }
 {
     let mut rest = params;
     while let [param, after @ ..] = rest {

@@ -1,4 +1,5 @@
-//! What a network says of itself by 005 RPL_ISUPPORT, and what it makes of mode changes and name lists.
+//! What a network says of itself by 005 RPL_ISUPPORT, and what it makes of mode changes and name
+//! lists.
 #![tactic(auto)]
 
 mod chan_modes;
@@ -20,6 +21,3 @@ pub use names_reply::{name_words, names};
 pub use ranks::{RankIter, Ranks};
 pub use std::alloc::AllocError as OutOfMemory;
 pub use support::Support;
-
-#[cfg(test)]
-mod tests;

@@ -1,13 +1,14 @@
 //! Sets of ranks.
 
-ghost use Rattle.std.specs.Prelude.{◌≡◌, ◌<◌, ◌≤◌, ◌||◌, ◌&&◌, ◌==◌, not, [], ◌↔◌, ℕ, IsNone, IfSome, IsTrue, MatchOption, All, ◌∷◌, slice_get};
+ghost use Rattle.std.specs.Prelude.{◌≡◌, ◌<◌, ◌≤◌, ◌||◌, ◌&&◌, ◌==◌, not, [], ◌↔◌, ℕ, IsNone};
+ghost use Rattle.std.specs.Prelude.{IfSome, IsTrue, MatchOption, All, ◌∷◌, slice_get};
 ghost use Rattle.std.specs.Iterator.{YieldsFirst, item_count};
 ghost use Rattle.irc_support.specs.Ranks.{ranks_that, has_rank};
 
 use std::marker::Model;
 
-/// A set of ranks, from 0, the highest, to 15. A rank is what a letter of `PREFIX` gives to a member of a
-/// channel, as `o` to an operator.
+/// A set of ranks, from 0, the highest, to 15. A rank is what a letter of `PREFIX` gives to a
+/// member of a channel, as `o` to an operator.
 #[derive(Clone, Copy, Debug, PartialEq, Eq)]
 pub struct Ranks {
     // bit r stands for rank r

@@ -6,7 +6,8 @@ use Rattle.irc_line.proofs.writing.push_all.Given as goal
 
 abbrev pub invariant-loop-rest : goal.invariant-loop-rest
 invariant-loop-rest g l =
-    l.out.items ++ flat_map param_text (map (λ p. p.now) l.rest) ≡ l.fn.out.items ++ flat_map param_text (map (λ p. p.now) l.fn.params)
+    l.out.items ++ flat_map param_text (map (λ p. p.now) l.rest)
+    ≡ l.fn.out.items ++ flat_map param_text (map (λ p. p.now) l.fn.params)
 
 abbrev pub decreases-loop-rest : goal.decreases-loop-rest
 decreases-loop-rest g l = length l.rest

@@ -1,8 +1,8 @@
-//! Lines as networks send them.
+//! Settings, modes and name lists as networks send them.
 
-use super::*;
 use irc_line::Line;
 use irc_names::CaseMapping;
+use irc_support::{Kind, Ranks, Support, changes, name_words, names};
 use std::alloc::Global;
 use std::test::Fail;
 
@@ -255,12 +255,10 @@ fn changes_of_a_line(rt: HostRuntime) -> Result<(), Fail> {
 /// Whether a member is this word, whose symbols stand highest first.
 fn is_member(settings: &Support, ranks: Ranks, nick: &[u8], word: &[u8]) -> bool {
     let mut rest = word;
-    for rank in 0..20 {
-        if ranks.has(rank) {
-            match rest {
-                [first, more @ ..] if settings.symbol(rank) == Some(*first) => rest = more,
-                _ => return false,
-            }
+    for rank in ranks.iter() {
+        match rest {
+            [first, more @ ..] if settings.symbol(rank) == Some(*first) => rest = more,
+            _ => return false,
         }
     }
     rest == nick
@@ -298,6 +296,30 @@ fn members_of_a_name_list(rt: HostRuntime) -> Result<(), Fail> {
 }
 
 #[test]
+fn words_of_a_name_list(rt: HostRuntime) -> Result<(), Fail> {
+    let rows: [(&[u8], &[&[u8]]); 4] = [
+        (
+            b":s 353 Me = #c :Me!m@h +@bob!b@h  +eve @",
+            &[b"Me!m@h", b"@+bob!b@h", b"+eve", b"@"],
+        ),
+        (b":s 353 Me = #c :%bob!b@h!x", &[b"%bob!b@h!x"]),
+        (b":s 353 Me = #c", &[]),
+        (b":s 366 Me = #c :@bob", &[]),
+    ];
+    let settings = Support::new(rt.alloc())?;
+    for (text, words) in rows {
+        let line = line(rt.alloc(), text)?;
+        let mut words = words.iter();
+        for (ranks, rest) in name_words(&settings, &line) {
+            let word = words.next().copied().ok_or("no more words")?;
+            assert!(rt; is_member(&settings, ranks, rest, word));
+        }
+        assert!(rt; words.next().is_none());
+    }
+    Ok(())
+}
+
+#[test]
 fn sets_of_ranks(rt: HostRuntime) {
     assert_eq!(rt; Ranks::none().top(), None);
     let set = Ranks::none().with(3).with(15).with(3);
@@ -308,4 +330,8 @@ fn sets_of_ranks(rt: HostRuntime) {
     for rank in 0..=255 {
         assert_eq!(rt; set.has(rank), rank == 3 || rank == 15);
     }
+    let mut ranks = set.iter();
+    assert_eq!(rt; ranks.next(), Some(3));
+    assert_eq!(rt; ranks.next(), Some(15));
+    assert_eq!(rt; ranks.next(), None);
 }

@@ -1,6 +1,6 @@
 //! Lines as RFC 2812, section 2.3.1, and IRCv3 message-tags have them.
 
-use super::*;
+use irc_line::{FeedError, LINE_LIMIT, Line, MakeError, Splitter};
 use std::alloc::Global;
 use std::test::Fail;
 

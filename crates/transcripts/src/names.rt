@@ -1,6 +1,6 @@
 //! Names as RFC 2812, section 2.2, and the isupport draft have them.
 
-use super::*;
+use irc_names::{CaseMapping, is_nameable};
 use std::cmp::Ordering;
 use std::test::Fail;
 
@@ -28,6 +28,7 @@ fn keys_of_each_mapping(rt: HostRuntime) -> Result<(), Fail> {
         assert!(rt; key.as_slice() == want);
         assert!(rt; mapping.same(name, want));
         assert_eq!(rt; mapping.order(name, want), Ordering::Equal);
+        assert_eq!(rt; mapping.order_to_key(name, &key), Ordering::Equal);
     }
     Ok(())
 }
@@ -51,6 +52,9 @@ fn same_names_and_their_order(rt: HostRuntime) {
     assert_eq!(rt; CaseMapping::Ascii.order(b"c", b"Bob"), Ordering::Greater);
     assert_eq!(rt; CaseMapping::Rfc1459.order(b"[", b"z"), Ordering::Greater);
     assert_eq!(rt; CaseMapping::Ascii.order(b"[", b"z"), Ordering::Less);
+    assert_eq!(rt; CaseMapping::Ascii.order_to_key(b"BO", b"bob"), Ordering::Less);
+    assert_eq!(rt; CaseMapping::Ascii.order_to_key(b"C", b"bob"), Ordering::Greater);
+    assert_eq!(rt; CaseMapping::Rfc1459.order_to_key(b"[", b"z"), Ordering::Greater);
 }
 
 #[test]
