@@ -14,6 +14,7 @@ mod ranks;
 mod support;
 mod tokens;
 
+pub use cuts::cut;
 pub use kind::Kind;
 pub use mode_changes::{Change, ModeChanges, changes};
 pub use name_list::{NameWords, Names, next_word};

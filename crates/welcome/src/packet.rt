@@ -8,6 +8,7 @@ ghost use Rattle.welcome.specs.Packets.{IsPacket};
 
 use bytes::Bytes;
 use irc_line::Line;
+use irc_support::cut;
 use net_view::OutOfMemory;
 use std::alloc::{Allocator, Global};
 use std::marker::Model;
@@ -77,5 +78,24 @@ impl<A: Allocator> Packet<A> {
         ensures { result ≡ length self.now }
     {
         self.count
+    }
+
+    /// The line at this place, counted from 0. It goes over the bytes of the lines before it.
+    pub fn line<B: Allocator + Drop>(
+        &self,
+        alloc: B,
+        place: usize,
+    ) -> Result<Line<B>, OutOfMemory>
+        requires { place < length self.now }
+        ensures { IfOk result (λ line. slice_get self.now place ≡ Some line) }
+    {
+        let mut rest = self.text.as_slice();
+        for _ in 0..place {
+            rest = cut(b'\n', rest).1.unwrap_or(&[]);
+        }
+        match Line::read(alloc, cut(b'\r', rest).0)? {
+            Some(line) => Ok(line),
+            None => unreachable!(),
+        }
     }
 }

@@ -1,6 +1,5 @@
 use Rattle.std.proofs.Common.{◌≡◌, ◌∷◌, [], ◌++◌, ap, ◌∙◌, subst}
 use Rattle.std.specs.Prelude.{IfOk}
-use Rattle.std.specs.List.{flat_map}
 use Rattle.irc_line.specs.Writing.{written}
 use Rattle.irc_line.proofs.Making.{writable-again}
 use Rattle.welcome.proofs.PacketBytes.{is_packet, lines_back, one_line}
