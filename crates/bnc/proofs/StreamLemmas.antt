@@ -1,5 +1,7 @@
 -- A transcript that is read piece by piece.
-use Rattle.std.proofs.Common.{◌≡◌, ℕ, Bool, true, false, List, [], ◌∷◌, ◌++◌, Option, Some, None, Result, Ok, Err, refl, sym, ap, subst, ◌∙◌, map, take, append-nil, append_assoc, zero-add}
+use Rattle.std.proofs.Common.{◌≡◌, ℕ, Bool, true, false, List, [], ◌∷◌, ◌++◌, Option, Some, None}
+use Rattle.std.proofs.Common.{Result, Ok, Err, refl, sym, ap, subst, ◌∙◌, map, take, append-nil}
+use Rattle.std.proofs.Common.{append_assoc, zero-add}
 use Rattle.std.specs.Prelude.{◌↔◌, IsTrue, ◌||◌, IfErr, IsErrAnd, IsErrOf, length, nat_lt}
 use Rattle.std.specs.List.{list_any}
 use Rattle.std.proofs.lemmas.List.{map-append}
@@ -8,12 +10,14 @@ use Rattle.irc_line.proofs.Pieces.{fed_all-start, lines-append}
 use Rattle.irc_line.proofs.Segments.{segments-append}
 use Rattle.std.specs.Io.KnownBytes.{Consumes, Keeps}
 use Rattle.irc_line.specs.Line.{Parts}
-use Rattle.irc_line.specs.Lines.{Pending, all_but_last, counted, ended_of, fed, is_too_long, line_limit, lines_of, rest_of, segments_of, skipped_of, start}
+use Rattle.irc_line.specs.Lines.{Pending, all_but_last, counted, ended_of, fed, is_too_long}
+use Rattle.irc_line.specs.Lines.{line_limit, lines_of, rest_of, segments_of, skipped_of, start}
 use Rattle.irc_line.specs.declared.splitter.FeedError.{FeedError}
 use Rattle.irc_line.specs.declared.splitter.FeedError.TheVariants.{TooLong, OutOfMemory}
 use Rattle.net_view.specs.Arrival.{Received}
 use Rattle.bnc.specs.declared.fault.Fault.{Fault}
-use Rattle.bnc.specs.declared.fault.Fault.TheVariants.{CannotRead, CannotWrite, LineTooLong, OutOfMemory as FaultOfMemory, Settings}
+use Rattle.bnc.specs.declared.fault.Fault.TheVariants.{CannotRead, CannotWrite, LineTooLong}
+use Rattle.bnc.specs.declared.fault.Fault.TheVariants.{OutOfMemory as FaultOfMemory, Settings}
 use Rattle.bnc.specs.Stream.{IsPieceRefusal, IsRefusal, transcript_of}
 use Rattle.bnc.specs.Faults.{piece_fault, reading_fault}
 use Rattle.std.specs.declared.io.ErrorKind.{ErrorKind}

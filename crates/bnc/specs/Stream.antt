@@ -6,7 +6,8 @@ use Rattle.net_view.specs.Arrival.{Arrival, Received}
 use Rattle.net_view.specs.View.{view_of}
 use Rattle.bnc.specs.Report.{report_of}
 use Rattle.bnc.specs.declared.fault.Fault.{Fault}
-use Rattle.bnc.specs.declared.fault.Fault.TheVariants.{CannotRead, CannotWrite, LineTooLong, OutOfMemory}
+use Rattle.bnc.specs.declared.fault.Fault.TheVariants.{CannotRead, CannotWrite, LineTooLong}
+use Rattle.bnc.specs.declared.fault.Fault.TheVariants.{OutOfMemory}
 
 -- the transcript that the bytes are: their lines, in order
 abbrev pub transcript_of : List ℕ → List Arrival

@@ -5,7 +5,8 @@ ghost use Rattle.std.specs.Option.{option_map_or};
 ghost use Rattle.irc_line.specs.Lines.{with_lf};
 ghost use Rattle.net_view.specs.Readers.{channel_shown};
 ghost use Rattle.bnc.specs.Readers.{modes_shown, parts_of};
-ghost use Rattle.bnc.specs.Report.{channel_lines, channels_lines, labelled, letters_of, member_line};
+ghost use Rattle.bnc.specs.Report.{channel_lines, channels_lines, labelled, letters_of};
+ghost use Rattle.bnc.specs.Report.{member_line};
 ghost use Rattle.bnc.specs.Report.{member_lines, mode_lines, params_of, report_of, skipped_lines};
 ghost use Rattle.bnc.specs.Report.{symbols_of, text_of, topic_lines};
 

@@ -5,7 +5,8 @@ ghost use Rattle.std.specs.Io.KnownBytes.{Appends, Consumes, IsAtEnd};
 ghost use Rattle.irc_line.specs.Lines.{counted, fed, is_too_long, skipped_of, start};
 ghost use Rattle.net_view.specs.Arrival.{Arrival, Received};
 ghost use Rattle.net_view.specs.View.{view_of};
-ghost use Rattle.bnc.specs.Stream.{IsCauseOf, IsPieceRefusal, IsRefusal, stream_report, transcript_of};
+ghost use Rattle.bnc.specs.Stream.{IsCauseOf, IsPieceRefusal, IsRefusal, stream_report};
+ghost use Rattle.bnc.specs.Stream.{transcript_of};
 
 use crate::fault::Fault;
 use crate::report::report_text;

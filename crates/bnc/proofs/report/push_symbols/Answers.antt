@@ -2,7 +2,8 @@ use Rattle.std.proofs.Common.{◌≡◌, ◌++◌, ◌<◌, Some, None, true, ar
 use Rattle.net_view.specs.Ranking.{symbol_of}
 use Rattle.bnc.specs.Report.{symbols_of}
 use Rattle.bnc.proofs.MemberLemmas.{ranks_all, rank_not_held, rank_passed}
-use Rattle.bnc.proofs.report.push_symbols.Goals.{then-has+in-Some+in_ok-push, then-has+in_default, else-has}
+use Rattle.bnc.proofs.report.push_symbols.Goals.{then-has+in-Some+in_ok-push, then-has+in_default}
+use Rattle.bnc.proofs.report.push_symbols.Goals.{else-has}
 use Rattle.bnc.proofs.report.push_symbols.Goals as goal
 
 pub loop-rank-preserved : goal.loop-rank-preserved

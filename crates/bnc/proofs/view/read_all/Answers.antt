@@ -1,10 +1,13 @@
-use Rattle.std.proofs.Common.{◌≡◌, ◌<◌, ℕ, List, ◌++◌, [], refl, sym, subst, ◌∙◌, arith, take, drop, length, false}
+use Rattle.std.proofs.Common.{◌≡◌, ◌<◌, ℕ, List, ◌++◌, [], refl, sym, subst, ◌∙◌, arith, take, drop}
+use Rattle.std.proofs.Common.{length, false}
 use Rattle.std.specs.Io.KnownBytes.{Consumes}
 use Rattle.std.specs.IoError.{error_kind}
 use Rattle.net_view.specs.View.{view_of}
 use Rattle.irc_line.specs.Lines.{fed, is_too_long, start}
 use Rattle.bnc.specs.Stream.{IsPieceRefusal, IsRefusal, transcript_of}
-use Rattle.bnc.proofs.StreamLemmas.{consumes_end, consumes_kept, consumes_more, consumes_nil, piece_is, reading_refusal, refused_by, refused_piece, skipped_at, split_nothing}
+use Rattle.bnc.proofs.StreamLemmas.{consumes_end, consumes_kept, consumes_more, consumes_nil}
+use Rattle.bnc.proofs.StreamLemmas.{piece_is, reading_refusal, refused_by, refused_piece}
+use Rattle.bnc.proofs.StreamLemmas.{skipped_at, split_nothing}
 use Rattle.bnc.proofs.view.read_all.Goals.{in-Ok+in_ok-take_piece-in-Ok, in-Err+else-ne}
 use Rattle.bnc.proofs.view.read_all.Goals as goal
 

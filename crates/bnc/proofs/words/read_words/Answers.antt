@@ -1,7 +1,9 @@
 use Rattle.std.proofs.Common.{inr, sym, ap, ◌∙◌, List, ℕ, map, Bor, Some, codes}
 use Rattle.clap.proofs.WalkLemmas.{first_value-rows}
-use Rattle.clap.specs.Words.{Text, app_of, is_simple, is_simple_and_free, found_of, kind_of, rows_of}
-use Rattle.bnc.proofs.WordsLemmas.{asked_at, cause_at, is_simple-bnc_app, is_free-bnc_app, nothing_asked, pair_of_halves}
+use Rattle.clap.specs.Words.{Text, app_of, is_simple, is_simple_and_free, found_of, kind_of}
+use Rattle.clap.specs.Words.{rows_of}
+use Rattle.bnc.proofs.WordsLemmas.{asked_at, cause_at, is_simple-bnc_app, is_free-bnc_app}
+use Rattle.bnc.proofs.WordsLemmas.{nothing_asked, pair_of_halves}
 use Rattle.bnc.proofs.words.read_words.Goals as goal
 
 pub returns-in-Some-clause-read : goal.returns-in-Some-clause-read
