@@ -2,11 +2,10 @@
 #![tactic(auto)]
 
 mod case_mapping;
-mod laws;
+pub mod laws;
 mod nick;
 
 pub use case_mapping::CaseMapping;
-pub use laws::{names_are_equivalent, order_is_total};
 pub use nick::is_nameable;
 pub use std::alloc::AllocError as OutOfMemory;
 

@@ -1,5 +1,5 @@
 -- Sets of ranks by the test that their ranks pass.
-use Rattle.std.proofs.Common.{◌≡◌, ◌≢◌, ℕ, suc, zero, ◌+◌, ◌-◌, ◌*◌, ◌/◌, ◌%◌, ◌^◌, ◌<◌, ◌≤◌, All, bit_and, bit_or, Bool, true, false, ◌||◌, ◌&&◌, ◌==◌, nat_lt, not, cond, List, [], ◌∷◌, filter, sym, ap, ◌∙◌, arith, refl, inl, inr, ◌⊎◌}
+use Rattle.std.proofs.Common.{◌≡◌, ◌≢◌, ℕ, suc, zero, ◌+◌, ◌-◌, ◌*◌, ◌/◌, ◌%◌, ◌^◌, ◌<◌, ◌≤◌, All, bit_and, bit_or, Bool, true, false, ◌||◌, ◌&&◌, ◌==◌, nat_lt, not, cond, List, [], ◌∷◌, filter, take, sym, ap, ◌∙◌, arith, refl, inl, inr, ◌⊎◌}
 use Rattle.std.specs.List.{range_with_len}
 use Rattle.std.specs.Int.{bit_at, bit_not, trailing_zeros, w16}
 use Rattle.std.proofs.lemmas.Bool.Decides.{nat_tests}
@@ -153,3 +153,26 @@ top_of_bits bits ranks seen some small =
     let lowest = bit_at-trailing_zeros w16 bits (omega arith) small in
     let first = ranks_that_first (λ q. bit_at bits q == 1) (trailing_zeros w16 bits) lowest.0 (rw lowest.1 refl) (λ i h. rw (lowest.2 i h) refl) in
     (first.0, sym seen ∙ first.1, first.2)
+
+-- ---- the highest rank alone
+
+one_rank : (k : ℕ) → k < 16 → ranks_that (has_rank (k ∷ [])) ≡ k ∷ []
+unfolding ranks_that
+one_rank k small =
+    let n = 0 + rank_count - k - 1 in
+    let here : has_rank (k ∷ []) k ≡ true = rw (itself k) refl in
+    let apart : (i : ℕ) → i ≢ k → has_rank (k ∷ []) i ≡ false = λ i ne. rw (other k i (λ e. ne (sym e))) refl in
+    first_among (has_rank (k ∷ [])) rank_count 0 k (omega arith) (omega (arith, rank_count-is)) here (λ i l h. apart i (λ e. omega arith))
+    ∙ ap (λ (rs : List ℕ). k ∷ rs) (none_among (has_rank (k ∷ [])) n (k + 1) (λ i l h. apart i (λ e. omega arith)))
+
+none_past : (rank : ℕ) (ranks : List ℕ) → has_rank (rank ∷ ranks) rank ≡ false → ⊥
+none_past rank ranks none = let here : (rank == rank) ≡ true = itself rank in let e : true ≡ false = rw here at none in cc
+
+-- what a set begins with is a set
+pub first_of_set : (ranks : List ℕ) (test : ℕ → Bool) → ranks_that test ≡ ranks → ranks_that (has_rank (take 1 ranks)) ≡ take 1 ranks
+first_of_set [] test is = ranks_that_none (has_rank []) (λ r small. refl)
+first_of_set (k ∷ ranks) test is = elim (sure (nat_lt k 16)) [
+  | inl below ↦ one_rank k (grind (arith, nat_tests))
+  | inr past ↦ let high : 16 ≤ k = grind (arith, nat_tests) in
+      absurd (none_past k ranks (ap (λ rs. has_rank rs k) (sym is) ∙ has_rank-past test k high))
+]

@@ -9,10 +9,10 @@ use Rattle.irc_support.specs.Text.{Text, cut_at}
 use Rattle.irc_support.specs.NamesReply.{words_between}
 use Rattle.irc_support.proofs.RankSets.{sure}
 
-abbrev is_gap : ℕ → Bool
+abbrev pub is_gap : ℕ → Bool
 is_gap b = b == 32
 
-abbrev is_some_word : Text → Bool
+abbrev pub is_some_word : Text → Bool
 is_some_word word = not (length word == 0)
 
 filter-first : (word : Text) (parts : List Text) → filter is_some_word (word ∷ parts) ≡ filter is_some_word (word ∷ []) ++ filter is_some_word parts

@@ -1,9 +1,10 @@
 -- What one line says of settings, modes and names.
-use Rattle.std.specs.Prelude.{if◌then◌else◌, List, [], drop, slice_get, unwrap_or, codes}
+use Rattle.std.specs.Prelude.{ℕ, if◌then◌else◌, List, [], drop, slice_get, unwrap_or, codes}
 use Rattle.irc_line.specs.Line.{Parts, has_command}
+use Rattle.irc_support.specs.Text.{Text}
 use Rattle.irc_support.specs.Tokens.{Token, set_tokens}
 use Rattle.irc_support.specs.ModeChanges.{ChangeParts, changes}
-use Rattle.irc_support.specs.NamesReply.{Word, words}
+use Rattle.irc_support.specs.NamesReply.{Word, words, split_words}
 
 -- the settings after a line: 005 RPL_ISUPPORT sets tokens (isupport draft, section 2), no other line does
 abbrev pub settings_after : List Token → Parts → List Token
@@ -22,4 +23,10 @@ changes_in settings line =
 abbrev pub words_in : List Token → Parts → List Word
 words_in settings line =
     if has_command line (codes "353") then words settings (unwrap_or (slice_get line.params 3) []) else
+    []
+
+-- the words of the same parameter, taken apart
+abbrev pub split_words_in : List Token → Parts → List (List ℕ × Text)
+split_words_in settings line =
+    if has_command line (codes "353") then split_words settings (unwrap_or (slice_get line.params 3) []) else
     []

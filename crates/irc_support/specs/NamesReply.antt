@@ -31,12 +31,20 @@ after_symbols settings word = drop (length (symbols_before settings word)) word
 abbrev pub shows_rank : List Token → Text → ℕ → Bool
 shows_rank settings symbols rank = list_any (λ b. option_map_or (λ r. r == rank) (rank_of_symbol settings b) false) symbols
 
--- the member that a word names; a nick ends before its first `!`, where the word has user and host
+-- a word taken apart: the ranks whose symbols stand at its front, highest first, and what follows these
+abbrev pub split_word : List Token → Text → List ℕ × Text
+split_word settings word = (ranks_that (shows_rank settings (symbols_before settings word)), after_symbols settings word)
+
+-- the words of the last parameter of a 353, taken apart
+unfoldable pub split_words : List Token → Text → List (List ℕ × Text)
+split_words settings text = map (split_word settings) (words_between text)
+
+-- the member that such a word names; a nick ends before its first `!`, where the word has user and host
+abbrev pub member_of : List ℕ × Text → Word
+member_of w = record { ranks = w.0; nick = (cut_at 33 w.1).0 }
+
 abbrev pub word_of : List Token → Text → Word
-word_of settings word = record {
-  ranks = ranks_that (shows_rank settings (symbols_before settings word));
-  nick = (cut_at 33 (after_symbols settings word)).0;
-}
+word_of settings word = member_of (split_word settings word)
 
 -- the members that the last parameter of a 353 names
 unfoldable pub words : List Token → Text → List Word

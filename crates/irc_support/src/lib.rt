@@ -4,7 +4,7 @@
 mod chan_modes;
 mod cuts;
 mod kind;
-mod laws;
+pub mod laws;
 mod mode_changes;
 mod name_list;
 mod names_reply;
@@ -14,12 +14,9 @@ mod support;
 mod tokens;
 
 pub use kind::Kind;
-pub use laws::{
-    letters_and_symbols_go_together, settings_depend_on_the_tokens_alone, what_prefix_spells,
-};
 pub use mode_changes::{Change, ModeChanges, changes};
-pub use name_list::Names;
-pub use names_reply::names;
+pub use name_list::{NameWords, Names};
+pub use names_reply::{name_words, names};
 pub use ranks::Ranks;
 pub use std::alloc::AllocError as OutOfMemory;
 pub use support::Support;
