@@ -10,9 +10,10 @@ ghost use Rattle.bnc.specs.Stream.{IsCauseOf, IsPieceRefusal, IsRefusal, stream_
 use crate::fault::Fault;
 use crate::report::report_text;
 use irc_line::{Line, Splitter};
-use net_view::{Item, NetworkView, OutOfMemory, TapeView};
+use net_view::{Item, NetworkView, OutOfMemory};
 use std::alloc::Global;
 use std::io::{ErrorKind, Read, Write};
+use tape_view::TapeView;
 
 /// How many bytes one read asks for.
 const PIECE: usize = 65_536;

@@ -52,10 +52,13 @@ is_writable line =
     is_part line.tags
     && (is_part line.source && (is_command line.command && are_params line.params))
 
+-- a line of these parts
+abbrev pub line_of_parts : Option (List ℕ) → Option (List ℕ) → List ℕ → List (List ℕ) → Parts
+line_of_parts tags source command params = record { tags = tags; source = source; command = command; params = params }
+
 -- a line without tags
 abbrev pub untagged_line : Option (List ℕ) → List ℕ → List (List ℕ) → Parts
-untagged_line source command params =
-    record { tags = None; source = source; command = command; params = params }
+untagged_line source command params = line_of_parts None source command params
 
 -- a line with other tags
 abbrev pub retagged : Parts → Option (List ℕ) → Parts

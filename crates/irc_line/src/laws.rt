@@ -5,7 +5,7 @@ ghost use Rattle.std.specs.List.{AllByRecursion, concat, flat_map};
 ghost use Rattle.irc_line.specs.Line.{Parts};
 ghost use Rattle.irc_line.specs.Grammar.{Spells};
 ghost use Rattle.irc_line.specs.Reading.{line_of};
-ghost use Rattle.irc_line.specs.Writing.{is_writable, text_of};
+ghost use Rattle.irc_line.specs.Writing.{is_writable, text_of, written};
 ghost use Rattle.irc_line.specs.Lines.{HasNoLf, with_lf, segments_of, ended_of, lines_of, rest_of};
 ghost use Rattle.irc_line.specs.Lines.{skipped_of, start, fed, fed_all, lines_all};
 
@@ -45,10 +45,12 @@ pub fn the_grammar()
 {}
 
 /// Parts can be written and read back exactly where the test says so; and where it says no, there
-/// is no text at all that is read as them.
+/// is no text at all that is read as them. Lines written one behind the other are a stream of them.
 pub fn what_is_written()
     ensures again { (line : Parts) →
         IsTrue (is_writable line) ↔ (line_of (text_of line) ≡ Some line) }
     ensures any_text { (line : Parts) (text : List ℕ) → line_of text ≡ Some line →
         IsTrue (is_writable line) }
+    ensures stream { (lines : List Parts) → AllByRecursion (λ l. IsTrue (is_writable l)) lines →
+        lines_of (flat_map written lines) ≡ lines }
 {}

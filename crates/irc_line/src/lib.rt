@@ -14,3 +14,4 @@ pub use line::{Line, MakeError};
 pub use param_list::Params;
 pub use splitter::{FeedError, LINE_LIMIT, Splitter};
 pub use std::alloc::AllocError as OutOfMemory;
+pub use writing::write_line;

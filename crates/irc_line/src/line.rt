@@ -8,8 +8,8 @@ ghost use Rattle.irc_line.specs.Line.{Parts, nick_of, has_command};
 ghost use Rattle.irc_line.specs.Grammar.{Spells};
 ghost use Rattle.irc_line.specs.Reading.{body, line_of};
 ghost use Rattle.irc_line.specs.Tags.{time_of};
-ghost use Rattle.irc_line.specs.Writing.{param_text, text_of, written, is_writable, untagged_line};
-ghost use Rattle.irc_line.specs.Writing.{retagged, is_part};
+ghost use Rattle.irc_line.specs.Writing.{param_text, text_of, written, is_writable};
+ghost use Rattle.irc_line.specs.Writing.{line_of_parts, untagged_line, retagged, is_part};
 
 use crate::OutOfMemory;
 use crate::param_list::Params;
@@ -111,6 +111,35 @@ impl<A: Allocator> Line<A> {
         Line::<A>::parse(alloc, text)
     }
 
+    /// The line of these parts, as [`Line::make`], for a caller that knows beforehand that some text
+    /// is read as them, as of the parts of lines in hand. One allocation.
+    pub fn from_parts(
+        alloc: A,
+        tags: Option<&[u8]>,
+        source: Option<&[u8]>,
+        command: &[u8],
+        params: &[&[u8]],
+    ) -> Result<Line<A>, OutOfMemory>
+    where
+        A: Drop,
+        requires { IsTrue (is_writable (line_of_parts (option_map (λ t. t.now) tags)
+            (option_map (λ s. s.now) source) command.now (map (λ p. p.now) params.now))) }
+        ensures { IfOk result (λ line. line ≡ line_of_parts (option_map (λ t. t.now) tags.entry)
+            (option_map (λ s. s.now) source.entry) command.now (map (λ p. p.now) params.now)) }
+    {
+        let room = part_room(tags)
+            .saturating_add(part_room(source))
+            .saturating_add(command.len())
+            .saturating_add(params_room(params));
+        let mut text = Vec::with_capacity(alloc, room)?;
+        push_marked(b'@', tags, &mut text)?;
+        push_marked(b':', source, &mut text)?;
+        text.extend_from_slice(command)?;
+        push_all(params, &mut text)?;
+        let command_at = body_place(&text);
+        Ok(Line { text, command_at })
+    }
+
     /// A line of these parts, without tags, as in `:a PRIVMSG #c :hi all`. `NotALine` comes exactly
     /// where no text is read as these parts, and before memory is asked for.
     pub fn make(
@@ -131,15 +160,7 @@ impl<A: Allocator> Line<A> {
         if !is_a_part(source) || !is_a_command(command) || !are_all_params(params) {
             return Err(MakeError::NotALine);
         }
-        let room = part_room(source)
-            .saturating_add(command.len())
-            .saturating_add(params_room(params));
-        let mut text = Vec::with_capacity(alloc, room)?;
-        push_marked(b':', source, &mut text)?;
-        text.extend_from_slice(command)?;
-        push_all(params, &mut text)?;
-        let command_at = body_place(&text);
-        Ok(Line { text, command_at })
+        Ok(Line::from_parts(alloc, None, source, command, params)?)
     }
 
     /// A copy of the line over another allocator.
@@ -153,6 +174,29 @@ impl<A: Allocator> Line<A> {
             text,
             command_at: self.command_at,
         })
+    }
+
+    /// A copy of the line over another allocator, with these tags, or none, in place of its own. That
+    /// the tags are no empty text and hold no space, NUL, CR or LF is for the caller to see to. One
+    /// allocation.
+    pub fn copy_tagged_in<B: Allocator>(
+        &self,
+        alloc: B,
+        tags: Option<&[u8]>,
+    ) -> Result<Line<B>, OutOfMemory>
+    where
+        B: Drop,
+        requires { IsTrue (is_part (option_map (λ t. t.now) tags)) }
+        ensures { IfOk result (λ line.
+            line ≡ retagged self.now (option_map (λ t. t.now) tags.entry)) }
+    {
+        let room = part_room(tags).saturating_add(self.text.len() + 1);
+        let mut text = Vec::with_capacity(alloc, room)?;
+        push_marked(b'@', tags, &mut text)?;
+        push_marked(b':', self.source(), &mut text)?;
+        self.write_body(&mut text)?;
+        let command_at = body_place(&text);
+        Ok(Line { text, command_at })
     }
 
     /// What stands behind the `@`.
@@ -269,21 +313,6 @@ impl<A: Allocator> Line<A> {
 }
 
 impl<A: Allocator + Copy> Line<A> {
-    /// The line with these tags in place of its own.
-    fn with_tags(&self, tags: Option<&[u8]>) -> Result<Line<A>, OutOfMemory>
-        requires { IsTrue (is_part (option_map (λ t. t.now) tags)) }
-        ensures { IfOk result
-            (λ line. line ≡ retagged self.now (option_map (λ t. t.now) tags.entry)) }
-    {
-        let room = part_room(tags).saturating_add(self.text.len() + 1);
-        let mut text = Vec::with_capacity(*self.text.allocator(), room)?;
-        push_marked(b'@', tags, &mut text)?;
-        push_marked(b':', self.source(), &mut text)?;
-        self.write_body(&mut text)?;
-        let command_at = body_place(&text);
-        Ok(Line { text, command_at })
-    }
-
     /// Gives the line these tags, or none, in place of its own. `NotALine` comes exactly where the
     /// tags are empty or hold a space, a NUL, a CR or an LF, and before memory is asked for. After
     /// an error the line is unchanged.
@@ -297,7 +326,7 @@ impl<A: Allocator + Copy> Line<A> {
         if !is_a_part(tags) {
             return Err(MakeError::NotALine);
         }
-        *self = self.with_tags(tags)?;
+        *self = self.copy_tagged_in(*self.text.allocator(), tags)?;
         Ok(())
     }
 }

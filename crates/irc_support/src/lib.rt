@@ -14,9 +14,10 @@ mod ranks;
 mod support;
 mod tokens;
 
+pub use cuts::cut;
 pub use kind::Kind;
 pub use mode_changes::{Change, ModeChanges, changes};
-pub use name_list::{NameWords, Names};
+pub use name_list::{NameWords, Names, next_word};
 pub use names_reply::{name_words, names};
 pub use ranks::{RankIter, Ranks};
 pub use std::alloc::AllocError as OutOfMemory;

@@ -30,22 +30,4 @@ mod FactRows
 mod LineRows
 mod SeenRows
 pub mod ReadCommands
-pub mod TapeBack
-pub mod TapeMembers
-pub mod TapeTake
 pub mod KeyPlaces
-pub mod Places
-pub mod NextKey
-pub mod NextShown
-pub mod ShownPlaces
-pub mod InSight
-pub mod TapeSpelling
-pub mod TapePlaces
-pub mod TapeTopics
-pub mod LastIn
-pub mod NameWords
-pub mod Counted
-pub mod TapeKnown
-pub mod TapeModes
-pub mod NextLetter
-pub mod HeldRanks

@@ -28,9 +28,4 @@ pub mod Seen
 pub mod Sound
 pub mod Found
 pub mod Tells
-pub mod Tape
 pub mod Least
-pub mod Letters
-pub mod Shown
-pub mod NameCount
-pub mod KnownFacts

@@ -3,18 +3,10 @@
 
 mod channel;
 mod facts;
-mod held;
 mod item;
-mod known;
 mod laws;
-mod listed;
-mod modes;
-mod name_count;
 mod network_view;
-mod shown;
-mod tape;
-mod tape_view;
-mod told;
+mod state_line;
 
 pub use channel::{Channel, Member};
 pub use facts::{
@@ -27,7 +19,4 @@ pub use laws::{
 };
 pub use network_view::NetworkView;
 pub use std::alloc::AllocError as OutOfMemory;
-pub use tape_view::TapeView;
-
-#[cfg(test)]
-mod view_tests;
+pub use state_line::{Telling, is_state_line, is_word, told};

@@ -1,0 +1,22 @@
+use Rattle.std.proofs.Common.{◌≡◌, ◌≤◌, true, take, length}
+use Rattle.std.specs.Prelude.{not}
+use Rattle.std.specs.Ordering.{nat_cmp}
+use Rattle.irc_support.specs.Settings.{key_by}
+use Rattle.net_view.specs.Transcript.{readings_of}
+use Rattle.net_view.specs.Presence.{is_on}
+use Rattle.tape_view.specs.Tape.{tape_of, IsReadable}
+use Rattle.tape_view.specs.Letters.{is_set}
+use Rattle.tape_view.proofs.NextKey.{IsNextOf}
+use Rattle.tape_view.proofs.TapeBack.{line_at}
+use Rattle.tape_view.proofs.modes.next_letter.Given as goal
+
+abbrev pub invariant-loop-i : goal.invariant-loop-i
+invariant-loop-i g l = record {
+  within : l.i ≤ length l.kept;
+  readable : IsReadable l.support (take l.i l.kept);
+  on : is_on (line_at l.kept l.i) (key_by l.support l.channel) ≡ true;
+  so_far : IsNextOf nat_cmp (is_set (readings_of (tape_of l.kept)) (key_by l.support l.channel)) (λ letter. not (is_set (line_at l.kept l.i) (key_by l.support l.channel) letter)) l.after l.best;
+}
+
+abbrev pub decreases-loop-i : goal.decreases-loop-i
+decreases-loop-i g l = l.i

@@ -1,0 +1,11 @@
+use Rattle.std.proofs.Common.{◌≡◌, ◌+◌, ◌<◌}
+use Rattle.std.specs.Prelude.{◌^◌}
+use Rattle.irc_support.specs.Line.{words_in}
+use Rattle.tape_view.proofs.NameWords.{listed_count}
+use Rattle.tape_view.proofs.name_count.with_listed.Given as goal
+
+abbrev pub invariant-loop-ranks : goal.invariant-loop-ranks
+invariant-loop-ranks g l = record {
+  fits : l.sum < 2 ^ 64;
+  whole : l.count + listed_count l.support (words_in l.support l.line) ≡ l.sum + listed_count l.support l._ranks-iterator;
+}

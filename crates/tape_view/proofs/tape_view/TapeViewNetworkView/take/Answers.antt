@@ -1,0 +1,42 @@
+use Rattle.std.proofs.Common.{◌≡◌, ◌∷◌, ◌++◌, [], sym, ap, ◌∙◌, arith}
+use Rattle.std.proofs.lemmas.Bool.Decides.{nat_tests}
+use Rattle.net_view.specs.View.{view_back, view_of}
+use Rattle.net_view.specs.Step.{after}
+use Rattle.net_view.specs.Arrival.{Received, arrival_of}
+use Rattle.tape_view.specs.Tape.{tape_of}
+use Rattle.net_view.proofs.StepLaw.{view_step, view_back_step, view_unchanged}
+use Rattle.tape_view.proofs.Counted.{loss_counted}
+use Rattle.tape_view.proofs.TapeTake.{loss_taken, loss_marked, loss_settings, loss_of_nothing}
+use Rattle.tape_view.proofs.tape_view.TapeViewNetworkView.take.Goals as goal
+
+pub returns-in_ok-keep-in-Line-clause-taken : goal.returns-in_ok-keep-in-Line-clause-taken
+returns-in_ok-keep-in-Line-clause-taken g c items e =
+    ap view_back c.in_ok-keep-in-Line.ensures.taken
+    ∙ view_back_step (Received c.in-Line.line) c.args.self.now
+    ∙ ap (λ v. after v (Received c.in-Line.line)) e
+    ∙ sym (view_step items (Received c.in-Line.line))
+    ∙ ap (λ x. view_of (items ++ arrival_of x ∷ [])) (sym c.in-Line.is)
+
+pub returns-else-is_state_line-clause-taken : goal.returns-else-is_state_line-clause-taken
+returns-else-is_state_line-clause-taken g c items e =
+    e ∙ sym (view_unchanged items (Received c.in-Line.line) (sym c.is_state_line.ensures ∙ c.if-is_state_line.false))
+    ∙ ap (λ x. view_of (items ++ arrival_of x ∷ [])) (sym c.in-Line.is)
+
+pub returns-then-not-is_empty-clause-taken : goal.returns-then-not-is_empty-clause-taken
+returns-then-not-is_empty-clause-taken g c items e =
+    let before : view_back (tape_of c.self.inside.kept.items) ≡ view_of items = ap view_back c.self.view_is ∙ e in
+    loss_taken items c.self.inside.kept.items _ c.index_mut.result.now (grind (arith, nat_tests, c.self.inside.kept.ok.0)) c.index_mut.ensures.value before
+    ∙ ap (λ x. view_of (items ++ arrival_of x ∷ [])) (sym c.in-Lost.is)
+
+pub returns-else-not-is_empty-clause-taken : goal.returns-else-not-is_empty-clause-taken
+returns-else-not-is_empty-clause-taken g c items e =
+    let before : view_back (tape_of c.self.inside.kept.items) ≡ view_of items = ap view_back c.self.view_is ∙ e in
+    ap view_back (sym c.self.view_is) ∙ loss_of_nothing items c.self.inside.kept.items (grind (arith, nat_tests, c.self.inside.kept.ok.0)) before
+    ∙ ap (λ x. view_of (items ++ arrival_of x ∷ [])) (sym c.in-Lost.is)
+
+pub invariant_of-self : goal.invariant_of-self
+invariant_of-self g c = (
+  loss_marked c.self.inside.kept.items _ c.index_mut.result.now (grind (arith, nat_tests, c.self.inside.kept.ok.0)) c.index_mut.ensures.value (c.self.invariant.0),
+  loss_settings c.self.inside.kept.items _ c.index_mut.result.now (grind (arith, nat_tests, c.self.inside.kept.ok.0)) c.index_mut.ensures.value ∙ c.self.invariant.1,
+  loss_counted c.self.inside.kept.items _ c.index_mut.result.now _ (grind (arith, nat_tests, c.self.inside.kept.ok.0)) c.index_mut.ensures.value c.self.invariant.2,
+)
