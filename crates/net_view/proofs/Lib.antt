@@ -23,6 +23,7 @@ pub mod Worth
 pub mod NameLists
 pub mod WordsApart
 pub mod SeenWhole
+mod LikelyCommand
 pub mod Commands
 mod Transcripts
 mod MemberRows

@@ -27,5 +27,6 @@ pub mod Readers
 pub mod Seen
 pub mod Sound
 pub mod Found
+pub mod StateCommands
 pub mod Tells
 pub mod Least

@@ -2,20 +2,16 @@
 
 ghost use Rattle.std.specs.Prelude.{◌≡◌, [], IfOk};
 
-use net_view::OutOfMemory;
-use net_view::{Channel, Member};
 use crate::held::ranks_in;
-use net_view::Item;
 use crate::known::{Fact, fact_in};
 use crate::marks::fixed_after;
 use crate::modes::{letter_at, mode_in};
 use crate::name_count::with_named;
-use net_view::NetworkView;
 use crate::shown::{Shown, shown_at, shown_count};
 use crate::tape::{Kept, marks_of, name_on, own_in, ready_in, spelling_in, topic_in};
-use net_view::{Telling, is_state_line, told};
 use irc_line::Line;
 use irc_support::Support;
+use net_view::{Channel, Item, Member, NetworkView, OutOfMemory, Telling, is_state_line, told};
 use std::alloc::{Allocator, Global};
 use std::marker::Model;
 
@@ -86,13 +82,13 @@ impl<A: Allocator + Copy> TapeView<A> {
             lost: false,
         };
         match telling {
-            Telling::Welcomed(_) => {
+            Telling::Welcomed { .. } => {
                 let support = Support::new(*self.kept.allocator())?;
                 self.kept.push(kept)?;
                 self.support = support;
                 self.names = names;
             }
-            Telling::Supports(_) if welcomed && !ready => {
+            Telling::Supports { .. } if welcomed && !ready => {
                 self.kept.push(kept)?;
                 if let Err(refused) = self.support.take(line) {
                     let _ = self.kept.pop();

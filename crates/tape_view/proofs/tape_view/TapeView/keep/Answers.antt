@@ -53,7 +53,7 @@ invariant_of-self-then-not-ready g c =
     let unready : is_ready (tape_of c.self.inside.kept.items) ≡ false = sym (c.ready_in-ready.ensures ∙ ap (λ ks. is_ready (tape_of ks)) c.deref-2.ensures.value) ∙ c.if-not-ready.true in (
       line_marked c.self.inside.support c.self.inside.kept.items c.push-in-Supports.new.self.items kept c.told-telling.result own c.in_ok-push-in-Supports.ensures.items (c.self.invariant.0) new_line,
       line_settings c.self.inside.support c.take.new.self c.self.inside.kept.items c.push-in-Supports.new.self.items kept c.told-telling.result own c.in_ok-push-in-Supports.ensures.items refl new_line
-          (supports_settings c.self.inside.support c.take.new.self c.args.line.now c.told-telling.result c.in-Supports.field-0 own (is_ready (tape_of c.self.inside.kept.items)) c.told-telling.ensures c.in-Supports.is welcomed unready c.in_default-take.ensures.taken),
+          (supports_settings c.self.inside.support c.take.new.self c.args.line.now c.told-telling.result c.in-Supports.line own (is_ready (tape_of c.self.inside.kept.items)) c.told-telling.ensures c.in-Supports.is welcomed unready c.in_default-take.ensures.taken),
       counted_push c.self.inside.support c.self.inside.kept.items c.push-in-Supports.new.self.items kept c.told-telling.result own c.self.inside.names c.in_ok-names.names c.in_ok-push-in-Supports.ensures.items new_line c.self.invariant.2 (counted_so _ c.with_named.result _ c.in_ok-names.names c.with_named.ensures c.in_ok-names.ensures.value),
     )
 
@@ -91,9 +91,9 @@ invariant_of-self-in_default g c =
     } in
     let keeps : settings_after (meant c.self.inside.support c.told-telling.result) (record { own = own; ready = is_ready (tape_of c.self.inside.kept.items); settings = c.self.inside.support }) ≡ c.self.inside.support =
     elim c.in_default.branch [
-      | in_default-via-in-Supports+then-welcomed+else-not-ready w ↦ late_settings c.self.inside.support c.told-telling.result w.in-Supports.field-0 own (is_ready (tape_of c.self.inside.kept.items)) w.in-Supports.is
+      | in_default-via-in-Supports+then-welcomed+else-not-ready w ↦ late_settings c.self.inside.support c.told-telling.result w.in-Supports.line own (is_ready (tape_of c.self.inside.kept.items)) w.in-Supports.is
           (and_false (is_some own) (not (is_ready (tape_of c.self.inside.kept.items))) (ap not (sym (c.ready_in-ready.ensures ∙ ap (λ ks. is_ready (tape_of ks)) c.deref-2.ensures.value) ∙ w.if-not-ready.false)))
-      | in_default-via-in-Supports+else-welcomed w ↦ late_settings c.self.inside.support c.told-telling.result w.in-Supports.field-0 own (is_ready (tape_of c.self.inside.kept.items)) w.in-Supports.is
+      | in_default-via-in-Supports+else-welcomed w ↦ late_settings c.self.inside.support c.told-telling.result w.in-Supports.line own (is_ready (tape_of c.self.inside.kept.items)) w.in-Supports.is
           (ap (λ b. b && not (is_ready (tape_of c.self.inside.kept.items))) (is_some_map (λ n. n.now) c.own_in-own.result ∙ sym c.is_some-welcomed.ensures ∙ w.if-welcomed.false))
       | in_default-via-in_default w ↦ idle_settings c.self.inside.support c.told-telling.result own (is_ready (tape_of c.self.inside.kept.items)) w.in_default.not-Welcomed w.in_default.not-Supports
     ] in (
