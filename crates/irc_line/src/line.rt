@@ -170,7 +170,9 @@ impl<A: Allocator> Line<A> {
 
     /// The command, in the letters in which it came.
     pub fn command(&self) -> &[u8]
-        ensures { result.now ≡ self.now.command }
+        ensures value { result.now ≡ self.now.command }
+        // A line in hand can be written: lines of its parts can be made.
+        ensures writable { IsTrue (is_writable self.now) }
     {
         split_token(&self.text[self.command_at..]).0
     }

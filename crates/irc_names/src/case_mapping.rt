@@ -74,4 +74,27 @@ impl CaseMapping {
             Ordering::Less
         }
     }
+
+    /// The order of a name's key and a key that is at hand, byte by byte, a shorter one first. The name is
+    /// folded on the way, so it needs no key of its own; takes no memory.
+    pub fn order_to_key(self, name: &[u8], key: &[u8]) -> Ordering
+        ensures { result ≡ slice_cmp nat_cmp (key_of self name.now) key.now }
+    {
+        let (mut name, mut key) = (name, key);
+        while let [x, xs @ ..] = name {
+            let [y, ys @ ..] = key else {
+                return Ordering::Greater;
+            };
+            let first = self.fold_byte(*x).cmp(y);
+            if first != Ordering::Equal {
+                return first;
+            }
+            (name, key) = (xs, ys);
+        }
+        if key.is_empty() {
+            Ordering::Equal
+        } else {
+            Ordering::Less
+        }
+    }
 }
