@@ -1,11 +1,11 @@
 -- A command of the state lines is known by its length, its first byte and its last one; and what a line of
 -- none of them, or of just one, has for its command.
-use Rattle.std.specs.Prelude.{◌≡◌, ◌≢◌, ℕ, ◌≤◌, Bool, true, false, cond, ◌||◌, List, [], ◌∷◌, length, get_or, is_some}
+use Rattle.std.specs.Prelude.{◌≡◌, ◌≢◌, ℕ, ◌≤◌, Bool, true, false, cond, ◌||◌, List, [], ◌∷◌, length, get_or}
 use Rattle.std.specs.List.{find, list_any}
-use Rattle.std.specs.Option.{option_map, option_map_or, unwrap_or}
+use Rattle.std.specs.Option.{option_map, unwrap_or}
 use Rattle.std.specs.Char.{to_ascii_lowercase}
 use Rattle.std.specs.Str.{str_to_ascii_lowercase, str_eq_ignore_ascii_case}
-use Rattle.std.proofs.Common.{Option, Some, None, refl, rules, subst, sym, ap, ◌∙◌, arith}
+use Rattle.std.proofs.Common.{Option, Some, None, refl, rules, sym, ap, ◌∙◌, arith}
 use Rattle.std.proofs.Math.ListN.{get_or-map}
 use Rattle.std.proofs.lemmas.List.{length-map}
 use Rattle.std.proofs.lemmas.Bool.Decides.{nat_tests}
@@ -15,7 +15,6 @@ use Rattle.irc_support.specs.Text.{Text}
 use Rattle.irc_support.specs.Tokens.{Token}
 use Rattle.net_view.specs.Tells.{meant}
 use Rattle.net_view.specs.declared.state_line.Telling.{Telling}
-use Rattle.net_view.specs.StateLines.{state_lines, is_state_line}
 use Rattle.net_view.specs.StateCommands.{command_text, state_commands, state_command}
 use Rattle.net_view.specs.declared.state_command.StateCommand.{StateCommand}
 use Rattle.net_view.specs.declared.state_command.StateCommand.TheVariants.{Welcome, Isupport, EndOfMotd, NoMotd, Join, Part, Kick, Quit, Nick, Mode, ModeReply, Topic, TopicReply, NoTopic, Names, Account, Away}
@@ -115,27 +114,6 @@ pub is_one : (line : Parts) (it : StateCommand) → ((x : StateCommand) → has_
 is_one line it h e =
     let has : StateCommand → Bool = λ x. has_command line (command_text x) in
     one_found has it state_commands h (among has it e)
-
-found_meets : {X : Type 0} (p : X → Bool) (it : X) (xs : List X) → find p xs ≡ Some it → p it ≡ true
-found_meets p it [] e = cc
-found_meets p it (x ∷ xs) e =
-    elim (p x) as (λ b. p x ≡ b → cond b (Some x) (find p xs) ≡ Some it → p it ≡ true) [
-      | true ↦ λ is same. subst (λ o. option_map_or p o false ≡ true) same is
-      | false ↦ λ _ rest. found_meets p it xs rest
-    ] refl e
-
--- a line has the command that it was read to have
-pub has_found : (line : Parts) (it : StateCommand) → state_command line ≡ Some it → has_command line (command_text it) ≡ true
-has_found line it e = found_meets (λ x. has_command line (command_text x)) it state_commands e
-
-some_found : {X : Type 0} (p : X → Bool) (xs : List X) → is_some (find p xs) ≡ list_any p xs
-some_found p [] = refl
-some_found p (x ∷ xs) = elim (p x) as (λ b. is_some (cond b (Some x) (find p xs)) ≡ (b || list_any p xs)) [ true ↦ refl | false ↦ some_found p xs ]
-
--- a state line is one that has such a command
-pub is_read : (line : Parts) → is_some (state_command line) ≡ is_state_line line
-unfolding state_commands state_lines
-is_read line = some_found (λ x. has_command line (command_text x)) state_commands
 
 -- what is meant where something may be told
 pub meant_or : {A : Type 0} (settings : List Token) (found : Option (Telling A)) (t : Telling A) → meant settings (unwrap_or found t) ≡ unwrap_or (option_map (meant settings) found) (meant settings t)

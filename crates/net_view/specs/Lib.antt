@@ -26,6 +26,7 @@ pub mod Step
 pub mod Readers
 pub mod Seen
 pub mod Sound
+pub mod Written
 pub mod Found
 pub mod StateCommands
 pub mod Tells

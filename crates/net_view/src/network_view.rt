@@ -6,6 +6,7 @@ ghost use Rattle.net_view.specs.Arrival.{Arrival, arrival_of};
 ghost use Rattle.net_view.specs.StateLines.{may_need_memory};
 ghost use Rattle.net_view.specs.View.{View, view_of};
 ghost use Rattle.net_view.specs.Readers.{channels_shown, channel_shown, members_shown, member_shown};
+ghost use Rattle.net_view.specs.Written.{AreWritten};
 ghost use Rattle.net_view.specs.Readers.{account_shown, mode_parts, mode_shown};
 
 use crate::OutOfMemory;
@@ -32,6 +33,11 @@ pub trait NetworkView {
             OnOk result (view self.new ≡ view_of (items ++ arrival_of item.now ∷ [])) }
         ensures kept { OnErr result (view self.new ≡ view self.old) }
         ensures free { may_need_memory (arrival_of item.now) ≡ false → IsOk result };
+
+    /// Does nothing: its clause says that what is seen came from lines, each of which can be written, and from
+    /// losses. So every fact of a transcript's view holds of it.
+    fn comes_from_lines(&self)
+        ensures { (items : List Arrival) × AreWritten items × (view self.now ≡ view_of items) };
 
     /// Whether the network took us in.
     fn welcomed(&self) -> bool

@@ -1,7 +1,8 @@
 //! The commands that a view reads.
 
-ghost use Rattle.std.specs.Prelude.{◌≡◌, true, Some};
+ghost use Rattle.std.specs.Prelude.{◌≡◌, true, Some, IsTrue};
 ghost use Rattle.std.specs.Str.{str_eq_ignore_ascii_case};
+ghost use Rattle.irc_line.specs.Writing.{is_writable};
 ghost use Rattle.net_view.specs.StateCommands.{command_text, state_command};
 
 use irc_line::Line;
@@ -51,7 +52,9 @@ impl StateCommand {
     /// The command of the line, read once and without regard to the case of ASCII letters; `None`
     /// where the line can tell nothing, as a `PRIVMSG`.
     pub fn of<A: Allocator>(line: &Line<A>) -> Option<StateCommand>
-        ensures { result ≡ state_command line.now }
+        ensures value { result ≡ state_command line.now }
+        // Whatever line it is, it can be written.
+        ensures writable { IsTrue (is_writable line.now) }
     {
         let likely = StateCommand::likely(line.command())?;
         if line.is(likely.text()) {
