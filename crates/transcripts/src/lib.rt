@@ -1,4 +1,5 @@
-//! Tests alone: tables of lines, names and settings as servers send them, with what is expected of each.
+//! Tests alone: tables of lines, names and settings as servers send them, with what is expected of
+//! each.
 #![tactic(auto)]
 
 #[cfg(test)]
