@@ -7,7 +7,7 @@ use Rattle.net_view.specs.Text.{Text}
 use Rattle.net_view.specs.Tokens.{Token}
 use Rattle.tape_view.specs.declared.shown.Shown.{Shown}
 use Rattle.tape_view.specs.declared.shown.Shown.TheVariants.{Channels, Members}
-use Rattle.tape_view.specs.declared.tape.Kept.{Kept}
+use Rattle.tape_view.specs.declared.kept.Kept.{Kept}
 use Rattle.net_view.specs.declared.state_line.Telling.{Telling}
 use Rattle.net_view.specs.Told.{Told, Listing, Joined, Renamed, Present}
 use Rattle.net_view.specs.Arrival.{Received}
@@ -15,7 +15,7 @@ use Rattle.net_view.specs.StateLines.{told}
 use Rattle.net_view.specs.Transcript.{settings_of, readings_of}
 use Rattle.net_view.specs.Named.{named}
 use Rattle.net_view.specs.Tells.{meant}
-use Rattle.tape_view.specs.Tape.{tape_of}
+use Rattle.tape_view.specs.Kept.{tape_of}
 use Rattle.tape_view.specs.Shown.{names_in}
 use Rattle.tape_view.specs.NameCount.{name_count, IsCounted}
 use Rattle.tape_view.proofs.NextShown.{named_line}

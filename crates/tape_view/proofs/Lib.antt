@@ -1,4 +1,6 @@
 pub mod TapeBack
+pub mod LastLine
+pub mod TapeLast
 pub mod TapeMembers
 pub mod TapeTake
 pub mod Places
@@ -11,8 +13,11 @@ pub mod TapePlaces
 pub mod TapeTopics
 pub mod LastIn
 pub mod NameWords
+pub mod NamedWords
 pub mod Counted
 pub mod TapeKnown
 pub mod TapeModes
 pub mod NextLetter
+pub mod LetterLine
+pub mod SightLine
 pub mod HeldRanks

@@ -12,7 +12,7 @@ use Rattle.irc_support.specs.Tokens.{Token}
 use Rattle.irc_support.specs.ChanModes.{kind_of}
 use Rattle.irc_support.specs.ModeChanges.{ChangeParts}
 use Rattle.irc_support.specs.Line.{changes_in}
-use Rattle.tape_view.specs.declared.tape.Kept.{Kept}
+use Rattle.tape_view.specs.declared.kept.Kept.{Kept}
 use Rattle.net_view.specs.declared.state_line.Telling.{Telling}
 use Rattle.net_view.specs.declared.state_line.Telling.TheVariants as telling
 use Rattle.net_view.specs.Told.{ModeChange, Told}
@@ -49,7 +49,7 @@ in_one_more : (b more all : Bool) → (more ≡ true → all ≡ true) → (b ||
 in_one_more true more all h e = refl
 in_one_more false more all h e = h e
 
-kept_listed : (settings : List Token) (letter : ℕ) (changes : List ChangeParts) → list_any (eq_by_cmp nat_cmp letter) (map (λ m. m.letter) (filter_map (mode_change settings) changes)) ≡ true → list_any (eq_by_cmp nat_cmp letter) (letters changes) ≡ true
+pub kept_listed : (settings : List Token) (letter : ℕ) (changes : List ChangeParts) → list_any (eq_by_cmp nat_cmp letter) (map (λ m. m.letter) (filter_map (mode_change settings) changes)) ≡ true → list_any (eq_by_cmp nat_cmp letter) (letters changes) ≡ true
 kept_listed settings letter [] h = h
 kept_listed settings letter (x ∷ xs) h =
     let p = eq_by_cmp nat_cmp letter in
@@ -106,7 +106,7 @@ third_unmet false b c x y e = refl
 
 -- ---- our own JOIN
 
-begun_if_said : (off : Bool) (begun : Option Text) (older : Option (Option Text)) → is_some (unwrap_or (option_or (cond off (Some None) (option_map Some begun)) older) None) ≡ true →
+pub begun_if_said : (off : Bool) (begun : Option Text) (older : Option (Option Text)) → is_some (unwrap_or (option_or (cond off (Some None) (option_map Some begun)) older) None) ≡ true →
     is_some (cond off (Some None) (option_map Some begun)) ≡ true → is_some begun ≡ true
 begun_if_said true begun older on said = absurd (no_true on)
 begun_if_said false None older on said = absurd (no_true said)

@@ -9,7 +9,7 @@ use Rattle.irc_line.specs.Line.{Parts}
 use Rattle.net_view.specs.Text.{Text}
 use Rattle.net_view.specs.Tokens.{Token}
 use Rattle.net_view.specs.Settings.{key_by}
-use Rattle.tape_view.specs.declared.tape.Kept.{Kept}
+use Rattle.tape_view.specs.declared.kept.Kept.{Kept}
 use Rattle.tape_view.specs.declared.shown.Shown.{Shown}
 use Rattle.tape_view.specs.declared.shown.Shown.TheVariants.{Channels, Members}
 use Rattle.net_view.specs.declared.state_line.Telling.{Telling}
@@ -23,7 +23,7 @@ use Rattle.net_view.specs.Presence.{is_on}
 use Rattle.net_view.specs.Members.{says_member, is_member}
 use Rattle.net_view.specs.Named.{named, channels_in, people_in}
 use Rattle.net_view.specs.Tells.{meant}
-use Rattle.tape_view.specs.Tape.{with_lost, tape_of, IsReadable}
+use Rattle.tape_view.specs.Kept.{with_lost, tape_of, IsReadable}
 use Rattle.net_view.specs.Least.{considered, IsNext}
 use Rattle.tape_view.specs.Shown.{names_in, is_shown}
 use Rattle.net_view.proofs.Tests.{no_true, and_parts}

@@ -6,7 +6,7 @@ use Rattle.std.proofs.lemmas.List.{reverse-append, take_more}
 use Rattle.irc_line.specs.Line.{Parts}
 use Rattle.irc_support.specs.Text.{Text}
 use Rattle.irc_support.specs.Tokens.{Token, set_tokens}
-use Rattle.tape_view.specs.declared.tape.Kept.{Kept}
+use Rattle.tape_view.specs.declared.kept.Kept.{Kept}
 use Rattle.tape_view.specs.declared.marks.Marks.{Marks}
 use Rattle.net_view.specs.declared.state_line.Telling.{Telling}
 use Rattle.net_view.specs.declared.state_line.Telling.TheVariants as telling
@@ -18,7 +18,7 @@ use Rattle.net_view.specs.LookBack.{last}
 use Rattle.net_view.specs.Presence.{says_on, name_on, is_on}
 use Rattle.net_view.specs.Tells.{meant}
 use Rattle.tape_view.specs.Marked.{IsMarked, own_said, settles_said}
-use Rattle.tape_view.specs.Tape.{with_lost, played_back, tape_of, AreMarked, IsMarkedLine, IsMarkedTape, IsReadable}
+use Rattle.tape_view.specs.Kept.{with_lost, played_back, tape_of, AreMarked, IsMarkedLine, IsMarkedTape, IsReadable}
 use Rattle.net_view.specs.View.{channel_named}
 use Rattle.net_view.proofs.Tests.{unwrap_or_or, no_true, none_of_is_some}
 use Rattle.net_view.proofs.Channels.{channels_get}

@@ -6,7 +6,7 @@ use Rattle.std.proofs.Common.{Some, None, refl, sym, ap, ◌∙◌, subst}
 use Rattle.irc_support.specs.Text.{Text}
 use Rattle.irc_support.specs.Tokens.{Token}
 use Rattle.irc_support.specs.Settings.{is_channel, key_by}
-use Rattle.tape_view.specs.declared.tape.Kept.{Kept}
+use Rattle.tape_view.specs.declared.kept.Kept.{Kept}
 use Rattle.tape_view.specs.declared.marks.Marks.{Marks}
 use Rattle.net_view.specs.declared.state_line.Telling.{Telling}
 use Rattle.net_view.specs.declared.state_line.Telling.TheVariants.{Joined}
@@ -21,7 +21,7 @@ use Rattle.net_view.specs.Named.{named, channels_in}
 use Rattle.net_view.specs.Facts.{Says, says_spelling, in_sight, known, account_of, away_of}
 use Rattle.net_view.specs.Tells.{meant}
 use Rattle.tape_view.specs.Marked.{IsMarked}
-use Rattle.tape_view.specs.Tape.{tape_of, IsMarkedTape, IsReadable}
+use Rattle.tape_view.specs.Kept.{tape_of, IsMarkedTape, IsReadable}
 use Rattle.net_view.specs.View.{Person, members_of, view_back}
 use Rattle.net_view.specs.Readers.{MemberParts, known_at, member_parts, member_shown}
 use Rattle.tape_view.specs.declared.shown.Shown.TheVariants.{Channels}

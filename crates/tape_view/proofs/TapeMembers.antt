@@ -3,11 +3,11 @@ use Rattle.std.specs.Prelude.{◌≡◌, ℕ, ◌-◌, ◌<◌, ◌≤◌, Bool,
 use Rattle.std.specs.Option.{option_and_then, unwrap_or}
 use Rattle.std.proofs.Common.{Option, refl, ap, ◌∙◌}
 use Rattle.irc_support.specs.Text.{Text}
-use Rattle.tape_view.specs.declared.tape.Kept.{Kept}
+use Rattle.tape_view.specs.declared.kept.Kept.{Kept}
 use Rattle.net_view.specs.Transcript.{Reading, readings_of, ours}
 use Rattle.net_view.specs.LookBack.{last_of, name_before}
 use Rattle.net_view.specs.Members.{rank_decided, says_member, says_rank}
-use Rattle.tape_view.specs.Tape.{tape_of}
+use Rattle.tape_view.specs.Kept.{tape_of}
 use Rattle.net_view.proofs.Tests.{unwrap_or_or}
 use Rattle.tape_view.proofs.TapeBack.{line_at, reading, asked}
 

@@ -10,14 +10,14 @@ use Rattle.irc_support.specs.Text.{Text}
 use Rattle.irc_support.specs.Tokens.{Token}
 use Rattle.irc_support.specs.ChanModes.{kind_of}
 use Rattle.irc_support.specs.ModeChanges.{ChangeParts}
-use Rattle.tape_view.specs.declared.tape.Kept.{Kept}
+use Rattle.tape_view.specs.declared.kept.Kept.{Kept}
 use Rattle.net_view.specs.StateLines.{mode_change, setting_by}
 use Rattle.net_view.specs.Table.{same_arms}
 use Rattle.net_view.specs.Transcript.{Reading, readings_of, ours}
 use Rattle.net_view.specs.LookBack.{last, last_in}
 use Rattle.net_view.specs.Presence.{is_on}
 use Rattle.net_view.specs.Modes.{setting_of, says_mode, mode_of}
-use Rattle.tape_view.specs.Tape.{tape_of}
+use Rattle.tape_view.specs.Kept.{tape_of}
 use Rattle.net_view.proofs.Tests.{unwrap_or_or}
 use Rattle.tape_view.proofs.LastIn.{last_found}
 use Rattle.net_view.proofs.KeyPlaces as places

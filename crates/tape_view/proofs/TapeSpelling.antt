@@ -2,13 +2,13 @@
 use Rattle.std.specs.Prelude.{◌≡◌, ℕ, ◌-◌, ◌<◌, ◌≤◌, true, false, cond, List, [], ◌∷◌, take, length, get_or}
 use Rattle.std.proofs.Common.{Option, Some, None, refl, sym, ap, ◌∙◌}
 use Rattle.irc_support.specs.Text.{Text}
-use Rattle.tape_view.specs.declared.tape.Kept.{Kept}
+use Rattle.tape_view.specs.declared.kept.Kept.{Kept}
 use Rattle.net_view.specs.Told.{Disconnected}
 use Rattle.net_view.specs.Arrival.{Received}
 use Rattle.net_view.specs.Transcript.{Reading, readings_of, ours}
 use Rattle.net_view.specs.Presence.{is_on}
 use Rattle.net_view.specs.Facts.{says_spelling, in_sight, spelling_of}
-use Rattle.tape_view.specs.Tape.{with_lost, tape_of, IsMarkedTape}
+use Rattle.tape_view.specs.Kept.{with_lost, tape_of, IsMarkedTape}
 use Rattle.net_view.proofs.Tests.{no_true, and_parts}
 use Rattle.std.specs.Option.{unwrap_or}
 use Rattle.net_view.specs.LookBack.{last_of}

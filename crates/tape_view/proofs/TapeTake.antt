@@ -5,7 +5,7 @@ use Rattle.std.specs.Prelude.{◌≡◌, ◌&&◌, is_some, ℕ, zero, suc, Bool
 use Rattle.std.proofs.Common.{Option, Bor, codes, cond, not, refl, sym, ap, ◌∙◌, arith, subst}
 use Rattle.std.proofs.lemmas.List.{reverse-append, get_or_default}
 use Rattle.irc_line.specs.Line.{Parts, has_command}
-use Rattle.tape_view.specs.declared.tape.Kept.{Kept}
+use Rattle.tape_view.specs.declared.kept.Kept.{Kept}
 use Rattle.net_view.specs.Arrival.{Arrival, Received, Lost}
 use Rattle.net_view.specs.View.{view_back, view_of, lost_view}
 use Rattle.net_view.specs.Step.{after}
@@ -18,7 +18,7 @@ use Rattle.net_view.proofs.ReadCommands.{supports_said}
 use Rattle.net_view.specs.Transcript.{standing, own_nick, is_us, is_ready, ready_after, settings_of, settings_after}
 use Rattle.net_view.specs.Tells.{meant}
 use Rattle.tape_view.specs.Marked.{us_of, settles_said, IsMarked}
-use Rattle.tape_view.specs.Tape.{with_lost, played_back, tape_of, AreMarked, IsMarkedLine, IsMarkedTape}
+use Rattle.tape_view.specs.Kept.{with_lost, played_back, tape_of, AreMarked, IsMarkedLine, IsMarkedTape}
 use Rattle.net_view.proofs.StepLaw.{view_step, view_back_step}
 use Rattle.net_view.specs.Table.{table}
 use Rattle.net_view.specs.Told.{Disconnected}

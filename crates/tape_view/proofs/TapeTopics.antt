@@ -3,13 +3,13 @@ use Rattle.std.specs.Prelude.{◌≡◌, ℕ, ◌-◌, ◌<◌, ◌≤◌, Bool,
 use Rattle.std.specs.Option.{unwrap_or}
 use Rattle.std.proofs.Common.{Option, Some, None, refl, ap, ◌∙◌}
 use Rattle.irc_support.specs.Text.{Text}
-use Rattle.tape_view.specs.declared.tape.Kept.{Kept}
+use Rattle.tape_view.specs.declared.kept.Kept.{Kept}
 use Rattle.net_view.specs.Told.{Told}
 use Rattle.net_view.specs.Transcript.{Reading, readings_of, ours}
 use Rattle.net_view.specs.LookBack.{last}
 use Rattle.net_view.specs.Presence.{begins, anew_or, is_on}
 use Rattle.net_view.specs.Topic.{says_topic, topic_of}
-use Rattle.tape_view.specs.Tape.{tape_of}
+use Rattle.tape_view.specs.Kept.{tape_of}
 use Rattle.net_view.proofs.Tests.{unwrap_or_or, none_of_is_some}
 use Rattle.tape_view.proofs.InSight.{stays_on}
 use Rattle.tape_view.proofs.TapeBack.{line_at, reading, on_unlost, on_here}

@@ -2,11 +2,11 @@
 -- shown.
 use Rattle.std.specs.Prelude.{ℕ, ◌<◌, ◌≤◌, ◌^◌, List, length}
 use Rattle.tape_view.specs.declared.shown.Shown.{Shown}
-use Rattle.tape_view.specs.declared.tape.Kept.{Kept}
+use Rattle.tape_view.specs.declared.kept.Kept.{Kept}
 use Rattle.net_view.specs.Told.{Told, Joined, Renamed, Present}
 use Rattle.net_view.specs.Transcript.{readings_of}
 use Rattle.net_view.specs.Named.{named}
-use Rattle.tape_view.specs.Tape.{tape_of}
+use Rattle.tape_view.specs.Kept.{tape_of}
 use Rattle.tape_view.specs.Shown.{names_in}
 
 -- how many names an item brings up, of channels or of persons, whichever are more

@@ -9,13 +9,13 @@ ghost use Rattle.net_view.specs.Presence.{is_on};
 ghost use Rattle.net_view.specs.Members.{rank_decided, says_rank};
 ghost use Rattle.net_view.specs.Tells.{meant};
 ghost use Rattle.tape_view.specs.Marked.{IsMarked};
-ghost use Rattle.tape_view.specs.Tape.{tape_of, IsReadable};
+ghost use Rattle.tape_view.specs.Kept.{tape_of, IsReadable};
 
+use crate::kept::{Kept, name_before};
 use crate::listed::{is_same, rank_changed, rank_listed};
-use crate::tape::{Kept, name_before};
 use crate::marks::Marks;
-use net_view::{Telling, told};
 use irc_support::{Ranks, Support};
+use net_view::{Telling, told};
 use std::alloc::Allocator;
 
 /// What a line says of a person's holding a rank on a channel.

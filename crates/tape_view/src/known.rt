@@ -8,13 +8,13 @@ ghost use Rattle.net_view.specs.Presence.{is_on};
 ghost use Rattle.net_view.specs.Facts.{in_sight, known, says_account, says_away};
 ghost use Rattle.tape_view.specs.KnownFacts.{joined_said, says_of};
 ghost use Rattle.net_view.specs.Tells.{meant};
-ghost use Rattle.tape_view.specs.Tape.{tape_of, IsReadable};
+ghost use Rattle.tape_view.specs.Kept.{tape_of, IsReadable};
 
+use crate::kept::{Kept, is_member, name_before, name_on, spelled_by};
 use crate::listed::is_same;
-use crate::tape::{Kept, is_member, name_before, name_on, spelled_by};
 use crate::marks::Marks;
-use net_view::{Telling, told};
 use irc_support::Support;
+use net_view::{Telling, told};
 use std::alloc::Allocator;
 
 /// What may be known of a person in sight.

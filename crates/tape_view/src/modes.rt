@@ -14,16 +14,18 @@ ghost use Rattle.net_view.specs.Presence.{is_on};
 ghost use Rattle.net_view.specs.Modes.{setting_of, says_mode, mode_of};
 ghost use Rattle.net_view.specs.Tells.{meant};
 ghost use Rattle.tape_view.specs.Marked.{IsMarked};
-ghost use Rattle.tape_view.specs.Tape.{tape_of, IsReadable};
+ghost use Rattle.tape_view.specs.Kept.{tape_of, IsReadable};
 ghost use Rattle.net_view.specs.Least.{above_by, considered_by, improves_by, IsNextBy};
+ghost use Rattle.tape_view.specs.Tape.{key, key_there, meaning, IsBy};
 ghost use Rattle.tape_view.specs.Letters.{is_set, letter_shown, letters_listed, letters_told};
 
+use crate::kept::{Kept, says_on};
 use crate::listed::is_same;
-use crate::tape::{Kept, says_on};
 use crate::marks::Marks;
-use net_view::{Telling, is_word, told};
+use crate::tape::{Said, Tape};
 use irc_line::Line;
 use irc_support::{Kind, Support, changes};
+use net_view::{Telling, is_word, told};
 use std::alloc::Allocator;
 
 /// A mode: `None` where it is off, else on, with its parameter, where it has one.
@@ -243,4 +245,122 @@ pub(crate) fn letter_at<A: Allocator>(
         }
     }
     at
+}
+
+impl<'a, A: Allocator> Said<'a, A> {
+    /// What the line says of the mode of a letter.
+    fn says_mode(&self, channel: &[u8], letter: u8) -> Option<Setting<'a>>
+        ensures { (us : Text → Bool) → IsBy us self.now →
+            option_map (option_map (option_map (λ text. text.now))) result
+            ≡ says_mode (key_there self.now channel.now) letter us (meaning self.now) }
+    {
+        match &self.telling {
+            Telling::Joined(name, _, _)
+                if self.marks.by_us
+                    && self.support.is_channel(name)
+                    && is_same(self.support, channel, name) => { Some(None) }
+            Telling::Changed(name, line) if is_same(self.support, channel, name) => {
+                last_setting(self.support, line, letter)
+            }
+            Telling::Listed(name, line) if is_same(self.support, channel, name) => {
+                Some(last_setting(self.support, line, letter).unwrap_or(None))
+            }
+            _ => None,
+        }
+    }
+}
+
+impl<'a, A: Allocator> Tape<'a, A> {
+    /// The mode of a letter, of a channel on which we are.
+    pub(crate) fn mode(&self, channel: &[u8], letter: u8) -> Setting<'a>
+        requires { is_on self.now.readings (key self.now channel.now) ≡ true }
+        ensures { option_map (option_map (λ text. text.now)) result
+            ≡ mode_of self.now.readings (key self.now channel.now) letter }
+    {
+        let mut tape = self.copy();
+        while let Some((said, older)) = tape.split_last() {
+            if let Some(answer) = said.says_mode(channel, letter) {
+                return answer;
+            }
+            tape = older;
+        }
+        None
+    }
+
+    /// The best so far, or the best of the letters that a line lists: on, above the given one and before the
+    /// best.
+    fn best_listed(
+        &self,
+        channel: &[u8],
+        after: Option<u8>,
+        best: Option<u8>,
+        line: &Line<A>,
+    ) -> Option<u8>
+        requires { is_on self.now.readings (key self.now channel.now) ≡ true }
+        ensures { result
+            ≡ considered_by nat_cmp (is_set self.now.readings (key self.now channel.now)) after best
+            (letters_listed self.now.settings line.now) }
+    {
+        let mut best = best;
+        for change in changes(self.support(), line) {
+            if is_above(after, change.letter)
+                && is_better(best, change.letter)
+                && self.mode(channel, change.letter).is_some()
+            {
+                best = Some(change.letter);
+            }
+        }
+        best
+    }
+
+    /// The best so far, or the best of the letters that a MODE or a 324 lists.
+    fn better_letter(
+        &self,
+        channel: &[u8],
+        after: Option<u8>,
+        best: Option<u8>,
+        telling: &Telling<'_, A>,
+    ) -> Option<u8>
+        requires { is_on self.now.readings (key self.now channel.now) ≡ true }
+        ensures { result
+            ≡ considered_by nat_cmp (is_set self.now.readings (key self.now channel.now)) after best
+            (letters_told self.now.settings telling.now) }
+    {
+        match telling {
+            Telling::Changed(_, line) | Telling::Listed(_, line) => {
+                self.best_listed(channel, after, best, line)
+            }
+            _ => best,
+        }
+    }
+
+    /// The least letter above the given one, among those that are on. Before our own JOIN nothing counts.
+    fn next_letter(&self, channel: &[u8], after: Option<u8>) -> Option<u8>
+        requires { is_on self.now.readings (key self.now channel.now) ≡ true }
+        ensures { IsNextBy nat_cmp (is_set self.now.readings (key self.now channel.now)) after result }
+    {
+        let mut best = None;
+        let mut tape = self.copy();
+        while let Some((said, older)) = tape.split_last() {
+            if said.says_on(channel).is_some() {
+                return best;
+            }
+            best = self.better_letter(channel, after, best, &said.telling);
+            tape = older;
+        }
+        best
+    }
+
+    /// The letter at a place, counted from 0, of those that are on.
+    pub(crate) fn letter_at(&self, channel: &[u8], place: usize) -> Option<u8>
+        requires { is_on self.now.readings (key self.now channel.now) ≡ true }
+        ensures { result ≡ letter_shown self.now.readings (key self.now channel.now) place }
+    {
+        let mut at = self.next_letter(channel, None);
+        for _place in 0..place {
+            let letter = at?;
+            at = self.next_letter(channel, Some(letter));
+        }
+        at
+    }
 }

@@ -7,10 +7,10 @@ ghost use Rattle.tape_view.specs.NameCount.{name_count};
 ghost use Rattle.net_view.specs.StateLines.{listing};
 ghost use Rattle.net_view.specs.Tells.{meant};
 
-use net_view::Telling;
 use irc_line::Line;
 use irc_names::is_nameable;
 use irc_support::{Support, names};
+use net_view::Telling;
 use std::alloc::Allocator;
 
 /// The number of names with those of a 353; `None` where a `usize` can't hold it.

@@ -8,15 +8,15 @@ ghost use Rattle.net_view.specs.Names.{bytes_cmp};
 ghost use Rattle.net_view.specs.Transcript.{readings_of};
 ghost use Rattle.net_view.specs.Named.{named};
 ghost use Rattle.net_view.specs.Tells.{meant};
-ghost use Rattle.tape_view.specs.Tape.{tape_of, IsReadable};
+ghost use Rattle.tape_view.specs.Kept.{tape_of, IsReadable};
 ghost use Rattle.net_view.specs.Least.{above, better, considered, improves, key_in, IsNext};
 ghost use Rattle.tape_view.specs.Shown.{keys_listed, names_in, is_shown, shown_key, shown_len};
 
-use crate::tape::{Kept, is_member, name_on};
-use net_view::{Telling, told};
+use crate::kept::{Kept, is_member, name_on};
 use irc_line::Line;
 use irc_names::is_nameable;
 use irc_support::{Support, names};
+use net_view::{Telling, told};
 use std::alloc::Allocator;
 
 /// What is looked for by place: the channels that we are on, or the members of the channel of this name.

@@ -2,20 +2,16 @@
 
 ghost use Rattle.std.specs.Prelude.{◌≡◌, [], IfOk};
 
-use net_view::OutOfMemory;
-use net_view::{Channel, Member};
 use crate::held::ranks_in;
-use net_view::Item;
+use crate::kept::{Kept, marks_of, name_on, own_in, ready_in, spelling_in, topic_in};
 use crate::known::{Fact, fact_in};
 use crate::marks::fixed_after;
 use crate::modes::{letter_at, mode_in};
 use crate::name_count::with_named;
-use net_view::NetworkView;
 use crate::shown::{Shown, shown_at, shown_count};
-use crate::tape::{Kept, marks_of, name_on, own_in, ready_in, spelling_in, topic_in};
-use net_view::{Telling, is_state_line, told};
 use irc_line::Line;
 use irc_support::Support;
+use net_view::{Channel, Item, Member, NetworkView, OutOfMemory, Telling, is_state_line, told};
 use std::alloc::{Allocator, Global};
 use std::marker::Model;
 
@@ -39,7 +35,7 @@ impl<A: Allocator> Model for TapeView<A> {
     ghost use Rattle.net_view.specs.Transcript.{settings_of};
     ghost use Rattle.net_view.specs.Arrival.{Arrival};
     ghost use Rattle.tape_view.specs.NameCount.{IsCounted};
-    ghost use Rattle.tape_view.specs.Tape.{tape_of, IsMarkedTape};
+    ghost use Rattle.tape_view.specs.Kept.{tape_of, IsMarkedTape};
 
     ghost Value = { List Arrival };
 

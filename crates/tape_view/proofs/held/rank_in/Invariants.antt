@@ -2,7 +2,7 @@ use Rattle.std.proofs.Common.{◌≡◌, ◌≤◌, true, take, length}
 use Rattle.irc_support.specs.Settings.{key_by}
 use Rattle.net_view.specs.Transcript.{readings_of}
 use Rattle.net_view.specs.Presence.{is_on}
-use Rattle.tape_view.specs.Tape.{tape_of, IsReadable}
+use Rattle.tape_view.specs.Kept.{tape_of, IsReadable}
 use Rattle.net_view.specs.Members.{rank_decided}
 use Rattle.tape_view.proofs.TapeBack.{line_at}
 use Rattle.tape_view.proofs.held.rank_in.Given as goal

@@ -4,7 +4,7 @@ use Rattle.irc_support.specs.Ranks.{ranks_that, has_rank}
 use Rattle.irc_support.specs.Settings.{key_by}
 use Rattle.net_view.specs.Transcript.{readings_of}
 use Rattle.net_view.specs.Members.{rank_decided}
-use Rattle.tape_view.specs.Tape.{tape_of}
+use Rattle.tape_view.specs.Kept.{tape_of}
 use Rattle.tape_view.proofs.HeldRanks.{below, none_below, all_below, rank_put, rank_left}
 use Rattle.tape_view.proofs.held.ranks_in.Goals as goal
 use Rattle.tape_view.proofs.held.ranks_in.Goals.{then-rank_in, else-rank_in}

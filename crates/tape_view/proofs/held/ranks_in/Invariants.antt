@@ -3,7 +3,7 @@ use Rattle.irc_support.specs.Ranks.{ranks_that}
 use Rattle.irc_support.specs.Settings.{key_by}
 use Rattle.net_view.specs.Transcript.{readings_of}
 use Rattle.net_view.specs.Members.{rank_decided}
-use Rattle.tape_view.specs.Tape.{tape_of}
+use Rattle.tape_view.specs.Kept.{tape_of}
 use Rattle.tape_view.proofs.HeldRanks.{below}
 use Rattle.tape_view.proofs.held.ranks_in.Given as goal
 

@@ -6,7 +6,7 @@ use Rattle.net_view.specs.Transcript.{ours, readings_of}
 use Rattle.net_view.specs.LookBack.{name_before}
 use Rattle.net_view.specs.Presence.{is_on}
 use Rattle.net_view.specs.Facts.{in_sight, known, says_spelling}
-use Rattle.tape_view.specs.Tape.{tape_of, IsReadable}
+use Rattle.tape_view.specs.Kept.{tape_of, IsReadable}
 use Rattle.tape_view.specs.KnownFacts.{says_of}
 use Rattle.net_view.proofs.Tests.{none_of_is_some}
 use Rattle.net_view.proofs.People.{unseen_none}

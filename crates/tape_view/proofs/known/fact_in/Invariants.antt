@@ -3,7 +3,7 @@ use Rattle.irc_support.specs.Settings.{key_by}
 use Rattle.net_view.specs.Transcript.{readings_of}
 use Rattle.net_view.specs.Facts.{in_sight, known}
 use Rattle.tape_view.specs.KnownFacts.{says_of}
-use Rattle.tape_view.specs.Tape.{tape_of, IsReadable}
+use Rattle.tape_view.specs.Kept.{tape_of, IsReadable}
 use Rattle.tape_view.proofs.TapeBack.{line_at}
 use Rattle.tape_view.proofs.known.fact_in.Given as goal
 

@@ -7,7 +7,7 @@ use Rattle.irc_support.specs.Settings.{key_by}
 use Rattle.net_view.specs.Transcript.{readings_of}
 use Rattle.net_view.specs.Presence.{is_on}
 use Rattle.net_view.specs.Members.{is_member}
-use Rattle.tape_view.specs.Tape.{tape_of, IsReadable}
+use Rattle.tape_view.specs.Kept.{tape_of, IsReadable}
 use Rattle.tape_view.specs.KnownFacts.{joined_said}
 use Rattle.tape_view.proofs.InSight.{sees}
 use Rattle.tape_view.proofs.TapeBack.{line_at, readable_before}

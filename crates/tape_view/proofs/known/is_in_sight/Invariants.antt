@@ -1,7 +1,7 @@
 use Rattle.std.proofs.Common.{◌≤◌, length, take}
 use Rattle.irc_support.specs.Settings.{key_by}
 use Rattle.net_view.specs.Transcript.{readings_of}
-use Rattle.tape_view.specs.Tape.{tape_of, IsReadable}
+use Rattle.tape_view.specs.Kept.{tape_of, IsReadable}
 use Rattle.tape_view.proofs.TapeBack.{line_at}
 use Rattle.tape_view.proofs.TapeKnown.{AreOn}
 use Rattle.tape_view.proofs.known.is_in_sight.Given as goal

@@ -4,7 +4,7 @@ use Rattle.net_view.specs.Transcript.{readings_of}
 use Rattle.net_view.specs.Presence.{is_on}
 use Rattle.tape_view.specs.KnownFacts.{says_of}
 use Rattle.net_view.specs.Tells.{meant}
-use Rattle.tape_view.specs.Tape.{tape_of}
+use Rattle.tape_view.specs.Kept.{tape_of}
 use Rattle.tape_view.proofs.known.says_fact.Goals as goal
 
 pub returns-in-Account : goal.returns-in-Account

@@ -3,7 +3,7 @@ use Rattle.std.specs.Prelude.{is_some}
 use Rattle.std.specs.Ordering.{nat_cmp}
 use Rattle.irc_support.specs.Settings.{key_by}
 use Rattle.net_view.specs.Transcript.{readings_of}
-use Rattle.tape_view.specs.Tape.{tape_of}
+use Rattle.tape_view.specs.Kept.{tape_of}
 use Rattle.net_view.specs.Least.{above_by, improves_by, considered_by}
 use Rattle.tape_view.specs.Letters.{is_set, letters_listed}
 use Rattle.net_view.proofs.Tests.{is_some_map}

@@ -5,7 +5,7 @@ use Rattle.std.proofs.lemmas.List.{take_all}
 use Rattle.irc_support.specs.Settings.{key_by}
 use Rattle.net_view.specs.Transcript.{readings_of, ours}
 use Rattle.net_view.specs.Presence.{is_on, says_on}
-use Rattle.tape_view.specs.Tape.{tape_of, IsReadable}
+use Rattle.tape_view.specs.Kept.{tape_of, IsReadable}
 use Rattle.tape_view.specs.Letters.{is_set}
 use Rattle.net_view.proofs.Tests.{is_some_map}
 use Rattle.tape_view.proofs.NextKey.{IsNextOf, next_all, next_none}

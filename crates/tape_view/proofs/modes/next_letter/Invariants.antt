@@ -4,7 +4,7 @@ use Rattle.std.specs.Ordering.{nat_cmp}
 use Rattle.irc_support.specs.Settings.{key_by}
 use Rattle.net_view.specs.Transcript.{readings_of}
 use Rattle.net_view.specs.Presence.{is_on}
-use Rattle.tape_view.specs.Tape.{tape_of, IsReadable}
+use Rattle.tape_view.specs.Kept.{tape_of, IsReadable}
 use Rattle.tape_view.specs.Letters.{is_set}
 use Rattle.tape_view.proofs.NextKey.{IsNextOf}
 use Rattle.tape_view.proofs.TapeBack.{line_at}

@@ -3,7 +3,7 @@ use Rattle.std.specs.Option.{option_map}
 use Rattle.irc_support.specs.MemberShown.{shown_member}
 use Rattle.irc_support.specs.Settings.{key_by}
 use Rattle.net_view.specs.Transcript.{readings_of}
-use Rattle.tape_view.specs.Tape.{tape_of}
+use Rattle.tape_view.specs.Kept.{tape_of}
 use Rattle.net_view.specs.Least.{better, considered, key_in}
 use Rattle.tape_view.specs.Shown.{is_shown}
 use Rattle.tape_view.proofs.NameWords.{keys_of_words, considered_word}

@@ -3,7 +3,7 @@ use Rattle.std.specs.Prelude.{not}
 use Rattle.std.specs.Option.{option_map}
 use Rattle.std.proofs.lemmas.List.{take_all}
 use Rattle.net_view.specs.Transcript.{readings_of}
-use Rattle.tape_view.specs.Tape.{tape_of, IsReadable}
+use Rattle.tape_view.specs.Kept.{tape_of, IsReadable}
 use Rattle.net_view.specs.Least.{key_in}
 use Rattle.tape_view.specs.Shown.{is_shown}
 use Rattle.tape_view.proofs.TapeBack.{line_at, readable_before}

@@ -2,13 +2,13 @@ use Rattle.std.proofs.Common.{◌≡◌, true, false, refl, sym, ap, ◌∙◌}
 use Rattle.std.specs.Prelude.{◌&&◌, is_some, not}
 use Rattle.net_view.proofs.Tests.{and_false}
 use Rattle.std.specs.Option.{option_map, unwrap_or}
-use Rattle.tape_view.specs.declared.tape.Kept.{Kept}
+use Rattle.tape_view.specs.declared.kept.Kept.{Kept}
 use Rattle.net_view.specs.Arrival.{Received}
 use Rattle.net_view.specs.StateLines.{told}
 use Rattle.net_view.specs.Transcript.{own_nick, is_ready, settings_after}
 use Rattle.net_view.specs.Tells.{meant}
 use Rattle.tape_view.specs.Marked.{settles_said}
-use Rattle.tape_view.specs.Tape.{tape_of}
+use Rattle.tape_view.specs.Kept.{tape_of}
 use Rattle.net_view.proofs.Tests.{is_some_map}
 use Rattle.tape_view.proofs.Counted.{counted_push, counted_so}
 use Rattle.tape_view.proofs.TapeTake.{IsNewLine, line_marked, line_settings, pushed_tape, supports_settings, late_settings, idle_settings}

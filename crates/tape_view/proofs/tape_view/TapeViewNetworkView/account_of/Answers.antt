@@ -4,7 +4,7 @@ use Rattle.net_view.specs.Transcript.{readings_of}
 use Rattle.net_view.specs.Facts.{account_of}
 use Rattle.net_view.specs.View.{view_back}
 use Rattle.net_view.specs.Readers.{account_shown, known_at}
-use Rattle.tape_view.specs.Tape.{tape_of}
+use Rattle.tape_view.specs.Kept.{tape_of}
 use Rattle.tape_view.proofs.TapeKnown.{account_known}
 use Rattle.tape_view.proofs.tape_view.TapeViewNetworkView.account_of.Goals as goal
 

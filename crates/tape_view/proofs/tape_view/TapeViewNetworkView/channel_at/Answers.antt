@@ -8,7 +8,7 @@ use Rattle.net_view.specs.View.{Channel, view_back}
 use Rattle.net_view.specs.Readers.{channel_shown}
 use Rattle.net_view.specs.Least.{key_in}
 use Rattle.tape_view.specs.Shown.{shown_key}
-use Rattle.tape_view.specs.Tape.{tape_of}
+use Rattle.tape_view.specs.Kept.{tape_of}
 use Rattle.tape_view.specs.declared.shown.Shown.TheVariants.{Channels}
 use Rattle.tape_view.proofs.TapePlaces as places
 use Rattle.tape_view.proofs.tape_view.TapeViewNetworkView.channel_at.Goals as goal

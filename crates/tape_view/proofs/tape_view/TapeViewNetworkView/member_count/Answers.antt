@@ -6,7 +6,7 @@ use Rattle.net_view.specs.View.{view_back}
 use Rattle.net_view.specs.Readers.{members_shown}
 use Rattle.net_view.specs.Least.{key_in}
 use Rattle.tape_view.specs.Shown.{shown_key, shown_len}
-use Rattle.tape_view.specs.Tape.{tape_of}
+use Rattle.tape_view.specs.Kept.{tape_of}
 use Rattle.tape_view.specs.declared.shown.Shown.TheVariants.{Channels, Members}
 use Rattle.tape_view.proofs.Counted.{few_counted}
 use Rattle.tape_view.proofs.TapePlaces as places

@@ -9,7 +9,7 @@ use Rattle.net_view.specs.Readers.{mode_parts, mode_shown}
 use Rattle.net_view.specs.Least.{key_in}
 use Rattle.tape_view.specs.Shown.{shown_key}
 use Rattle.tape_view.specs.Letters.{letter_shown}
-use Rattle.tape_view.specs.Tape.{tape_of}
+use Rattle.tape_view.specs.Kept.{tape_of}
 use Rattle.tape_view.specs.declared.shown.Shown.TheVariants.{Channels}
 use Rattle.tape_view.proofs.NextLetter.{channel_on, no_mode, mode_there}
 use Rattle.tape_view.proofs.tape_view.TapeViewNetworkView.mode_at.Goals as goal
