@@ -3,7 +3,7 @@ pub mod LastLine
 pub mod TapeLast
 pub mod TapeMembers
 pub mod TapeTake
-pub mod Places
+pub mod NamePlaces
 pub mod NextKey
 pub mod NextShown
 pub mod ShownPlaces
@@ -20,4 +20,6 @@ pub mod TapeModes
 pub mod NextLetter
 pub mod LetterLine
 pub mod SightLine
+pub mod TableLine
+pub mod TablePlaces
 pub mod HeldRanks

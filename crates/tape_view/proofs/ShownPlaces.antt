@@ -19,7 +19,7 @@ use Rattle.net_view.specs.Least.{IsNext}
 use Rattle.tape_view.specs.Shown.{names_in, is_shown, shown_key, shown_len}
 use Rattle.net_view.proofs.Channels.{channels_get, members_get}
 use Rattle.net_view.proofs.Tests.{is_some_map}
-use Rattle.tape_view.proofs.Places as places
+use Rattle.tape_view.proofs.NamePlaces as places
 
 some_where : {X : Type 0} (b : Bool) (x : X) → is_some (cond b (Some x) None) ≡ b
 some_where true x = refl

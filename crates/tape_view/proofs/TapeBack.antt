@@ -23,7 +23,7 @@ use Rattle.net_view.specs.View.{channel_named}
 use Rattle.net_view.proofs.Tests.{unwrap_or_or, no_true, none_of_is_some}
 use Rattle.net_view.proofs.Channels.{channels_get}
 use Rattle.net_view.proofs.SoundStep.{sound_back}
-use Rattle.tape_view.proofs.Places.{false_unless}
+use Rattle.tape_view.proofs.NamePlaces.{false_unless}
 
 -- one more line
 pub tape_more : {A : Type 0} (ks : List (Kept A)) (i : ℕ) (d : Kept A) → i < length ks → tape_of (take (i + 1) ks) ≡ with_lost (get_or ks i d).lost (Received (get_or ks i d).line ∷ tape_of (take i ks))

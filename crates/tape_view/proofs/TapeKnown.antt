@@ -30,7 +30,7 @@ use Rattle.tape_view.specs.KnownFacts.{joined_said}
 use Rattle.net_view.proofs.Tests.{and_parts, any_false, is_some_when, no_true, none_of_is_some}
 use Rattle.net_view.proofs.Keys.{is_same}
 use Rattle.net_view.proofs.People.{people_get, account_field, away_field}
-use Rattle.tape_view.proofs.Places.{at_key, false_unless}
+use Rattle.tape_view.proofs.NamePlaces.{at_key, false_unless}
 use Rattle.tape_view.proofs.InSight.{stays_on}
 use Rattle.tape_view.proofs.TapeBack.{line_at, reading, told_at, marked_at, fixed_at, unready_off, asked, on_here}
 use Rattle.net_view.proofs.PeopleSound.{unspelled_keeps_name}

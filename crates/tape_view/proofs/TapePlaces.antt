@@ -26,7 +26,7 @@ use Rattle.net_view.proofs.Tests.{and_parts, no_true}
 use Rattle.net_view.proofs.Keys.{is_same}
 use Rattle.net_view.proofs.Channels.{channels_get, members_get}
 use Rattle.net_view.proofs.People.{people_get, spelling_field}
-use Rattle.tape_view.proofs.Places.{at_key, below_found, find_at, first_and, and_last, none_mapped, not_before_itself, same_itself, T_true}
+use Rattle.tape_view.proofs.NamePlaces.{at_key, below_found, find_at, first_and, and_last, none_mapped, not_before_itself, same_itself, T_true}
 use Rattle.net_view.proofs.SoundStep.{sound_back}
 use Rattle.tape_view.proofs.InSight.{sees}
 

@@ -3,6 +3,7 @@ pub mod Kept
 pub mod Tape
 pub mod Letters
 pub mod Shown
+pub mod Places
 pub mod NameCount
 pub mod KnownFacts
 pub mod FactKinds

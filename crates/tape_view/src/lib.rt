@@ -10,6 +10,7 @@ mod marks;
 mod members;
 mod modes;
 mod name_count;
+mod places;
 mod presence;
 mod ranks;
 mod shown;

@@ -6,6 +6,8 @@ ghost use Rattle.irc_support.specs.Text.{Text};
 ghost use Rattle.net_view.specs.LookBack.{name_before};
 ghost use Rattle.net_view.specs.Names.{same};
 ghost use Rattle.net_view.specs.Presence.{is_on};
+ghost use Rattle.net_view.specs.Transcript.{readings_of};
+ghost use Rattle.tape_view.specs.Kept.{tape_of, IsReadable};
 ghost use Rattle.tape_view.specs.Tape.{key, key_there, meaning, IsBy, IsLast};
 
 use crate::kept::Kept;
@@ -73,6 +75,15 @@ impl<'a, A: Allocator> Model for Tape<'a, A> {
 }
 
 impl<'a, A: Allocator> Tape<'a, A> {
+    /// These lines, by the settings in force after them.
+    pub(crate) fn new(support: &'a Support<A>, kept: &'a [Kept<A>]) -> Tape<'a, A>
+        requires { IsReadable support.now kept.now }
+        ensures settings { result.settings ≡ support.now }
+        ensures readings { result.readings ≡ readings_of (tape_of kept.now) }
+    {
+        Tape { support, kept }
+    }
+
     /// The same tape, to be looked back through.
     pub(crate) fn copy(&self) -> Tape<'a, A>
         ensures { result ≡ self.now }

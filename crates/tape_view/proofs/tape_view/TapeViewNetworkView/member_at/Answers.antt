@@ -6,7 +6,7 @@ use Rattle.irc_support.specs.Ranks.{ranks_that}
 use Rattle.net_view.specs.Presence.{is_on}
 use Rattle.net_view.specs.Members.{rank_decided}
 use Rattle.net_view.specs.Facts.{in_sight, spelling_of, account_of, away_of}
-use Rattle.tape_view.proofs.Places.{none_mapped}
+use Rattle.tape_view.proofs.NamePlaces.{none_mapped}
 use Rattle.tape_view.proofs.TapeKnown.{account_shown_at, away_shown_at}
 use Rattle.net_view.specs.View.{view_back}
 use Rattle.net_view.specs.Readers.{MemberParts, member_shown}
