@@ -13,7 +13,7 @@ use Rattle.net_view.specs.Members.{says_member}
 use Rattle.net_view.proofs.Tests.{unwrap_or_or, none_of_is_some}
 use Rattle.tape_view.specs.declared.tape.Said.{Said}
 use Rattle.tape_view.specs.Tape.{Heard, key, key_there, meaning, meaning_in, IsBy, IsLast}
-use Rattle.tape_view.specs.Marked.{IsMarked}
+use Rattle.tape_view.specs.Marks.{IsMarked}
 use Rattle.net_view.specs.Tells.{meant}
 use Rattle.tape_view.proofs.InSight.{stays_on}
 

@@ -20,7 +20,7 @@ use Rattle.net_view.proofs.PeopleSound.{unspelled_keeps_name}
 use Rattle.net_view.proofs.Tests.{no_true, none_of_is_some, is_some_when, and_parts, any_false}
 use Rattle.tape_view.specs.declared.tape.Said.{Said}
 use Rattle.tape_view.specs.FactKinds.{joined_to}
-use Rattle.tape_view.specs.Marked.{IsMarked}
+use Rattle.tape_view.specs.Marks.{IsMarked}
 use Rattle.tape_view.specs.Tape.{Heard, key, key_there, meaning, meaning_in, IsBy, IsLast}
 use Rattle.tape_view.proofs.InSight.{stays_on, was_in_sight}
 use Rattle.tape_view.proofs.LastLine.{said_here, said_in, before_line}

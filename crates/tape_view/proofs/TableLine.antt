@@ -3,7 +3,7 @@ use Rattle.std.specs.Prelude.{◌≡◌, Bool, true, false, not, ◌&&◌, List,
 use Rattle.std.specs.List.{list_any}
 use Rattle.std.specs.Option.{option_and_then, unwrap_or}
 use Rattle.std.specs.Cmp.Lexicographic.{nat_list_cmp_total}
-use Rattle.std.proofs.Common.{Option, Some, None, refl, sym, ap, ◌∙◌, subst, ⊎_elim}
+use Rattle.std.proofs.Common.{Option, Some, refl, sym, ap, ◌∙◌, subst, ⊎_elim}
 use Rattle.std.proofs.lemmas.Option.{none-some, same_Some}
 use Rattle.irc_support.specs.Text.{Text}
 use Rattle.irc_support.specs.Tokens.{Token}

@@ -18,7 +18,8 @@ use Rattle.tape_view.specs.Places.{names_in, is_there, key_at, table_len}
 use Rattle.tape_view.specs.Tape.{Heard, key}
 use Rattle.net_view.proofs.Channels.{channels_get, members_get}
 use Rattle.net_view.proofs.Tests.{is_some_map}
-use Rattle.tape_view.proofs.NamePlaces as places
+use Rattle.net_view.proofs.KeyPlaces as places
+use Rattle.net_view.proofs.Keys.{bytes_exact}
 
 some_where : {X : Type 0} (b : Bool) (x : X) → is_some (cond b (Some x) None) ≡ b
 some_where true x = refl
@@ -31,24 +32,24 @@ member_there : (rs : List Reading) (c n : Text) → is_some (fin.get (members_of
 member_there rs c n = ap is_some (members_get rs c n) ∙ some_where (is_member rs c n) _
 
 pub key_zero : (tape : Heard) (table : Table) (best : Option Text) → IsNext (is_there tape table) None best → best ≡ key_at tape table 0
-key_zero tape Channels best h = places.place_zero (channels_of tape.readings) (is_there tape Channels) (channel_there tape) best h
-key_zero tape (Members channel) best h = places.place_zero (members_of tape.readings (key tape channel.now)) (is_there tape (Members channel)) (member_there tape.readings (key tape channel.now)) best h
+key_zero tape Channels best h = places.place_zero nat_list_cmp_total bytes_exact (channels_of tape.readings) (is_there tape Channels) (channel_there tape) best h
+key_zero tape (Members channel) best h = places.place_zero nat_list_cmp_total bytes_exact (members_of tape.readings (key tape channel.now)) (is_there tape (Members channel)) (member_there tape.readings (key tape channel.now)) best h
 
 pub key_next : (tape : Heard) (table : Table) (j : ℕ) (k : Text) (best : Option Text) → Some k ≡ key_at tape table j → IsNext (is_there tape table) (Some k) best → best ≡ key_at tape table (j + 1)
-key_next tape Channels j k best at h = places.place_next (channels_of tape.readings) (is_there tape Channels) (channel_there tape) j k best at h
-key_next tape (Members channel) j k best at h = places.place_next (members_of tape.readings (key tape channel.now)) (is_there tape (Members channel)) (member_there tape.readings (key tape channel.now)) j k best at h
+key_next tape Channels j k best at h = places.place_next nat_list_cmp_total bytes_exact (channels_of tape.readings) (is_there tape Channels) (channel_there tape) j k best at h
+key_next tape (Members channel) j k best at h = places.place_next nat_list_cmp_total bytes_exact (members_of tape.readings (key tape channel.now)) (is_there tape (Members channel)) (member_there tape.readings (key tape channel.now)) j k best at h
 
 pub key_none : (tape : Heard) (table : Table) (j i : ℕ) → None ≡ key_at tape table j → j ≤ i → None ≡ key_at tape table i
-key_none tape Channels j i e h = places.place_none (channels_of tape.readings) (is_there tape Channels) (channel_there tape) j i e h
-key_none tape (Members channel) j i e h = places.place_none (members_of tape.readings (key tape channel.now)) (is_there tape (Members channel)) (member_there tape.readings (key tape channel.now)) j i e h
+key_none tape Channels j i e h = places.place_none nat_list_cmp_total bytes_exact (channels_of tape.readings) (is_there tape Channels) (channel_there tape) j i e h
+key_none tape (Members channel) j i e h = places.place_none nat_list_cmp_total bytes_exact (members_of tape.readings (key tape channel.now)) (is_there tape (Members channel)) (member_there tape.readings (key tape channel.now)) j i e h
 
 pub key_below : (tape : Heard) (table : Table) (j : ℕ) (k : Text) → Some k ≡ key_at tape table j → j < table_len tape table
-key_below tape Channels j k e = places.place_below (channels_of tape.readings) (is_there tape Channels) (channel_there tape) j k e
-key_below tape (Members channel) j k e = places.place_below (members_of tape.readings (key tape channel.now)) (is_there tape (Members channel)) (member_there tape.readings (key tape channel.now)) j k e
+key_below tape Channels j k e = places.place_below nat_list_cmp_total bytes_exact (channels_of tape.readings) (is_there tape Channels) (channel_there tape) j k e
+key_below tape (Members channel) j k e = places.place_below nat_list_cmp_total bytes_exact (members_of tape.readings (key tape channel.now)) (is_there tape (Members channel)) (member_there tape.readings (key tape channel.now)) j k e
 
 pub key_end : (tape : Heard) (table : Table) (j : ℕ) → None ≡ key_at tape table j → j ≤ table_len tape table → j ≡ table_len tape table
-key_end tape Channels j e h = places.place_end (channels_of tape.readings) (is_there tape Channels) (channel_there tape) j e h
-key_end tape (Members channel) j e h = places.place_end (members_of tape.readings (key tape channel.now)) (is_there tape (Members channel)) (member_there tape.readings (key tape channel.now)) j e h
+key_end tape Channels j e h = places.place_end nat_list_cmp_total bytes_exact (channels_of tape.readings) (is_there tape Channels) (channel_there tape) j e h
+key_end tape (Members channel) j e h = places.place_end nat_list_cmp_total bytes_exact (members_of tape.readings (key tape channel.now)) (is_there tape (Members channel)) (member_there tape.readings (key tape channel.now)) j e h
 
 -- ---- there are at most as many as names are brought up
 

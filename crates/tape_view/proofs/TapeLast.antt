@@ -1,6 +1,6 @@
 -- The last of some kept lines, and those before it.
-use Rattle.std.specs.Prelude.{◌≡◌, ◌+◌, ◌-◌, ◌<◌, ◌≤◌, Bool, true, false, cond, List, [], ◌∷◌, ◌++◌, take, length, get_or, is_some, not, ◌&&◌}
-use Rattle.std.proofs.Common.{◌⊎◌, inl, inr, Some, None, Bor, refl, sym, ap, ◌∙◌, arith, subst}
+use Rattle.std.specs.Prelude.{◌≡◌, ◌+◌, ◌-◌, ◌<◌, ◌≤◌, Bool, true, false, cond, List, [], ◌∷◌, ◌++◌, take, length, get_or, is_some, not, ◌&&◌, ℕ, zero, suc, set}
+use Rattle.std.proofs.Common.{◌⊎◌, inl, inr, Option, Some, None, Bor, refl, sym, ap, ◌∙◌, arith, subst}
 use Rattle.std.proofs.lemmas.List.{reverse-append, take_more, take_all}
 use Rattle.irc_line.specs.Line.{Parts}
 use Rattle.irc_support.specs.Text.{Text}
@@ -8,10 +8,10 @@ use Rattle.irc_support.specs.Tokens.{Token, set_tokens}
 use Rattle.tape_view.specs.declared.kept.Kept.{Kept}
 use Rattle.tape_view.specs.declared.tape.Said.{Said}
 use Rattle.net_view.specs.declared.state_line.Telling.{Telling}
-use Rattle.net_view.specs.Told.{Told, Welcomed, Supports}
+use Rattle.net_view.specs.Told.{Told, Welcomed, Supports, Renamed}
 use Rattle.net_view.specs.Arrival.{Arrival, Received}
 use Rattle.net_view.specs.StateLines.{told}
-use Rattle.net_view.specs.Transcript.{Standing, standing, standing_after, settings_after, settings_of, ready_after, is_ready, Reading, readings_of, ours}
+use Rattle.net_view.specs.Transcript.{Standing, standing, standing_after, settings_after, settings_of, ready_after, is_ready, own_after, own_nick, is_us, Reading, readings_of, ours}
 use Rattle.net_view.specs.Presence.{name_on, is_on}
 use Rattle.net_view.specs.Tells.{meant}
 use Rattle.net_view.specs.View.{channel_named}
@@ -19,8 +19,8 @@ use Rattle.net_view.proofs.Channels.{channels_get}
 use Rattle.net_view.proofs.KeyPlaces.{false_unless}
 use Rattle.net_view.proofs.SoundStep.{sound_back}
 use Rattle.net_view.proofs.Tests.{no_true}
-use Rattle.std.specs.Option.{option_map}
-use Rattle.tape_view.specs.Marked.{IsMarked}
+use Rattle.std.specs.Option.{option_map, option_or}
+use Rattle.tape_view.specs.Marks.{own_said, IsMarked}
 use Rattle.tape_view.specs.Kept.{with_lost, played_back, tape_of, AreMarked, IsMarkedLine, IsMarkedTape, IsReadable}
 use Rattle.tape_view.specs.Tape.{Heard, IsLast}
 
@@ -115,6 +115,19 @@ module _ {A : Type 0} (front : List (Kept A)) (k : Kept A) where
           same_settings = refl;
         }
 
+own_by : (t : Told) (s : Standing) → own_after t s ≡ option_or (own_said (is_us s) t) s.own
+own_by (Welcomed nick) s = refl
+own_by (Renamed old new) s = elim (is_us s old) as (λ b. cond b (Some new.spelled) s.own ≡ option_or (cond b (Some new.spelled) None) s.own) [ true ↦ refl | false ↦ refl ]
+own_by _ s = refl
+
+pub own_none : (A : Type 0) → own_nick (tape_of {A = A} []) ≡ None
+unfolding tape_of
+own_none A = refl
+
+pub ready_none : (A : Type 0) → is_ready (tape_of {A = A} []) ≡ false
+unfolding tape_of
+ready_none A = refl
+
 module _ {A : Type 0} (ks : List (Kept A)) (k : Kept A) (some : 1 ≤ length ks) (last : k ≡ get_or ks (length ks - 1) k) where
   abbrev older : List (Kept A)
   older = take (length ks - 1) ks
@@ -135,9 +148,47 @@ module _ {A : Type 0} (ks : List (Kept A)) (k : Kept A) (some : 1 ≤ length ks)
       (ap (λ l. record { settings = s.now; readings = readings_of (tape_of l) }) (sym e) ∙ is)
       (is_last_here older k s.now (subst (IsReadable s.now) e h) fixed s r refl lost tells)
 
+  pub marked_older : IsMarkedTape ks → IsMarkedTape (take (length ks - 1) ks)
+  marked_older m = (marked_split older k (subst IsMarkedTape (ends_with ks k some last) m)).1
+
+  pub own_last : (r : Telling A) (own : Option Text) → ((s : List Token) → meant s r ≡ told s (Received k.line)) → IsMarkedTape ks → ((s : List Token) (us : Text → Bool) → IsMarked us (meant s r) k.marks → own ≡ own_said us (meant s r)) →
+      own_nick (tape_of ks) ≡ option_or own (own_nick (tape_of (take (length ks - 1) ks)))
+  own_last r own tells m read =
+      let e = ends_with ks k some last in
+      let items = tape_of older in
+      let tell = tells (settings_of items) in
+      let marks = (marked_split older k (subst IsMarkedTape e m)).0 in
+      ap (λ l. own_nick (tape_of l)) e
+      ∙ ap (λ (s : Standing). s.own) (standing_here older k)
+      ∙ ap (λ t. own_after t (standing items)) (sym tell)
+      ∙ own_by (meant (settings_of items) r) (standing items)
+      ∙ ap (λ o. option_or o (own_nick items)) (sym (read (settings_of items) (is_us (standing items)) (subst (λ t. IsMarked (is_us (standing items)) t k.marks) (sym tell) marks.marks)))
+
+  pub ready_last : IsMarkedTape ks → is_ready (tape_of ks) ≡ k.fixed
+  ready_last m =
+      let e = ends_with ks k some last in
+      ap (λ l. is_ready (tape_of l)) e ∙ fixed_here older k (subst IsMarkedTape e m)
+
 pub last_shorter : {A : Type 0} (tape older : Heard) (said : Said A) → IsLast tape said older → length older.readings < length tape.readings
 last_shorter tape older said line = let e = ap length line.whole in omega (arith, e)
 
 pub no_lines : {X : Type 0} (ks : List X) → length ks < 1 → ks ≡ []
 no_lines [] e = refl
 no_lines (k ∷ ks) e = absurd (omega arith)
+
+-- a list whose last place is this one
+pub record EndsWith {A : Type 0} (ks : List A) (i : ℕ) (x : A) : Type 0 where
+  pub front : List A
+  pub last : A
+  pub whole : ks ≡ front ++ last ∷ []
+  pub marked : set ks i x ≡ front ++ x ∷ []
+  pub is : get_or ks i x ≡ last
+
+pub split_last : {A : Type 0} (ks : List A) (i : ℕ) (x : A) → suc i ≡ length ks → EndsWith ks i x
+split_last [] i x e = absurd (omega arith)
+split_last (k ∷ []) zero x e = record { front = []; last = k; whole = refl; marked = refl; is = refl }
+split_last (k ∷ []) (suc i) x e = absurd (omega arith)
+split_last (k ∷ j ∷ ks) zero x e = absurd (omega arith)
+split_last (k ∷ j ∷ ks) (suc i) x e =
+    let r = split_last (j ∷ ks) i x (omega arith) in
+    record { front = k ∷ r.front; last = r.last; whole = ap (λ s. k ∷ s) r.whole; marked = ap (λ s. k ∷ s) r.marked; is = r.is }

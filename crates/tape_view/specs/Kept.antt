@@ -4,7 +4,7 @@ use Rattle.irc_support.specs.Tokens.{Token}
 use Rattle.net_view.specs.Arrival.{Arrival, Received, Lost}
 use Rattle.net_view.specs.StateLines.{told}
 use Rattle.net_view.specs.Transcript.{standing, is_us, is_ready, settings_of}
-use Rattle.tape_view.specs.Marked.{IsMarked}
+use Rattle.tape_view.specs.Marks.{IsMarked}
 use Rattle.tape_view.specs.declared.kept.Kept.{Kept}
 
 abbrev pub with_lost : Bool → List Arrival → List Arrival

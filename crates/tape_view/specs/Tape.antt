@@ -7,7 +7,7 @@ use Rattle.net_view.specs.Told.{Told}
 use Rattle.net_view.specs.Arrival.{Arrival}
 use Rattle.net_view.specs.Transcript.{Reading, readings_of, settings_of, ours}
 use Rattle.net_view.specs.Tells.{meant}
-use Rattle.tape_view.specs.Marked.{IsMarked}
+use Rattle.tape_view.specs.Marks.{IsMarked}
 use Rattle.tape_view.specs.declared.tape.Said.{Said}
 
 -- the settings in force, and the readings, the newest first

@@ -5,7 +5,7 @@ ghost use Rattle.irc_support.specs.Text.{Text};
 ghost use Rattle.net_view.specs.Presence.{is_on};
 ghost use Rattle.net_view.specs.Facts.{in_sight, known, says_account, says_away, says_spelling};
 ghost use Rattle.net_view.specs.Tells.{meant};
-ghost use Rattle.tape_view.specs.Marked.{IsMarked};
+ghost use Rattle.tape_view.specs.Marks.{IsMarked};
 ghost use Rattle.tape_view.specs.FactKinds.{joined_to, says_of};
 ghost use Rattle.tape_view.specs.Tape.{key, key_there, meaning, meaning_in, IsBy};
 

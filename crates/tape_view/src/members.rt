@@ -15,7 +15,7 @@ ghost use Rattle.net_view.specs.Members.{is_member, lists, rank_in_listing, says
 ghost use Rattle.net_view.specs.Facts.{spelled_in};
 ghost use Rattle.tape_view.specs.Tape.{key, key_there, meaning, IsBy};
 
-use crate::listed::is_same;
+use crate::kept::is_same;
 use crate::tape::{Said, Tape};
 use irc_line::Line;
 use irc_names::is_nameable;

@@ -8,24 +8,18 @@ ghost use Rattle.irc_support.specs.Text.{Text};
 ghost use Rattle.irc_support.specs.Settings.{key_by};
 ghost use Rattle.irc_support.specs.Line.{changes_in};
 ghost use Rattle.net_view.specs.StateLines.{mode_change, setting_by};
-ghost use Rattle.net_view.specs.Transcript.{readings_of};
 ghost use Rattle.net_view.specs.LookBack.{last_in};
 ghost use Rattle.net_view.specs.Presence.{is_on};
 ghost use Rattle.net_view.specs.Modes.{setting_of, says_mode, mode_of};
-ghost use Rattle.net_view.specs.Tells.{meant};
-ghost use Rattle.tape_view.specs.Marked.{IsMarked};
-ghost use Rattle.tape_view.specs.Kept.{tape_of, IsReadable};
 ghost use Rattle.net_view.specs.Least.{above_by, considered_by, improves_by, IsNextBy};
 ghost use Rattle.tape_view.specs.Tape.{key, key_there, meaning, IsBy};
 ghost use Rattle.tape_view.specs.Letters.{is_set, letter_shown, letters_listed, letters_told};
 
-use crate::kept::{Kept, says_on};
-use crate::listed::is_same;
-use crate::marks::Marks;
+use crate::kept::is_same;
 use crate::tape::{Said, Tape};
 use irc_line::Line;
 use irc_support::{Kind, Support, changes};
-use net_view::{Telling, is_word, told};
+use net_view::{Telling, is_word};
 use std::alloc::Allocator;
 
 /// A mode: `None` where it is off, else on, with its parameter, where it has one.
@@ -67,67 +61,6 @@ fn last_setting<'a, A: Allocator, B: Allocator>(
     last
 }
 
-/// What a line says of the mode of a letter.
-fn says_mode<'a, S: Allocator, A: Allocator>(
-    support: &'a Support<S>,
-    telling: &Telling<'a, A>,
-    marks: Marks,
-    channel: &[u8],
-    letter: u8,
-) -> Option<Setting<'a>>
-    ensures { (us : Text → Bool) → IsMarked us (meant support.now telling.now) marks →
-        option_map (option_map (option_map (λ text. text.now))) result
-        ≡ says_mode (key_by support.now channel.now) letter us (meant support.now telling.now) }
-{
-    match telling {
-        Telling::Joined(name, _, _) => {
-            if marks.by_us && support.is_channel(name) && is_same(support, channel, name) {
-                Some(None)
-            } else {
-                None
-            }
-        }
-        Telling::Changed(name, line) => {
-            if is_same(support, channel, name) {
-                last_setting(support, line, letter)
-            } else {
-                None
-            }
-        }
-        Telling::Listed(name, line) => {
-            if is_same(support, channel, name) {
-                Some(last_setting(support, line, letter).unwrap_or(None))
-            } else {
-                None
-            }
-        }
-        _ => None,
-    }
-}
-
-/// The mode of a letter, of a channel on which we are, after these lines.
-pub(crate) fn mode_in<'a, A: Allocator>(
-    support: &'a Support<A>,
-    kept: &'a [Kept<A>],
-    channel: &[u8],
-    letter: u8,
-) -> Setting<'a>
-    requires readable { IsReadable support.now kept.now }
-    requires on { is_on (readings_of (tape_of kept.now)) (key_by support.now channel.now) ≡ true }
-    ensures { option_map (option_map (λ text. text.now)) result
-        ≡ mode_of (readings_of (tape_of kept.now)) (key_by support.now channel.now) letter }
-{
-    let mut i = kept.len();
-    while i > 0 {
-        i -= 1;
-        let entry = &kept[i];
-        if let Some(answer) = says_mode(support, &told(&entry.line), entry.marks, channel, letter) {
-            return answer;
-        }
-    }
-    None
-}
-
 /// Whether a letter stands above the one that was given, if any.
 fn is_above(after: Option<u8>, letter: u8) -> bool
     ensures { result ≡ above_by nat_cmp after letter }
@@ -146,105 +79,6 @@ fn is_better(best: Option<u8>, letter: u8) -> bool
         Some(best) => letter < best,
         None => true,
     }
-}
-
-/// The best so far, or the best of the letters that a line lists: on, above the given one and before the
-/// best.
-fn best_listed<A: Allocator>(
-    support: &Support<A>,
-    kept: &[Kept<A>],
-    channel: &[u8],
-    after: Option<u8>,
-    best: Option<u8>,
-    line: &Line<A>,
-) -> Option<u8>
-    requires readable { IsReadable support.now kept.now }
-    requires on { is_on (readings_of (tape_of kept.now)) (key_by support.now channel.now) ≡ true }
-    ensures { result
-        ≡ considered_by nat_cmp (is_set (readings_of (tape_of kept.now))
-        (key_by support.now channel.now)) after best (letters_listed support.now line.now) }
-{
-    let mut best = best;
-    for change in changes(support, line) {
-        if is_above(after, change.letter)
-            && is_better(best, change.letter)
-            && mode_in(support, kept, channel, change.letter).is_some()
-        {
-            best = Some(change.letter);
-        }
-    }
-    best
-}
-
-/// The best so far, or the best of the letters that a MODE or a 324 lists.
-fn consider<A: Allocator>(
-    support: &Support<A>,
-    kept: &[Kept<A>],
-    channel: &[u8],
-    after: Option<u8>,
-    best: Option<u8>,
-    telling: &Telling<'_, A>,
-) -> Option<u8>
-    requires readable { IsReadable support.now kept.now }
-    requires on { is_on (readings_of (tape_of kept.now)) (key_by support.now channel.now) ≡ true }
-    ensures { result
-        ≡ considered_by nat_cmp (is_set (readings_of (tape_of kept.now))
-        (key_by support.now channel.now)) after best (letters_told support.now telling.now) }
-{
-    match telling {
-        Telling::Changed(_, line) | Telling::Listed(_, line) => {
-            best_listed(support, kept, channel, after, best, line)
-        }
-        _ => best,
-    }
-}
-
-/// The least letter above the given one, among those that are on. Before our own JOIN nothing counts.
-fn next_letter<A: Allocator>(
-    support: &Support<A>,
-    kept: &[Kept<A>],
-    channel: &[u8],
-    after: Option<u8>,
-) -> Option<u8>
-    requires readable { IsReadable support.now kept.now }
-    requires on { is_on (readings_of (tape_of kept.now)) (key_by support.now channel.now) ≡ true }
-    ensures { IsNextBy nat_cmp (is_set (readings_of (tape_of kept.now))
-        (key_by support.now channel.now)) after result }
-{
-    let mut best = None;
-    let mut i = kept.len();
-    while i > 0 {
-        i -= 1;
-        let entry = &kept[i];
-        let telling = told(&entry.line);
-        if says_on(support, &telling, entry.marks, channel).is_some() {
-            return best;
-        }
-        best = consider(support, kept, channel, after, best, &telling);
-    }
-    best
-}
-
-/// The letter at a place, counted from 0, of those that are on.
-pub(crate) fn letter_at<A: Allocator>(
-    support: &Support<A>,
-    kept: &[Kept<A>],
-    channel: &[u8],
-    place: usize,
-) -> Option<u8>
-    requires readable { IsReadable support.now kept.now }
-    requires on { is_on (readings_of (tape_of kept.now)) (key_by support.now channel.now) ≡ true }
-    ensures { result
-        ≡ letter_shown (readings_of (tape_of kept.now)) (key_by support.now channel.now) place }
-{
-    let mut at = next_letter(support, kept, channel, None);
-    for _place in 0..place {
-        match at {
-            Some(letter) => at = next_letter(support, kept, channel, Some(letter)),
-            None => return None,
-        }
-    }
-    at
 }
 
 impl<'a, A: Allocator> Said<'a, A> {

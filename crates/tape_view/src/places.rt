@@ -10,10 +10,10 @@ ghost use Rattle.tape_view.specs.Places.{keys_listed, names_in, is_there, key_at
 ghost use Rattle.tape_view.specs.Tape.{key};
 
 use crate::tape::Tape;
-use net_view::Telling;
 use irc_line::Line;
 use irc_names::is_nameable;
 use irc_support::names;
+use net_view::Telling;
 use std::alloc::Allocator;
 
 /// What has places: the channels that we are on, or the members of the channel of this name.
@@ -78,10 +78,7 @@ impl<'a, A: Allocator> Tape<'a, A> {
             (key_in self.now.settings (option_map (λ a. a.now) after.entry))
             (key_in self.now.settings (option_map (λ b. b.now) best.entry)) (key self.now name.now) }
     {
-        if self.is_above(after, name)
-            && self.is_better(best, name)
-            && self.is_there(table, name)
-        {
+        if self.is_above(after, name) && self.is_better(best, name) && self.is_there(table, name) {
             Some(name)
         } else {
             best

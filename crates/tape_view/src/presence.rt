@@ -5,7 +5,7 @@ ghost use Rattle.irc_support.specs.Text.{Text};
 ghost use Rattle.net_view.specs.Presence.{name_on, says_on};
 ghost use Rattle.tape_view.specs.Tape.{key, key_there, meaning, IsBy};
 
-use crate::listed::is_same;
+use crate::kept::is_same;
 use crate::tape::{Said, Tape};
 use net_view::Telling;
 use std::alloc::Allocator;

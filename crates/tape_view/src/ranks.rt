@@ -14,7 +14,7 @@ ghost use Rattle.net_view.specs.Presence.{is_on};
 ghost use Rattle.net_view.specs.Members.{rank_decided, rank_in_change, says_rank};
 ghost use Rattle.tape_view.specs.Tape.{key, key_there, meaning, IsBy};
 
-use crate::listed::is_same;
+use crate::kept::is_same;
 use crate::members::{names_person, word_of};
 use crate::tape::{Said, Tape};
 use irc_line::Line;

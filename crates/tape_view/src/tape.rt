@@ -10,9 +10,7 @@ ghost use Rattle.net_view.specs.Transcript.{readings_of};
 ghost use Rattle.tape_view.specs.Kept.{tape_of, IsReadable};
 ghost use Rattle.tape_view.specs.Tape.{key, key_there, meaning, IsBy, IsLast};
 
-use crate::kept::Kept;
-use crate::listed::is_same;
-use crate::marks::Marks;
+use crate::kept::{Kept, Marks, is_same};
 use irc_support::Support;
 use net_view::{Telling, told};
 use std::alloc::Allocator;

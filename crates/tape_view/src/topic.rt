@@ -6,7 +6,7 @@ ghost use Rattle.net_view.specs.Presence.{is_on};
 ghost use Rattle.net_view.specs.Topic.{says_topic, topic_of};
 ghost use Rattle.tape_view.specs.Tape.{key, key_there, meaning, IsBy};
 
-use crate::listed::is_same;
+use crate::kept::is_same;
 use crate::tape::{Said, Tape};
 use net_view::Telling;
 use std::alloc::Allocator;

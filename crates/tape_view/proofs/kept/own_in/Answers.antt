@@ -1,29 +1,17 @@
-use Rattle.std.proofs.Common.{◌≡◌, ◌-◌, take, ap, sym, ◌∙◌, arith}
-use Rattle.std.specs.Option.{option_or}
+use Rattle.std.proofs.Common.{Some, None, sym, ap, ◌∙◌}
 use Rattle.net_view.specs.Transcript.{own_nick}
 use Rattle.tape_view.specs.Kept.{tape_of}
-use Rattle.tape_view.proofs.TapeBack.{own_found, own_none, marked_before}
+use Rattle.tape_view.proofs.TapeLast.{own_last, own_none, marked_older, no_lines}
 use Rattle.tape_view.proofs.kept.own_in.Goals as goal
 
 pub returns-in-Some : goal.returns-in-Some
-returns-in-Some g c =
-    let i = c.loop-i.invariant in
-    sym (i.rest
-    ∙ own_found c.args.kept.now c.loop-i.i c.index-kept-i.result (omega arith) i.within c.index-kept-i.is c.told.result c.told.ensures i.marked
-    ∙ ap (λ w. option_or w (own_nick (tape_of (take (c.loop-i.i - 1) c.args.kept.now)))) (sym c.in-Some.ensures))
+returns-in-Some g c = sym (c.loop-left.invariant.rest ∙ own_last c.loop-left.left.now c.last-item.result c.in-len1-up.len_at_least c.last-item.is c.told.result (Some c.in-Some.nick.now) c.told.ensures c.loop-left.invariant.marked c.in-Some.ensures)
 
-pub loop-i-preserved : goal.loop-i-preserved
-loop-i-preserved g c =
-    let i = c.loop-i.invariant in
-    record {
-      within = omega arith;
-      marked = marked_before c.args.kept.now c.loop-i.i c.index-kept-i.result (omega arith) i.within c.index-kept-i.is i.marked;
-      rest = i.rest
-          ∙ own_found c.args.kept.now c.loop-i.i c.index-kept-i.result (omega arith) i.within c.index-kept-i.is c.told.result c.told.ensures i.marked
-          ∙ ap (λ w. option_or w (own_nick (tape_of (take (c.loop-i.i - 1) c.args.kept.now)))) (sym c.in_default.ensures);
-    }
+pub loop-left-preserved : goal.loop-left-preserved
+loop-left-preserved g c = record {
+  marked = marked_older c.loop-left.left.now c.last-item.result c.in-len1-up.len_at_least c.last-item.is c.loop-left.invariant.marked;
+  rest = c.loop-left.invariant.rest ∙ own_last c.loop-left.left.now c.last-item.result c.in-len1-up.len_at_least c.last-item.is c.told.result None c.told.ensures c.loop-left.invariant.marked c.in_default-own_told.ensures;
+}
 
 pub returns : goal.returns
-returns g c =
-    let zero_left : c.loop-i.i ≡ 0 = omega arith in
-    sym (c.loop-i.invariant.rest ∙ ap (λ j. own_nick (tape_of (take j c.args.kept.now))) zero_left ∙ own_none _)
+returns g c = sym (c.loop-left.invariant.rest ∙ ap (λ ks. own_nick (tape_of ks)) (no_lines c.loop-left.left.now c.in_default.len_below) ∙ own_none _)

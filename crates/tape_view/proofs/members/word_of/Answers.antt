@@ -12,7 +12,7 @@ use Rattle.net_view.specs.Facts.{spelled_in}
 use Rattle.net_view.proofs.Tests.{is_some_map}
 use Rattle.tape_view.specs.declared.members.Word.{Word}
 use Rattle.tape_view.proofs.LastIn.{last_begun, last_step}
-use Rattle.tape_view.proofs.NamedWords.{word_said, found_in_words, listed_so}
+use Rattle.tape_view.proofs.NameWords.{word_said, found_in_words, listed_so}
 use Rattle.tape_view.proofs.members.word_of.Goals as goal
 
 pub loop-ranks-init : goal.loop-ranks-init

@@ -4,7 +4,7 @@ use Rattle.irc_support.specs.Line.{words_in}
 use Rattle.irc_support.specs.Settings.{key_by}
 use Rattle.irc_support.specs.MemberShown.{shown_member}
 use Rattle.net_view.specs.LookBack.{last_in}
-use Rattle.tape_view.proofs.NamedWords.{word_said}
+use Rattle.tape_view.proofs.NameWords.{word_said}
 use Rattle.tape_view.proofs.members.word_of.Given as goal
 
 abbrev pub invariant-loop-ranks : goal.invariant-loop-ranks

@@ -6,7 +6,7 @@ use Rattle.tape_view.specs.Tape.{key}
 use Rattle.net_view.specs.Least.{above_by, improves_by, considered_by}
 use Rattle.tape_view.specs.Letters.{is_set, letters_listed}
 use Rattle.net_view.proofs.Tests.{is_some_map}
-use Rattle.tape_view.proofs.NextLetter.{letters, best_step, all_met, first_unmet, second_unmet, third_unmet}
+use Rattle.tape_view.proofs.LetterLine.{letters, best_step, all_met, first_unmet, second_unmet, third_unmet}
 use Rattle.tape_view.proofs.tape.Tape.best_listed.Goals as goal
 use Rattle.tape_view.proofs.tape.Tape.best_listed.Goals.{else-is_above-via-then-is_above+then-is_better+else-is_some, else-is_above-via-then-is_above+else-is_better, else-is_above-via-else-is_above}
 

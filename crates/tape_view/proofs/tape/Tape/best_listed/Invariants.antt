@@ -3,7 +3,7 @@ use Rattle.std.specs.Ordering.{nat_cmp}
 use Rattle.net_view.specs.Least.{considered_by}
 use Rattle.tape_view.specs.Letters.{is_set, letters_listed}
 use Rattle.tape_view.specs.Tape.{key}
-use Rattle.tape_view.proofs.NextLetter.{letters}
+use Rattle.tape_view.proofs.LetterLine.{letters}
 use Rattle.tape_view.proofs.tape.Tape.best_listed.Given as goal
 
 abbrev pub invariant-loop-change : goal.invariant-loop-change

@@ -3,7 +3,6 @@ use Rattle.std.specs.Option.{option_map}
 use Rattle.irc_support.specs.MemberShown.{shown_member}
 use Rattle.irc_support.specs.Settings.{key_by}
 use Rattle.irc_support.specs.Line.{words_in}
-use Rattle.tape_view.specs.Tape.{key}
 use Rattle.net_view.specs.Least.{better, considered, key_in}
 use Rattle.tape_view.specs.Places.{is_there}
 use Rattle.tape_view.proofs.NameWords.{keys_of_words, considered_word}

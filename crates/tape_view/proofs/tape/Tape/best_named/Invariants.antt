@@ -1,6 +1,5 @@
 use Rattle.std.proofs.Common.{◌≡◌}
 use Rattle.std.specs.Option.{option_map}
-use Rattle.tape_view.specs.Tape.{key}
 use Rattle.net_view.specs.Least.{considered, key_in}
 use Rattle.tape_view.specs.Places.{is_there, keys_listed}
 use Rattle.tape_view.proofs.NameWords.{keys_of_words}

@@ -1,6 +1,5 @@
 use Rattle.std.proofs.Common.{◌≡◌, ◌≤◌, ◌-◌}
 use Rattle.std.specs.Option.{option_map}
-use Rattle.tape_view.specs.Tape.{key}
 use Rattle.net_view.specs.Least.{key_in}
 use Rattle.tape_view.specs.Places.{key_at, table_len}
 use Rattle.tape_view.proofs.tape.Tape.count.Given as goal

@@ -1,6 +1,6 @@
 use Rattle.std.proofs.Common.{sym, ◌∙◌, arith}
 use Rattle.tape_view.specs.Tape.{key}
-use Rattle.tape_view.proofs.NextLetter.{letter_zero, letter_next, letter_none}
+use Rattle.tape_view.proofs.LetterLine.{letter_zero, letter_next, letter_none}
 use Rattle.tape_view.proofs.tape.Tape.letter_at.Goals as goal
 
 pub loop-place-init : goal.loop-place-init

@@ -1,5 +1,5 @@
--- What a line tells of us: who does it, whom it names, our nick, and whether it fixes the settings.
-use Rattle.std.specs.Prelude.{◌≡◌, Bool, true, false, List, if◌then◌else◌}
+-- What a line tells of us: who does it, whom it names, and our nick.
+use Rattle.std.specs.Prelude.{◌≡◌, Bool, false, List, if◌then◌else◌}
 use Rattle.std.specs.Option.{option_map_or}
 use Rattle.std.proofs.Common.{Option, Some, None}
 use Rattle.irc_support.specs.Text.{Text}
@@ -7,9 +7,7 @@ use Rattle.irc_support.specs.Tokens.{Token}
 use Rattle.irc_support.specs.Settings.{key_by}
 use Rattle.net_view.specs.Names.{same}
 use Rattle.net_view.specs.Told as spec
-use Rattle.net_view.specs.declared.state_line.Telling.{Telling}
-use Rattle.net_view.specs.declared.state_line.Telling.TheVariants.{Welcomed, Settles, Joined, Renamed}
-use Rattle.tape_view.specs.declared.marks.Marks.{Marks}
+use Rattle.tape_view.specs.declared.kept.Marks.{Marks}
 
 -- whether a key is that of this nick of ours, under these settings
 abbrev pub us_of : List Token → Option Text → Text → Bool
@@ -35,14 +33,7 @@ pub record IsMarked (us : Text → Bool) (t : spec.Told) (marks : Marks) : Type 
   pub names_us : marks.names_us ≡ option_map_or us (person_named t) false
 
 -- the nick that is ours from here on, where it says one
-abbrev pub own_said : {A : Type 0} → Marks → Telling A → Option Text
-own_said marks (Welcomed nick) = Some nick.now
-own_said marks (Renamed old new) = if marks.by_us then Some new.now else None
-own_said marks _ = None
-
--- whether it fixes the settings: Some false where it takes us in, and all starts anew
-abbrev pub settles_said : {A : Type 0} → Telling A → Option Bool
-settles_said (Welcomed nick) = Some false
-settles_said Settles = Some true
-settles_said (Joined channel who account) = Some true
-settles_said _ = None
+abbrev pub own_said : (Text → Bool) → spec.Told → Option Text
+own_said us (spec.Welcomed nick) = Some nick
+own_said us (spec.Renamed old new) = if us old then Some new.spelled else None
+own_said us _ = None

@@ -4,7 +4,7 @@ use Rattle.irc_support.specs.Settings.{key_by}
 use Rattle.net_view.specs.Names.{same}
 use Rattle.net_view.proofs.Keys.{is_same, same_refl}
 use Rattle.net_view.proofs.Tests.{both_or_neither}
-use Rattle.tape_view.proofs.listed.is_same.Goals as goal
+use Rattle.tape_view.proofs.kept.is_same.Goals as goal
 
 pub returns : goal.returns
 returns g c =
