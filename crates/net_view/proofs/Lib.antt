@@ -18,7 +18,9 @@ pub mod PeopleSound
 pub mod MembersSpelled
 pub mod OnSound
 pub mod SoundStep
+pub mod TokensWritten
 pub mod WrittenViews
+pub mod FormSound
 pub mod LastWord
 pub mod Worth
 pub mod NameLists
