@@ -25,7 +25,9 @@ pub mod LastWord
 pub mod Worth
 pub mod NameLists
 pub mod WordsApart
+pub mod Thinned
 pub mod SeenWhole
+pub mod SeenStep
 mod LikelyCommand
 pub mod Commands
 mod Transcripts
