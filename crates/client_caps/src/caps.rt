@@ -22,10 +22,15 @@ pub struct Caps {
 }
 
 pub(crate) const MULTI_PREFIX: &[u8] = b"multi-prefix";
+
 pub(crate) const EXTENDED_JOIN: &[u8] = b"extended-join";
+
 pub(crate) const ACCOUNT_NOTIFY: &[u8] = b"account-notify";
+
 pub(crate) const AWAY_NOTIFY: &[u8] = b"away-notify";
+
 pub(crate) const SERVER_TIME: &[u8] = b"server-time";
+
 pub(crate) const BATCH: &[u8] = b"batch";
 
 impl Caps {

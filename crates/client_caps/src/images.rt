@@ -1,6 +1,6 @@
 //! What a client is sent in place of a line, and for a loss of the connection.
 
-ghost use Rattle.std.specs.Prelude.{◌≡◌, true, ◌∷◌, [], ◌++◌, ◌&&◌, cond, not, IsTrue, IfOk, OnOk, codes, option_map, map, slice_get, take};
+ghost use Rattle.std.specs.Prelude.{◌≡◌, true, false, ◌∷◌, [], ◌++◌, ◌&&◌, cond, not, IsTrue, IfOk, OnOk, codes, option_map, option_to_list, map, slice_get, take};
 ghost use Rattle.std.specs.List.{list_any, list_all, join_with_byte};
 ghost use Rattle.irc_support.specs.Written.{highest_text};
 ghost use Rattle.irc_support.specs.Line.{split_words_in};
@@ -11,9 +11,11 @@ ghost use Rattle.irc_support.specs.Text.{Text};
 ghost use Rattle.irc_support.specs.NamesReply.{words_between};
 ghost use Rattle.net_view.specs.StateLines.{actor_nick};
 ghost use Rattle.client_caps.specs.Images.{account_joined, is_passed_on, link_commands, symbols_of};
+ghost use Rattle.client_caps.specs.Images.{image_of, part_lines_of};
 ghost use Rattle.client_caps.specs.Images.{image_params, join_params, names_with_highest, with_param, word_at};
 
 use crate::caps::Caps;
+use crate::moment::Moment;
 use irc_line::Line;
 use irc_names::is_nameable;
 use irc_support::{Ranks, Support, name_words};
@@ -34,7 +36,8 @@ fn is_link_command(command: &[u8]) -> bool
 
 /// Whether a client with these capabilities is sent the line.
 fn is_passed_on<A: Allocator>(caps: Caps, line: &Line<A>) -> bool
-    ensures { result ≡ is_passed_on caps line.now }
+    ensures value { result ≡ is_passed_on caps line.now }
+    ensures writable { IsTrue (is_writable line.now) }
 {
     let command = line.command();
     !(is_link_command(command)
@@ -238,4 +241,71 @@ fn sent_as<V: NetworkView, A: Allocator, B: Allocator + Copy + Drop>(
         return listed(alloc, view, line, tags);
     }
     line.copy_tagged_in(alloc, tags)
+}
+
+/// What a client with these capabilities is sent in place of a line; `None` where it is sent nothing.
+/// The view is the one before the line; the moment is when the line came. So far without server-time.
+///
+/// | line | what is sent |
+/// |---|---|
+/// | PING, PONG, ERROR, CAP, BATCH, AUTHENTICATE | nothing |
+/// | ACCOUNT without account-notify, AWAY without away-notify | nothing |
+/// | JOIN of a channel, without extended-join | `:bob!b@h JOIN #c` |
+/// | the same, with extended-join, of one or two parameters | `:bob!b@h JOIN #c bobacc :`, with the account that the line names, else the one known, else `*` |
+/// | `353`, without multi-prefix | each word with the highest of its symbols alone |
+/// | any other | the line |
+///
+/// Tags of the network go (IRCv3 multi-prefix, extended-join, account-notify, away-notify). A line
+/// that is sent as it is takes one allocation. `OutOfMemory` is told where an allocation was refused,
+/// and for no other cause.
+pub fn image<V: NetworkView, A: Allocator, B: Allocator + Copy + Drop>(
+    alloc: B,
+    view: &V,
+    caps: Caps,
+    line: &Line<A>,
+    _moment: Moment,
+) -> Result<Option<Line<B>>, OutOfMemory>
+    requires { caps.server_time ≡ false }
+    ensures { (time : Text) → IfOk result (λ image.
+        image ≡ image_of (V.view view.now) caps time line.now) }
+{
+    view.comes_from_lines();
+    if !is_passed_on(caps, line) {
+        return Ok(None);
+    }
+    Ok(Some(sent_as(alloc, view, caps, line, None)?))
+}
+
+/// Adds that we leave the channel at a place, where there is one.
+fn push_part<V: NetworkView, A: Allocator + Copy + Drop>(
+    alloc: A,
+    view: &V,
+    place: usize,
+    lines: &mut Vec<Line<A>, A>,
+) -> Result<(), OutOfMemory>
+    ensures { OnOk result (lines.new.items
+        ≡ lines.old.items ++ option_to_list (slice_get (part_lines_of (V.view view.now)) place)) }
+{
+    view.comes_from_lines();
+    if let Some(channel) = view.channel_at(place) {
+        let line = Line::from_parts(alloc, None, view.own(), b"PART", &[channel.name])?;
+        lines.push(line)?;
+    }
+    Ok(())
+}
+
+/// What a client is sent for a loss of the connection: that we leave each channel, as
+/// `:Me PART #c`, in the order of the channels' keys. The view is the one before the loss.
+/// `OutOfMemory` is told where an allocation was refused, and for no other cause.
+pub fn part_lines<V: NetworkView, A: Allocator + Copy + Drop>(
+    alloc: A,
+    view: &V,
+) -> Result<Vec<Line<A>, A>, OutOfMemory>
+    ensures { IfOk result (λ lines. lines.items ≡ part_lines_of (V.view view.now)) }
+{
+    let mut lines = Vec::new(alloc);
+    for place in 0..view.channel_count() {
+        push_part(alloc, view, place, &mut lines)?;
+    }
+    Ok(lines)
 }

@@ -34,3 +34,24 @@ module _ (rest piece head after : List ℕ) (clean : HasNoLf rest)
   skipped-on skips s =
       ap (λ b. cond b 1 0 + skipped_of after) s
       ∙ sym (skipped-at (rest ++ piece) (rest ++ head) after joined)
+
+-- Bytes that begin with a segment and its LF.
+module _ (bytes segment after : List ℕ) (cut : segments_of bytes ≡ segment ∷ segments_of after)
+  where
+    pub added-more : (old done before all : List Parts) →
+        all ≡ before ++ option_to_list (line_of (without_cr segment)) → before ≡ old ++ done →
+        all ≡ old ++ (done ++ option_to_list (line_of (without_cr segment)))
+    added-more old done before all a b =
+        a ∙ ap (λ r. r ++ option_to_list (line_of (without_cr segment))) b
+        ∙ append_assoc old done (option_to_list (line_of (without_cr segment)))
+
+    pub lines-more : (done all : List Parts) → done ++ lines_of bytes ≡ all →
+        (done ++ option_to_list (line_of (without_cr segment))) ++ lines_of after ≡ all
+    lines-more done all r =
+        append_assoc done (option_to_list (line_of (without_cr segment))) (lines_of after)
+        ∙ ap (λ r. done ++ r) (sym (lines-at bytes segment after cut)) ∙ r
+
+    pub skipped-more : (skips : Bool) → skips ≡ is_skipped (without_cr segment) →
+        skipped_of bytes ≡ cond skips 1 0 + skipped_of after
+    skipped-more skips s =
+        skipped-at bytes segment after cut ∙ ap (λ b. cond b 1 0 + skipped_of after) (sym s)

@@ -54,7 +54,8 @@ is_writable line =
 
 -- a line of these parts
 abbrev pub line_of_parts : Option (List ℕ) → Option (List ℕ) → List ℕ → List (List ℕ) → Parts
-line_of_parts tags source command params = record { tags = tags; source = source; command = command; params = params }
+line_of_parts tags source command params =
+    record { tags = tags; source = source; command = command; params = params }
 
 -- a line without tags
 abbrev pub untagged_line : Option (List ℕ) → List ℕ → List (List ℕ) → Parts

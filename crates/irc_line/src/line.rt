@@ -111,8 +111,8 @@ impl<A: Allocator> Line<A> {
         Line::<A>::parse(alloc, text)
     }
 
-    /// The line of these parts, as [`Line::make`], for a caller that knows beforehand that some text
-    /// is read as them, as of the parts of lines in hand. One allocation.
+    /// The line of these parts, as [`Line::make`], for a caller that knows beforehand that some
+    /// text is read as them, as of the parts of lines in hand. One allocation.
     pub fn from_parts(
         alloc: A,
         tags: Option<&[u8]>,
@@ -176,9 +176,9 @@ impl<A: Allocator> Line<A> {
         })
     }
 
-    /// A copy of the line over another allocator, with these tags, or none, in place of its own. That
-    /// the tags are no empty text and hold no space, NUL, CR or LF is for the caller to see to. One
-    /// allocation.
+    /// A copy of the line over another allocator, with these tags, or none, in place of its own.
+    /// That the tags are no empty text and hold no space, NUL, CR or LF is for the caller to see
+    /// to. One allocation.
     pub fn copy_tagged_in<B: Allocator>(
         &self,
         alloc: B,

@@ -5,7 +5,8 @@ ghost use Rattle.std.specs.Prelude.{map};
 ghost use Rattle.std.specs.List.{list_any, flat_map};
 ghost use Rattle.irc_line.specs.Line.{is_space};
 ghost use Rattle.irc_line.specs.Reading.{params_at};
-ghost use Rattle.irc_line.specs.Writing.{line_of_parts, written, is_word, param_text, marked_text, is_token, is_part};
+ghost use Rattle.irc_line.specs.Writing.{line_of_parts, written, is_word, param_text, marked_text};
+ghost use Rattle.irc_line.specs.Writing.{is_token, is_part};
 ghost use Rattle.irc_line.specs.Writing.{are_params};
 
 use crate::OutOfMemory;

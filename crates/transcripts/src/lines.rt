@@ -17,6 +17,23 @@ fn written(alloc: Global, line: &Line) -> Result<Vec<u8>, Fail> {
     Ok(out)
 }
 
+/// Whether these are the parameters, one after another and by their places.
+fn has_params(line: &Line, params: Texts) -> bool {
+    let mut left = params;
+    for param in line.params() {
+        match left {
+            [first, more @ ..] if *first == param => left = more,
+            _ => return false,
+        }
+    }
+    for place in 0..16 {
+        if line.param(place) != params.get(place).copied() {
+            return false;
+        }
+    }
+    left.is_empty() && line.param_count() == params.len()
+}
+
 #[test]
 fn texts_and_their_parts(rt: HostRuntime) -> Result<(), Fail> {
     let rows: [(&[u8], Option<&[u8]>, Option<&[u8]>, &[u8], Texts); 14] = [
@@ -52,15 +69,7 @@ fn texts_and_their_parts(rt: HostRuntime) -> Result<(), Fail> {
         assert!(rt; line.tags() == tags);
         assert!(rt; line.source() == source);
         assert!(rt; line.command() == command);
-        let mut left = params.iter();
-        for param in line.params() {
-            assert!(rt; left.next().copied() == Some(param));
-        }
-        assert!(rt; left.next().is_none());
-        assert_eq!(rt; line.param_count(), params.len());
-        for place in 0..16 {
-            assert!(rt; line.param(place) == params.get(place).copied());
-        }
+        assert!(rt; has_params(&line, params));
     }
     Ok(())
 }
@@ -249,6 +258,12 @@ fn tags_set_and_taken_away(rt: HostRuntime) -> Result<(), Fail> {
     assert!(rt; line.tags() == Some(b"x=1".as_slice()));
     line.set_tags(None)?;
     assert!(rt; written(rt.alloc(), &line)?.as_slice() == b":a PRIVMSG #a :\r\n".as_slice());
+    Ok(())
+}
+
+#[test]
+fn a_copy_is_written_behind_what_is_there(rt: HostRuntime) -> Result<(), Fail> {
+    let line = line(rt.alloc(), b":a PRIVMSG #a :")?;
     let mut out = b"PING\r\n".to_vec(rt.alloc())?;
     line.clone()?.write(&mut out)?;
     line.copy_in(rt.alloc())?.write(&mut out)?;

@@ -34,7 +34,7 @@ fn keys_of_each_mapping(rt: HostRuntime) -> Result<(), Fail> {
 }
 
 #[test]
-fn same_names_and_their_order(rt: HostRuntime) {
+fn names_that_are_the_same(rt: HostRuntime) {
     let rows = [
         (b"a[b".as_slice(), b"A{B".as_slice(), [false, true, true]),
         (b"x~", b"X^", [false, true, false]),
@@ -48,13 +48,30 @@ fn same_names_and_their_order(rt: HostRuntime) {
             assert_eq!(rt; mapping.order(a, b) == Ordering::Equal, same);
         }
     }
+}
+
+#[test]
+fn names_in_their_order(rt: HostRuntime) {
     assert_eq!(rt; CaseMapping::Ascii.order(b"bo", b"BOB"), Ordering::Less);
     assert_eq!(rt; CaseMapping::Ascii.order(b"c", b"Bob"), Ordering::Greater);
     assert_eq!(rt; CaseMapping::Rfc1459.order(b"[", b"z"), Ordering::Greater);
     assert_eq!(rt; CaseMapping::Ascii.order(b"[", b"z"), Ordering::Less);
-    assert_eq!(rt; CaseMapping::Ascii.order_to_key(b"BO", b"bob"), Ordering::Less);
-    assert_eq!(rt; CaseMapping::Ascii.order_to_key(b"C", b"bob"), Ordering::Greater);
-    assert_eq!(rt; CaseMapping::Rfc1459.order_to_key(b"[", b"z"), Ordering::Greater);
+}
+
+#[test]
+fn names_before_and_behind_a_key(rt: HostRuntime) {
+    assert_eq!(rt;
+        CaseMapping::Ascii.order_to_key(b"BO", b"bob"),
+        Ordering::Less
+    );
+    assert_eq!(rt;
+        CaseMapping::Ascii.order_to_key(b"C", b"bob"),
+        Ordering::Greater
+    );
+    assert_eq!(rt;
+        CaseMapping::Rfc1459.order_to_key(b"[", b"z"),
+        Ordering::Greater
+    );
 }
 
 #[test]

@@ -2,11 +2,9 @@
 
 use irc_line::Line;
 use irc_names::CaseMapping;
-use irc_support::{Kind, Ranks, Support, changes, name_words, names};
+use irc_support::{Kind, OutOfMemory, Ranks, Support, changes, name_words, names};
 use std::alloc::Global;
 use std::test::Fail;
-
-type Changes<'a> = &'a [(bool, u8, Option<&'a [u8]>)];
 
 fn line(alloc: Global, text: &[u8]) -> Result<Line, Fail> {
     let line = Line::<Global>::read(alloc, text)?;
@@ -68,6 +66,17 @@ fn tokens_over_two_lines(rt: HostRuntime) -> Result<(), Fail> {
     Ok(())
 }
 
+/// Whether a rank has this letter and this symbol, or neither where there is no such rank.
+fn is_rank(settings: &Support, rank: u8, letter: Option<u8>, symbol: Option<u8>) -> bool {
+    let (Some(letter), Some(byte)) = (letter, symbol) else {
+        return symbol.is_none() && settings.symbol(rank).is_none();
+    };
+    settings.symbol(rank) == symbol
+        && settings.rank_of_letter(letter) == Some(rank)
+        && settings.rank_of_symbol(byte) == Some(rank)
+        && settings.kind(letter) == Kind::Prefix
+}
+
 #[test]
 fn ranks_of_a_prefix(rt: HostRuntime) -> Result<(), Fail> {
     let rows: [(&[u8], &[u8], &[u8]); 16] = [
@@ -104,14 +113,8 @@ fn ranks_of_a_prefix(rt: HostRuntime) -> Result<(), Fail> {
         let settings = settings(rt.alloc(), text)?;
         for rank in 0..20 {
             let place = usize::from(rank);
-            assert_eq!(rt; settings.symbol(rank), symbols.get(place).copied());
-            if let Some(letter) = letters.get(place) {
-                assert_eq!(rt; settings.rank_of_letter(*letter), Some(rank));
-                assert_eq!(rt; settings.kind(*letter), Kind::Prefix);
-            }
-            if let Some(symbol) = symbols.get(place) {
-                assert_eq!(rt; settings.rank_of_symbol(*symbol), Some(rank));
-            }
+            let letter = letters.get(place).copied();
+            assert!(rt; is_rank(&settings, rank, letter, symbols.get(place).copied()));
         }
         assert_eq!(rt; settings.rank_of_letter(b'z'), None);
         assert_eq!(rt; settings.rank_of_symbol(b'^'), None);
@@ -167,7 +170,7 @@ fn kinds_of_letters(rt: HostRuntime) -> Result<(), Fail> {
 }
 
 #[test]
-fn names_by_their_settings(rt: HostRuntime) -> Result<(), Fail> {
+fn mappings_by_their_names(rt: HostRuntime) -> Result<(), Fail> {
     let mappings: [(&[u8], CaseMapping); 6] = [
         (b":s 005 Me A :text", CaseMapping::Rfc1459),
         (b":s 005 Me CASEMAPPING=ascii :text", CaseMapping::Ascii),
@@ -182,6 +185,11 @@ fn names_by_their_settings(rt: HostRuntime) -> Result<(), Fail> {
     for (text, mapping) in mappings {
         assert_eq!(rt; settings(rt.alloc(), text)?.mapping(), mapping);
     }
+    Ok(())
+}
+
+#[test]
+fn names_of_channels(rt: HostRuntime) -> Result<(), Fail> {
     let channels: [(&[u8], &[u8], bool); 10] = [
         (b":s 005 Me A :text", b"#c", true),
         (b":s 005 Me A :text", b"&c", true),
@@ -200,122 +208,121 @@ fn names_by_their_settings(rt: HostRuntime) -> Result<(), Fail> {
     Ok(())
 }
 
+/// The changes of a line, each with its sign and its letter, and `=` before what it took.
+fn changes_text(alloc: Global, settings: &Support, line: &Line) -> Result<Vec<u8>, Fail> {
+    let mut text = Vec::new(alloc);
+    for change in changes(settings, line) {
+        text.push(if change.plus { b'+' } else { b'-' })?;
+        text.push(change.letter)?;
+        if let Some(param) = change.param {
+            text.push(b'=')?;
+            text.extend_from_slice(param)?;
+        }
+        text.push(b' ')?;
+    }
+    Ok(text)
+}
+
 #[test]
 fn changes_of_a_line(rt: HostRuntime) -> Result<(), Fail> {
-    let rows: [(&[u8], Changes<'_>); 12] = [
-        (
-            b":s MODE #c +lo 5 bob",
-            &[(true, b'l', Some(b"5")), (true, b'o', Some(b"bob"))],
-        ),
-        (
-            b":s MODE #c -l+v bob",
-            &[(false, b'l', None), (true, b'v', Some(b"bob"))],
-        ),
-        (
-            b":s mode #c m-k+b-b x y z",
-            &[
-                (true, b'm', None),
-                (false, b'k', Some(b"x")),
-                (true, b'b', Some(b"y")),
-                (false, b'b', Some(b"z")),
-            ],
-        ),
-        (b":s MODE #c -o", &[(false, b'o', None)]),
-        (
-            b":s MODE #c +ok bob :a b",
-            &[(true, b'o', Some(b"bob")), (true, b'k', Some(b"a b"))],
-        ),
-        (
-            b":s MODE #c +zZ x",
-            &[(true, b'z', None), (true, b'Z', None)],
-        ),
-        (b":s MODE #c +-+", &[]),
-        (b":s MODE #c", &[]),
-        (b":s MODE", &[]),
-        (
-            b":s 324 Me #c +kl key 9",
-            &[(true, b'k', Some(b"key")), (true, b'l', Some(b"9"))],
-        ),
-        (b":s 324 Me #c", &[]),
-        (b":s 329 Me #c +kl key 9", &[]),
+    let rows: [(&[u8], &[u8]); 12] = [
+        (b":s MODE #c +lo 5 bob", b"+l=5 +o=bob "),
+        (b":s MODE #c -l+v bob", b"-l +v=bob "),
+        (b":s mode #c m-k+b-b x y z", b"+m -k=x +b=y -b=z "),
+        (b":s MODE #c -o", b"-o "),
+        (b":s MODE #c +ok bob :a b", b"+o=bob +k=a b "),
+        (b":s MODE #c +zZ x", b"+z +Z "),
+        (b":s MODE #c +-+", b""),
+        (b":s MODE #c", b""),
+        (b":s MODE", b""),
+        (b":s 324 Me #c +kl key 9", b"+k=key +l=9 "),
+        (b":s 324 Me #c", b""),
+        (b":s 329 Me #c +kl key 9", b""),
     ];
     let settings = Support::new(rt.alloc())?;
     for (text, wanted) in rows {
-        let line = line(rt.alloc(), text)?;
-        let mut wanted = wanted.iter();
-        for change in changes(&settings, &line) {
-            let shown = (change.plus, change.letter, change.param);
-            assert!(rt; Some(shown) == wanted.next().copied());
-        }
-        assert!(rt; wanted.next().is_none());
+        let shown = changes_text(rt.alloc(), &settings, &line(rt.alloc(), text)?)?;
+        assert!(rt; shown.as_slice() == wanted);
     }
     Ok(())
 }
 
-/// Whether a member is this word, whose symbols stand highest first.
-fn is_member(settings: &Support, ranks: Ranks, nick: &[u8], word: &[u8]) -> bool {
-    let mut rest = word;
+/// Adds the symbols of these ranks, highest first, what stands behind them, and a space.
+fn push_word(
+    settings: &Support,
+    ranks: Ranks,
+    rest: &[u8],
+    text: &mut Vec<u8>,
+) -> Result<(), OutOfMemory> {
     for rank in ranks.iter() {
-        match rest {
-            [first, more @ ..] if settings.symbol(rank) == Some(*first) => rest = more,
-            _ => return false,
-        }
+        text.push(settings.symbol(rank).unwrap_or(b'?'))?;
     }
-    rest == nick
+    text.extend_from_slice(rest)?;
+    text.push(b' ')?;
+    Ok(())
+}
+
+fn members_text(alloc: Global, settings: &Support, line: &Line) -> Result<Vec<u8>, OutOfMemory> {
+    let mut text = Vec::new(alloc);
+    for (ranks, nick) in names(settings, line) {
+        push_word(settings, ranks, nick, &mut text)?;
+    }
+    Ok(text)
+}
+
+fn words_text(alloc: Global, settings: &Support, line: &Line) -> Result<Vec<u8>, OutOfMemory> {
+    let mut text = Vec::new(alloc);
+    for (ranks, rest) in name_words(settings, line) {
+        push_word(settings, ranks, rest, &mut text)?;
+    }
+    Ok(text)
 }
 
 #[test]
 fn members_of_a_name_list(rt: HostRuntime) -> Result<(), Fail> {
-    let rows: [(&[u8], &[&[u8]]); 8] = [
-        (
-            b":s 353 Me = #c :Me @+bob  +eve!e@h ",
-            &[b"Me", b"@+bob", b"+eve"],
-        ),
-        (b":s 353 Me = #c :+@+bob", &[b"@+bob"]),
-        (b":s 353 Me = #c :%bob @", &[b"%bob", b"@"]),
-        (b":s 353 Me = #c @bob", &[b"@bob"]),
-        (b":s 353 Me = #c :", &[]),
-        (b":s 353 Me = #c", &[]),
-        (b":s 353 Me #c :@bob", &[]),
-        (b":s 366 Me = #c :@bob", &[]),
+    let rows: [(&[u8], &[u8]); 8] = [
+        (b":s 353 Me = #c :Me @+bob  +eve!e@h ", b"Me @+bob +eve "),
+        (b":s 353 Me = #c :+@+bob", b"@+bob "),
+        (b":s 353 Me = #c :%bob @", b"%bob @ "),
+        (b":s 353 Me = #c @bob", b"@bob "),
+        (b":s 353 Me = #c :", b""),
+        (b":s 353 Me = #c", b""),
+        (b":s 353 Me #c :@bob", b""),
+        (b":s 366 Me = #c :@bob", b""),
     ];
     let settings = Support::new(rt.alloc())?;
-    for (text, words) in rows {
-        let line = line(rt.alloc(), text)?;
-        let mut words = words.iter();
-        for (ranks, nick) in names(&settings, &line) {
-            let word = words.next().copied().ok_or("no more members")?;
-            assert!(rt; is_member(&settings, ranks, nick, word));
-        }
-        assert!(rt; words.next().is_none());
+    for (text, wanted) in rows {
+        let shown = members_text(rt.alloc(), &settings, &line(rt.alloc(), text)?)?;
+        assert!(rt; shown.as_slice() == wanted);
     }
-    let (ranks, name) = settings.split_symbols(b"+@bob!b@h");
-    assert!(rt; ranks == Ranks::none().with(0).with(1));
-    assert!(rt; name == b"bob!b@h".as_slice());
     Ok(())
 }
 
 #[test]
-fn words_of_a_name_list(rt: HostRuntime) -> Result<(), Fail> {
-    let rows: [(&[u8], &[&[u8]]); 4] = [
+fn words_with_user_and_host(rt: HostRuntime) -> Result<(), Fail> {
+    let rows: [(&[u8], &[u8]); 4] = [
         (
             b":s 353 Me = #c :Me!m@h +@bob!b@h  +eve @",
-            &[b"Me!m@h", b"@+bob!b@h", b"+eve", b"@"],
+            b"Me!m@h @+bob!b@h +eve @ ",
         ),
-        (b":s 353 Me = #c :%bob!b@h!x", &[b"%bob!b@h!x"]),
-        (b":s 353 Me = #c", &[]),
-        (b":s 366 Me = #c :@bob", &[]),
+        (b":s 353 Me = #c :%bob!b@h!x", b"%bob!b@h!x "),
+        (b":s 353 Me = #c", b""),
+        (b":s 366 Me = #c :@bob", b""),
     ];
     let settings = Support::new(rt.alloc())?;
-    for (text, words) in rows {
-        let line = line(rt.alloc(), text)?;
-        let mut words = words.iter();
-        for (ranks, rest) in name_words(&settings, &line) {
-            let word = words.next().copied().ok_or("no more words")?;
-            assert!(rt; is_member(&settings, ranks, rest, word));
-        }
-        assert!(rt; words.next().is_none());
+    for (text, wanted) in rows {
+        let shown = words_text(rt.alloc(), &settings, &line(rt.alloc(), text)?)?;
+        assert!(rt; shown.as_slice() == wanted);
     }
+    Ok(())
+}
+
+#[test]
+fn a_word_cut_behind_its_symbols(rt: HostRuntime) -> Result<(), Fail> {
+    let settings = Support::new(rt.alloc())?;
+    let (ranks, name) = settings.split_symbols(b"+@bob!b@h");
+    assert!(rt; ranks == Ranks::none().with(0).with(1));
+    assert!(rt; name == b"bob!b@h".as_slice());
     Ok(())
 }
 
@@ -330,6 +337,11 @@ fn sets_of_ranks(rt: HostRuntime) {
     for rank in 0..=255 {
         assert_eq!(rt; set.has(rank), rank == 3 || rank == 15);
     }
+}
+
+#[test]
+fn ranks_one_after_another(rt: HostRuntime) {
+    let set = Ranks::none().with(15).with(3);
     let mut ranks = set.iter();
     assert_eq!(rt; ranks.next(), Some(3));
     assert_eq!(rt; ranks.next(), Some(15));

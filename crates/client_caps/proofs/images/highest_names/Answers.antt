@@ -22,9 +22,9 @@ loop-ranks-preserved g c =
     let left = map (highest_text settings) c.next.new.self in
     let text = symbols_of settings (take 1 c.in-Some.ranks) ++ c.in-Some.rest.now in
     let now : c.extend_from_slice.new.self.items ≡ cond first before (before ++ 32 ∷ []) ++ text =
-        c.in_ok-extend_from_slice.ensures.items
-        ∙ ap (λ s. s ++ c.in-Some.rest.now) (c.in_ok-push_highest.ensures ∙ ap (λ s. s ++ symbols_of c.support-support.result.now (take 1 c.in-Some.ranks)) c.in_ok-push_space.ensures ∙ ap (λ s. cond first before (before ++ 32 ∷ []) ++ symbols_of s (take 1 c.in-Some.ranks)) c.support-support.ensures)
-        ∙ append_assoc (cond first before (before ++ 32 ∷ [])) (symbols_of settings (take 1 c.in-Some.ranks)) c.in-Some.rest.now in
+    c.in_ok-extend_from_slice.ensures.items
+    ∙ ap (λ s. s ++ c.in-Some.rest.now) (c.in_ok-push_highest.ensures ∙ ap (λ s. s ++ symbols_of c.support-support.result.now (take 1 c.in-Some.ranks)) c.in_ok-push_space.ensures ∙ ap (λ s. cond first before (before ++ 32 ∷ []) ++ symbols_of s (take 1 c.in-Some.ranks)) c.support-support.ensures)
+    ∙ append_assoc (cond first before (before ++ 32 ∷ [])) (symbols_of settings (take 1 c.in-Some.ranks)) c.in-Some.rest.now in
     ap (λ s. joined_on 32 false s left) now
     ∙ sym (joined_more 32 first before text left)
     ∙ ap (λ ws. joined_on 32 first before (map (highest_text settings) ws)) (sym c.in-Some.ensures.steps)
