@@ -9,9 +9,11 @@ use Rattle.bnc.specs.declared.fault.Fault.TheVariants.{Settings as OfSettings, C
 -- the one line: how many users there are, and how many networks they have together
 abbrev pub report_of : Settings → List ℕ
 report_of settings =
-    codes "users " ++ decimal (length settings.users) ++ codes " networks " ++ decimal (network_total settings) ++ codes "\n"
+    codes "users " ++ decimal (length settings.users) ++ codes " networks "
+    ++ decimal (network_total settings) ++ codes "\n"
 
--- the cause of a fault of a check: the first fault of the file, or that the line of a file without one was not written
+-- the cause of a fault of a check: the first fault of the file, or that the line of a file without
+-- one was not written
 abbrev pub IsCauseOf : List ℕ → Fault → Type 0
 IsCauseOf text (OfSettings fault) = IsFaultOf text fault
 IsCauseOf text CannotWrite = (settings : Settings) × Means text settings

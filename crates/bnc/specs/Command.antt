@@ -1,6 +1,8 @@
 -- The command line, as `clap`'s contract names its grammar.
-use Rattle.std.specs.Prelude.{◌≡◌, ◌≢◌, ◌⊎◌, List, Some, true, codes, string_bytes}
-use Rattle.clap.specs.Words.{App, IsAmong, Row, Rule, Text, fault_of, first_of, new_app, new_rule, subcommand_of, with_rule, with_subcommand}
+use Rattle.std.specs.Prelude.{◌≡◌, ◌≢◌, ◌⊎◌, List, [], Option, Some, None, true, codes}
+use Rattle.std.specs.Prelude.{string_bytes}
+use Rattle.clap.specs.Words.{App, IsAmong, Row, Rule, Text, fault_of, first_of, new_app, new_rule}
+use Rattle.clap.specs.Words.{subcommand_of, with_rule, with_subcommand}
 use Rattle.clap.specs.declared.builder.action.ArgAction.TheVariants.{Set}
 use Rattle.clap.specs.declared.error.kind.ErrorKind.{ErrorKind}
 use Rattle.clap.specs.declared.error.kind.ErrorKind.TheVariants as kind
@@ -42,10 +44,19 @@ IsOfKind k (Help text) = k ≡ kind.DisplayHelp
 IsOfKind k Bad = (k ≢ kind.OutOfMemory) × (k ≢ kind.DisplayHelp)
 IsOfKind k OutOfMemory = Unit {0}
 
--- the cause of a fault of the words: the grammar finds that they ask for help, or are at fault in another way,
--- or they ask for nothing; want of memory is a fault of no words
+-- the cause of a fault of the words: the grammar finds that they ask for help, or are at fault in
+-- another way, or they ask for nothing; want of memory is a fault of no words
 abbrev pub IsCauseOf : List Text → WordsFault → Type 0
 IsCauseOf words (Help text) = IsAmong kind.DisplayHelp (fault_of bnc_app words)
-IsCauseOf words Bad = ((k : ErrorKind) × (k ≢ kind.DisplayHelp) × IsAmong k (fault_of bnc_app words))
+IsCauseOf words Bad =
+    ((k : ErrorKind) × (k ≢ kind.DisplayHelp) × IsAmong k (fault_of bnc_app words))
     ⊎ ((command : Command) → AsksFor words command → ⊥)
 IsCauseOf words OutOfMemory = Unit {0}
+
+-- why something, or nothing, is told of what is wrong with the words: the grammar finds a fault
+-- other than that they ask for help, or it finds no such fault
+abbrev pub IsExplained : {T : Type 0} → List Text → Option T → Type 0
+IsExplained words (Some text) =
+    (k : ErrorKind) × (k ≢ kind.DisplayHelp) × IsAmong k (fault_of bnc_app words)
+IsExplained words None =
+    (fault_of bnc_app words ≡ []) ⊎ IsAmong kind.DisplayHelp (fault_of bnc_app words)

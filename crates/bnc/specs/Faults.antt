@@ -6,7 +6,8 @@ use Rattle.irc_line.specs.declared.splitter.FeedError.{FeedError}
 use Rattle.irc_line.specs.declared.splitter.FeedError.TheVariants as feed
 use Rattle.bnc_config.specs.ConfigFault as config
 use Rattle.bnc.specs.declared.fault.Fault.{Fault}
-use Rattle.bnc.specs.declared.fault.Fault.TheVariants.{CannotRead, CannotWrite, LineTooLong, OutOfMemory, Settings}
+use Rattle.bnc.specs.declared.fault.Fault.TheVariants.{CannotRead, CannotWrite, LineTooLong}
+use Rattle.bnc.specs.declared.fault.Fault.TheVariants.{OutOfMemory, Settings}
 
 -- the text that a fault is told as
 abbrev pub text_of : Fault → List ℕ

@@ -8,9 +8,11 @@ use Rattle.net_view.specs.View.{Channel, View}
 use Rattle.net_view.specs.Readers.{MemberParts, channel_shown}
 use Rattle.net_view.specs.declared.channel.Member.{Member}
 
--- the modes of the channel at this place, in the order of their letters' bytes; none without a channel
+-- the modes of the channel at this place, in the order of their letters' bytes; none without a
+-- channel
 abbrev pub modes_shown : View → ℕ → List (ℕ × Option Text)
-modes_shown v i = option_map_or (λ (channel : Channel). entries channel.modes) (channel_shown v i) []
+modes_shown v i =
+    option_map_or (λ (channel : Channel). entries channel.modes) (channel_shown v i) []
 
 -- a member, from what is lent of it
 abbrev pub parts_of : Member → MemberParts

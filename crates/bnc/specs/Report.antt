@@ -1,4 +1,5 @@
--- What `bnc view` prints of a network view, and of how many lines were skipped. The format is our own choice.
+-- What `bnc view` prints of a network view, and of how many lines were skipped. The format is our
+-- own choice.
 use Rattle.std.specs.Prelude.{ℕ, List, [], ◌∷◌, ◌++◌, ◌==◌, codes, map, if◌then◌else◌}
 use Rattle.std.specs.List.{filter_map, flat_map}
 use Rattle.std.specs.FinMap.{entries}
@@ -20,8 +21,8 @@ labelled label (Some text) = label ++ text
 abbrev pub symbols_of : List Token → List ℕ → Text
 symbols_of settings ranks = filter_map (symbol_of settings) ranks
 
--- a member of a channel: the symbols of all ranks that are held, the highest first, and the nick; then the
--- account and the away text, where they are known
+-- a member of a channel: the symbols of all ranks that are held, the highest first, and the nick;
+-- then the account and the away text, where they are known
 abbrev pub member_line : List Token → MemberParts → Text
 member_line settings member =
     codes "member " ++ symbols_of settings member.ranks ++ member.nick
@@ -30,7 +31,8 @@ member_line settings member =
 
 -- the members of a channel, in the order of their keys
 abbrev pub member_lines : View → Channel → List Text
-member_lines v channel = map (λ entry. member_line v.settings (member_parts v entry)) (entries channel.members)
+member_lines v channel =
+    map (λ entry. member_line v.settings (member_parts v entry)) (entries channel.members)
 
 -- the letters of modes
 abbrev pub letters_of : List (ℕ × Option Text) → Text
@@ -40,7 +42,8 @@ letters_of modes = map (λ mode. mode.0) modes
 abbrev pub params_of : List (ℕ × Option Text) → Text
 params_of modes = flat_map (λ mode. labelled (codes " ") mode.1) modes
 
--- the modes of a channel, where there are any: the letters, and behind them the parameters in the same order
+-- the modes of a channel, where there are any: the letters, and behind them the parameters in the
+-- same order
 abbrev pub mode_lines : List (ℕ × Option Text) → List Text
 mode_lines [] = []
 mode_lines modes = (codes "modes +" ++ letters_of modes ++ params_of modes) ∷ []
@@ -50,7 +53,8 @@ abbrev pub topic_lines : Option Text → List Text
 topic_lines None = []
 topic_lines (Some topic) = (codes "topic " ++ topic) ∷ []
 
--- a channel that we are on: its name, its modes in the order of their letters' bytes, its topic, its members
+-- a channel that we are on: its name, its modes in the order of their letters' bytes, its topic,
+-- its members
 abbrev pub channel_lines : View → Channel → List Text
 channel_lines v channel =
     (codes "channel " ++ channel.name)

@@ -6,7 +6,8 @@ use Rattle.net_view.specs.Arrival.{Arrival, Received}
 use Rattle.net_view.specs.View.{view_of}
 use Rattle.bnc.specs.Report.{report_of}
 use Rattle.bnc.specs.declared.fault.Fault.{Fault}
-use Rattle.bnc.specs.declared.fault.Fault.TheVariants.{CannotRead, CannotWrite, LineTooLong, OutOfMemory}
+use Rattle.bnc.specs.declared.fault.Fault.TheVariants.{CannotRead, CannotWrite, LineTooLong}
+use Rattle.bnc.specs.declared.fault.Fault.TheVariants.{OutOfMemory}
 
 -- the transcript that the bytes are: their lines, in order
 abbrev pub transcript_of : List ℕ → List Arrival
@@ -16,8 +17,8 @@ transcript_of bytes = map Received (lines_of bytes)
 abbrev pub stream_report : List ℕ → List ℕ
 stream_report bytes = report_of (view_of (transcript_of bytes)) (counted (skipped_of bytes))
 
--- why a piece that brings the input to these bytes is refused: a line that is too long is told where there is
--- one, and there no other fault is told
+-- why a piece that brings the input to these bytes is refused: a line that is too long is told
+-- where there is one, and there no other fault is told
 abbrev pub IsPieceRefusal : List ℕ → Fault → Type 0
 IsPieceRefusal bytes LineTooLong = IsTrue (is_too_long bytes)
 IsPieceRefusal bytes OutOfMemory = is_too_long bytes ≡ false

@@ -24,8 +24,8 @@ fn network_total(config: &Config) -> u128
     total
 }
 
-/// Reads a settings file's text, and writes `users U networks N` and LF, N over all users. After a fault
-/// other than `CannotWrite` nothing is written.
+/// Reads a settings file's text, and writes `users U networks N` and LF, N over all users. After a
+/// fault other than `CannotWrite` nothing is written.
 pub fn run_check<W: Write>(alloc: Global, text: &[u8], out: &mut W) -> Result<(), Fault>
     ensures written { OnOk result ((settings : Settings) × Means text.now settings
         × Appends (W.contents out.old) (W.contents out.new) (report_of settings)) }

@@ -7,6 +7,7 @@ ghost use Rattle.bnc.specs.Faults.{reading_fault};
 use bnc_config::ConfigFault;
 use irc_line::FeedError;
 use std::alloc::AllocError;
+use std::error::Error;
 use std::io::ErrorKind;
 use std::{fmt, io};
 
@@ -78,3 +79,5 @@ impl fmt::Display for Fault {
         }
     }
 }
+
+impl Error for Fault {}

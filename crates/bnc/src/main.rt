@@ -13,26 +13,56 @@ mod words;
 use crate::check::check_file;
 use crate::fault::Fault;
 use crate::view::run_view;
-use crate::words::{Command, WordsFault, read_words};
+use crate::words::{Command, WordsFault, explain_words, read_words};
+use std::alloc::{AllocError, Global};
 use std::io::ErrorKind;
 use std::process::ExitCode;
 use std::rt::{Env, Files};
 use std::{env, io};
 
+/// The words after the program's name.
+fn words_of<R: AllocGlobal + Env>(rt: &R) -> Result<Vec<String>, WordsFault> {
+    match env::args(rt) {
+        Ok(words) => Ok(words.skip(1).collect::<Vec<String>>(rt.alloc())?),
+        Err(error) if error.kind() == ErrorKind::OutOfMemory => Err(WordsFault::OutOfMemory),
+        Err(_) => Err(WordsFault::Bad),
+    }
+}
+
+/// The words as `read_words` takes them.
+fn lent<'a>(alloc: Global, words: &'a [String]) -> Result<Vec<&'a str>, AllocError> {
+    let mut lent = Vec::with_capacity(alloc, words.len())?;
+    for word in words {
+        lent.push(word.as_str())?;
+    }
+    Ok(lent)
+}
+
 /// What the words after the program's name ask for.
 fn command_of<R: AllocGlobal + Env>(rt: &R) -> Result<Command, WordsFault> {
-    let alloc = rt.alloc();
-    let words = match env::args(rt) {
-        Ok(words) => words,
-        Err(error) if error.kind() == ErrorKind::OutOfMemory => return Err(WordsFault::OutOfMemory),
-        Err(_) => return Err(WordsFault::Bad),
-    };
-    let owned = words.skip(1).collect::<Vec<String>>(alloc)?;
-    let mut words = Vec::with_capacity(alloc, owned.len())?;
-    for word in owned.iter() {
-        words.push(word.as_str())?;
+    let words = words_of(rt)?;
+    let words = lent(rt.alloc(), words.as_slice())?;
+    read_words(rt.alloc(), words.as_slice())
+}
+
+/// What is wrong with the words after the program's name.
+fn explanation_of<R: AllocGlobal + Env>(rt: &R) -> Result<Option<String>, WordsFault> {
+    let words = words_of(rt)?;
+    let words = lent(rt.alloc(), words.as_slice())?;
+    Ok(explain_words(rt.alloc(), words.as_slice())?)
+}
+
+/// Tells that the words after the program's name ask for nothing, and what is wrong with them.
+fn refuse_words<R: AllocGlobal + Env + Eprint>(rt: &R) -> ExitCode
+    ensures { exit_status result ≡ 2 }
+{
+    let bad = WordsFault::Bad;
+    let _ = eprintln!(rt; "bnc: {bad}");
+    if let Ok(Some(text)) = explanation_of(rt) {
+        let _ = eprintln!(rt; "{text}");
     }
-    read_words(alloc, words.as_slice())
+    let _ = eprintln!(rt; "try 'bnc --help'");
+    ExitCode::from(2)
 }
 
 /// Does what the command line asks for.
@@ -56,10 +86,7 @@ fn main(rt: HostRuntime) -> ExitCode {
         Ok(command) => run(&rt, &command),
         Err(WordsFault::Help(text)) => print!(rt; "{text}").map_err(|_| Fault::CannotWrite),
         Err(WordsFault::OutOfMemory) => Err(Fault::OutOfMemory),
-        Err(WordsFault::Bad) => {
-            let _ = eprintln!(rt; "bnc: bad command line");
-            return ExitCode::from(2);
-        }
+        Err(WordsFault::Bad) => return refuse_words(&rt),
     };
     match done {
         Ok(()) => ExitCode::SUCCESS,

@@ -5,7 +5,8 @@ ghost use Rattle.std.specs.Option.{option_map_or};
 ghost use Rattle.irc_line.specs.Lines.{with_lf};
 ghost use Rattle.net_view.specs.Readers.{channel_shown};
 ghost use Rattle.bnc.specs.Readers.{modes_shown, parts_of};
-ghost use Rattle.bnc.specs.Report.{channel_lines, channels_lines, labelled, letters_of, member_line};
+ghost use Rattle.bnc.specs.Report.{channel_lines, channels_lines, labelled, letters_of};
+ghost use Rattle.bnc.specs.Report.{member_line};
 ghost use Rattle.bnc.specs.Report.{member_lines, mode_lines, params_of, report_of, skipped_lines};
 ghost use Rattle.bnc.specs.Report.{symbols_of, text_of, topic_lines};
 
@@ -37,7 +38,8 @@ fn push_labelled(report: &mut Vec<u8>, label: &[u8], text: Option<&[u8]>) -> Res
     Ok(())
 }
 
-/// The place behind that of a mode. Letters rise from place to place, so none stands at a place above it.
+/// The place behind that of a mode. Letters rise from place to place, so none stands at a place
+/// above it.
 fn place_behind(letter: u8, j: usize) -> usize
     requires { j ≤ letter }
     ensures next { result ≡ j + 1 }
@@ -124,7 +126,8 @@ fn push_member<V: NetworkView>(
     member: &Member<'_>,
 ) -> Result<(), OutOfMemory>
     ensures { OnOk result (report.new.items
-        ≡ report.old.items ++ with_lf (member_line (V.view view.now).settings (parts_of member.now))) }
+        ≡ report.old.items
+        ++ with_lf (member_line (V.view view.now).settings (parts_of member.now))) }
 {
     report.extend_from_slice(b"member ")?;
     push_symbols(report, view, member)?;
@@ -189,20 +192,16 @@ fn push_skipped(alloc: Global, report: &mut Vec<u8>, skipped: u64) -> Result<(),
 /// The report of a network view, and of how many lines of its transcript were skipped:
 ///
 /// ```text
-/// nick Me
-/// channel #c
-/// modes +kl key 9
-/// topic Hello all
-/// member @+bob account bobacc away gone fishing
-/// member Me
-/// skipped 3
+/// nick Me channel #c modes +kl key 9 topic Hello all member @+bob account bobacc away gone fishing
+/// member Me skipped 3
 /// ```
 ///
-/// Channels and members stand in the order of their keys, and each line ends with LF. Modes stand in the
-/// order of their letters' bytes, and behind them their parameters in the same order. Before a nick stand the
-/// symbols of all ranks held on the channel, the highest first; behind it the account and the away text of
-/// the person. Modes, topic, account and away text stand only where there are any, and the last line only
-/// where something was skipped. Before a welcome the first line is `no welcome`.
+/// Channels and members stand in the order of their keys, and each line ends with LF. Modes stand
+/// in the order of their letters' bytes, and behind them their parameters in the same order. Before
+/// a nick stand the symbols of all ranks held on the channel, the highest first; behind it the
+/// account and the away text of the person. Modes, topic, account and away text stand only where
+/// there are any, and the last line only where something was skipped. Before a welcome the first
+/// line is `no welcome`.
 pub fn report_text<V: NetworkView>(
     alloc: Global,
     view: &V,

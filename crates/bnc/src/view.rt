@@ -5,7 +5,8 @@ ghost use Rattle.std.specs.Io.KnownBytes.{Appends, Consumes, IsAtEnd};
 ghost use Rattle.irc_line.specs.Lines.{counted, fed, is_too_long, skipped_of, start};
 ghost use Rattle.net_view.specs.Arrival.{Arrival, Received};
 ghost use Rattle.net_view.specs.View.{view_of};
-ghost use Rattle.bnc.specs.Stream.{IsCauseOf, IsPieceRefusal, IsRefusal, stream_report, transcript_of};
+ghost use Rattle.bnc.specs.Stream.{IsCauseOf, IsPieceRefusal, IsRefusal, stream_report};
+ghost use Rattle.bnc.specs.Stream.{transcript_of};
 
 use crate::fault::Fault;
 use crate::report::report_text;
@@ -18,7 +19,8 @@ use tape_view::TapeView;
 /// How many bytes one read asks for.
 const PIECE: usize = 65_536;
 
-/// How many reads there are at most. An input that is not at its end then counts as one that can't be read.
+/// How many reads there are at most. An input that is not at its end then counts as one that can't
+/// be read.
 const READ_LIMIT: u64 = 1_000_000_000;
 
 /// Takes lines out of the list, in order, into the view.
@@ -33,8 +35,8 @@ fn take_lines<V: NetworkView>(view: &mut V, lines: &mut Vec<Line>) -> Result<(),
     Ok(())
 }
 
-/// Takes a piece of the input: the lines that it completes go into the view. The list is empty between
-/// pieces, so it needs no more memory than the lines of one.
+/// Takes a piece of the input: the lines that it completes go into the view. The list is empty
+/// between pieces, so it needs no more memory than the lines of one.
 fn take_piece<V: NetworkView>(
     view: &mut V,
     splitter: &mut Splitter,
@@ -94,10 +96,10 @@ fn read_all<V: NetworkView, R: Read>(
 
 /// Reads what a network sent to its end, and writes the report of its lines. The view is a new one.
 ///
-/// Want of memory apart, a fault comes where more than 16,384 bytes stand without LF, where a read fails or
-/// 1,000,000,000 reads did not reach the end, and where the report is not taken. After a fault other than
-/// `CannotWrite` nothing is written. Bytes behind the last LF are no line. The input is not kept: memory grows
-/// with what the view keeps alone.
+/// Want of memory apart, a fault comes where more than 16,384 bytes stand without LF, where a read
+/// fails or 1,000,000,000 reads did not reach the end, and where the report is not taken. After a
+/// fault other than `CannotWrite` nothing is written. Bytes behind the last LF are no line. The
+/// input is not kept: memory grows with what the view keeps alone.
 pub fn report_input<V: NetworkView, R: Read, W: Write>(
     alloc: Global,
     view: &mut V,
@@ -123,16 +125,13 @@ pub fn report_input<V: NetworkView, R: Read, W: Write>(
     }
 }
 
-/// Reads what a network sent to its end, and writes the report of its lines, as `report_input` has it of a
-/// new view:
+/// Reads what a network sent to its end, and writes the report of its lines, as `report_input` has
+/// it of a new view:
 ///
 /// ```text
-/// :s 001 Me :hi               nick Me
-/// :Me!m@h JOIN #c             channel #c
-/// :s MODE #c +k key           modes +k key
-/// :bob!b@h JOIN #c            member @bob away lunch
-/// :s MODE #c +o bob           member Me
-/// :bob!b@h AWAY :lunch
+/// :s 001 Me :hi               nick Me :Me!m@h JOIN #c             channel #c :s MODE #c +k key
+///       modes +k key :bob!b@h JOIN #c            member @bob away lunch :s MODE #c +o bob
+///  member Me :bob!b@h AWAY :lunch
 /// ```
 pub fn run_view<R: Read, W: Write>(alloc: Global, reader: &mut R, out: &mut W) -> Result<(), Fault>
     ensures written { OnOk result ((bytes : List ℕ)

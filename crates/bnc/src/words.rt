@@ -2,11 +2,13 @@
 
 ghost use Rattle.std.specs.Prelude.{◌≡◌, IfErr, IfOk, false, map};
 ghost use Rattle.clap.specs.Words.{app_of, kind_of, rule_of};
-ghost use Rattle.bnc.specs.Command.{AsksFor, IsCauseOf, IsOfKind, bare_app, bnc_app, file_rule};
+ghost use Rattle.bnc.specs.Command.{AsksFor, IsCauseOf, IsExplained, IsOfKind, bare_app, bnc_app};
+ghost use Rattle.bnc.specs.Command.{file_rule};
 
 use clap::error::ErrorKind;
 use clap::{Arg, ArgAction};
 use std::alloc::{AllocError, AllocFailed, Global};
+use thiserror::Error;
 
 /// What the words after the program's name ask for.
 #[derive(Debug, Drop)]
@@ -18,13 +20,16 @@ pub enum Command {
 }
 
 /// Why the words ask for nothing.
-#[derive(Debug, Drop)]
+#[derive(Debug, Drop, Error)]
 pub enum WordsFault {
     /// They are not of the command line's grammar.
+    #[error("bad command line")]
     Bad,
     /// They ask for help, which is this text.
+    #[error("{0}")]
     Help(String),
     /// An allocation was refused.
+    #[error("out of memory")]
     OutOfMemory,
 }
 
@@ -124,6 +129,34 @@ pub fn read_words<'a>(alloc: Global, words: &'a [&'a str]) -> Result<Command, Wo
     }
 }
 
+/// What stands before the first empty line.
+fn first_paragraph(text: &str) -> &str {
+    match text.split_once("\n\n") {
+        Some((first, _)) => first,
+        None => text,
+    }
+}
+
+/// What is wrong with words that are not of the command line's grammar: the first paragraph of what
+/// `clap` has to say of them, as `error: unrecognized subcommand 'chek'`. `None` where they ask for
+/// a command or for help.
+pub fn explain_words<'a>(alloc: Global, words: &'a [&'a str]) -> Result<Option<String>, AllocError>
+    ensures { IfOk result (IsExplained (map (λ word. word.now) words.now)) }
+{
+    let error = match grammar(alloc)?.try_get_matches_from(words) {
+        Ok(_) => return Ok(None),
+        Err(error) => error,
+    };
+    match error.kind() {
+        ErrorKind::OutOfMemory => Err(AllocError),
+        ErrorKind::DisplayHelp => Ok(None),
+        _ => {
+            let text = format!(in alloc; "{error}")?;
+            Ok(Some(String::from_str(alloc, first_paragraph(text.as_str()))?))
+        }
+    }
+}
+
 #[cfg(test)]
 mod tests {
     use super::*;
@@ -149,6 +182,30 @@ mod tests {
                 Err(WordsFault::Help(_))
             )
         );
+        Ok(())
+    }
+
+    #[test]
+    fn what_is_wrong_with_words(rt: HostRuntime) -> Result<(), Fail> {
+        let rows = [
+            (["chek", "a"], "error: unrecognized subcommand 'chek'"),
+            (
+                ["view", "bnc.toml"],
+                "error: unexpected argument 'bnc.toml' found",
+            ),
+            (
+                ["check", "--other"],
+                "error: unexpected argument '--other' found",
+            ),
+        ];
+        for (words, want) in rows {
+            let told = explain_words(rt.alloc(), &words)?.ok_or("nothing is told")?;
+            assert_eq!(rt; told.as_str(), want);
+        }
+        let told = explain_words(rt.alloc(), &["check"])?.ok_or("nothing is told")?;
+        assert!(rt; told.as_str().contains("<FILE>"));
+        assert!(rt; explain_words(rt.alloc(), &["check", "a"])?.is_none());
+        assert!(rt; explain_words(rt.alloc(), &["--help"])?.is_none());
         Ok(())
     }
 

@@ -8,12 +8,14 @@ use Rattle.bnc_config.specs.Digest.{difference_of}
 -- two numbers that differ in no bit are equal
 same_from_xor : (a b : ℕ) → bit_xor a b ≡ 0 → a ≡ b
 same_from_xor a b none =
-    sym (xor_zero_r a) ∙ ap (bit_xor a) (sym (xor_self b)) ∙ sym (xor_assoc a b b) ∙ ap (λ n. bit_xor n b) none ∙ xor_zero_l b
+    sym (xor_zero_r a) ∙ ap (bit_xor a) (sym (xor_self b)) ∙ sym (xor_assoc a b b)
+        ∙ ap (λ n. bit_xor n b) none ∙ xor_zero_l b
 
 abbrev with_pair : ℕ → ℕ × ℕ → ℕ
 with_pair difference pair = bit_or difference (bit_xor pair.0 pair.1)
 
-none_before : (found : ℕ) (a b : List ℕ) → length a ≡ length b → fold with_pair found (zip a b) ≡ 0 → (found ≡ 0) × (a ≡ b)
+none_before : (found : ℕ) (a b : List ℕ) → length a ≡ length b → fold with_pair found (zip a b) ≡ 0
+    → (found ≡ 0) × (a ≡ b)
 none_before found [] [] same none = (none, refl)
 none_before found [] (y ∷ ys) same none = absurd (omega arith)
 none_before found (x ∷ xs) [] same none = absurd (omega arith)
@@ -31,7 +33,8 @@ same_from_difference a b same none = (none_before 0 a b same none).1
 
 none_more : (found : ℕ) (a : List ℕ) → found ≡ 0 → fold with_pair found (zip a a) ≡ 0
 none_more found [] none = none
-none_more found (x ∷ xs) none = none_more (bit_or found (bit_xor x x)) xs (rw (none, xor_self x) refl)
+none_more found (x ∷ xs) none =
+    none_more (bit_or found (bit_xor x x)) xs (rw (none, xor_self x) refl)
 
 -- bytes do not differ from themselves
 pub difference_of-self : (a : List ℕ) → difference_of a a ≡ 0

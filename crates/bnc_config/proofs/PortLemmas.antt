@@ -1,5 +1,6 @@
 -- A port as `parse` reads it.
-use Rattle.std.proofs.Common.{◌≡◌, refl, sym, ℕ, ◌<◌, ◌^◌, true, false, List, [], ◌∷◌, Err, rules, arith}
+use Rattle.std.proofs.Common.{◌≡◌, refl, sym, ℕ, ◌<◌, ◌^◌, true, false, List, [], ◌∷◌, Err, rules}
+use Rattle.std.proofs.Common.{arith}
 use Rattle.std.proofs.lemmas.Bool.Decides.{nat_tests}
 use Rattle.std.proofs.lemmas.Str.Parse.{IsNumeralModel, numerals_by_value, parse_digits}
 use Rattle.std.specs.Char.{is_ascii_digit}
@@ -10,8 +11,10 @@ use Rattle.bnc_config.specs.Text.{is_port}
 own : IsNumeralModel (λ ds. list_all is_ascii_digit ds ≡ true) (digits_value 10)
 own = numerals_by_value _ (search rules)
 
--- digits of which no number of 16 bits was read are no port: there are none, or the number is too large
-pub is_port-err : (E : Type 0) (text : List ℕ) (e : E) → ParsesUnsigned {E = E} 16 10 text (Err e) → true ≡ list_all is_ascii_digit text → false ≡ is_port text
+-- digits of which no number of 16 bits was read are no port: there are none, or the number is too
+-- large
+pub is_port-err : (E : Type 0) (text : List ℕ) (e : E) → ParsesUnsigned {E = E} 16 10 text (Err e)
+    → true ≡ list_all is_ascii_digit text → false ≡ is_port text
 is_port-err E [] e read digits = refl
 is_port-err E (c ∷ cs) e read digits =
     let none = parse_digits own 16 (c ∷ cs) (Err e) read (sym digits) in

@@ -2,7 +2,8 @@
 use Rattle.std.specs.Prelude.{ℕ, List, ◌++◌, codes}
 use Rattle.bnc_config.specs.Key.{path_of}
 use Rattle.bnc_config.specs.declared.fault.ConfigFault.{ConfigFault}
-use Rattle.bnc_config.specs.declared.fault.ConfigFault.TheVariants.{NotToml, Missing, BadValue, Twice, OutOfMemory}
+use Rattle.bnc_config.specs.declared.fault.ConfigFault.TheVariants.{NotToml, Missing, BadValue}
+use Rattle.bnc_config.specs.declared.fault.ConfigFault.TheVariants.{Twice, OutOfMemory}
 
 -- the text of a fault
 abbrev pub text_of : ConfigFault → List ℕ

@@ -1,23 +1,31 @@
 -- What a settings file means as a TOML tree, and its first fault. The format is our own choice.
-use Rattle.std.specs.Prelude.{◌≡◌, ◌⊎◌, ℕ, suc, Bool, true, false, ◌&&◌, nat_le, pos, List, [], ◌∷◌, ◌++◌, map, Option, Some, None, Result, Ok, Err, unwrap_or, is_some, option_and_then, if◌then◌else◌, IsUtf8}
+use Rattle.std.specs.Prelude.{◌≡◌, ◌⊎◌, ℕ, suc, Bool, true, false, ◌&&◌, nat_le, pos, List, [], ◌∷◌}
+use Rattle.std.specs.Prelude.{◌++◌, map, Option, Some, None, Result, Ok, Err, unwrap_or, is_some}
+use Rattle.std.specs.Prelude.{option_and_then, if◌then◌else◌, IsUtf8}
 use Rattle.std.specs.List.{list_any}
 use Rattle.std.specs.Option.{option_or}
 use Rattle.std.specs.Result.{result_unwrap_or}
 use Rattle.std.specs.Str.{bytes_eq}
 use Rattle.hex.specs.Hex.{decode_of}
 use Rattle.irc_names.specs.Nick.{is_nameable}
-use Rattle.toml.specs.Data.{Data, string, integer, array, table, Items, no_items, item, Members, get_member, as_str, as_table}
+use Rattle.toml.specs.Data.{Data, string, integer, array, table, Items, no_items, item, Members}
+use Rattle.toml.specs.Data.{get_member, as_str, as_table}
 use Rattle.toml.specs.Parse.{parse_document}
 use Rattle.bnc_config.specs.Key.{word_of}
 use Rattle.bnc_config.specs.Settings.{Settings, UserSettings, NetworkSettings}
-use Rattle.bnc_config.specs.Text.{is_name, is_word, is_one_line, is_address, is_hexadecimal, is_digest}
+use Rattle.bnc_config.specs.Text.{is_name, is_word, is_one_line, is_address, is_hexadecimal}
+use Rattle.bnc_config.specs.Text.{is_digest}
 use Rattle.bnc_config.specs.declared.fault.ConfigFault.{ConfigFault}
-use Rattle.bnc_config.specs.declared.fault.ConfigFault.TheVariants.{NotToml, Missing, BadValue, Twice, OutOfMemory}
+use Rattle.bnc_config.specs.declared.fault.ConfigFault.TheVariants.{NotToml, Missing, BadValue}
+use Rattle.bnc_config.specs.declared.fault.ConfigFault.TheVariants.{Twice, OutOfMemory}
 use Rattle.bnc_config.specs.declared.key.Key.{Key}
 use Rattle.bnc_config.specs.declared.key.Key.TheVariants.{Listen, History, Retry, User}
-use Rattle.bnc_config.specs.declared.key.Key.TheVariants.{UserName, UserSalt, UserPassword, UserNetwork}
-use Rattle.bnc_config.specs.declared.key.Key.TheVariants.{NetworkName, NetworkAddress, NetworkNick, NetworkUser}
-use Rattle.bnc_config.specs.declared.key.Key.TheVariants.{NetworkRealname, NetworkPassword, NetworkJoin}
+use Rattle.bnc_config.specs.declared.key.Key.TheVariants.{UserName, UserSalt, UserPassword}
+use Rattle.bnc_config.specs.declared.key.Key.TheVariants.{UserNetwork}
+use Rattle.bnc_config.specs.declared.key.Key.TheVariants.{NetworkName, NetworkAddress, NetworkNick}
+use Rattle.bnc_config.specs.declared.key.Key.TheVariants.{NetworkUser}
+use Rattle.bnc_config.specs.declared.key.Key.TheVariants.{NetworkRealname, NetworkPassword}
+use Rattle.bnc_config.specs.declared.key.Key.TheVariants.{NetworkJoin}
 
 -- ---- which values a key allows
 
@@ -51,7 +59,8 @@ abbrev pub has_at_most : ℕ → Data → Bool
 has_at_most most (array items) = nat_le (item_count items) most
 has_at_most most _ = false
 
--- the texts that a key, or each item of its list, allows: a key with no texts, or hexadecimal ones, has none here
+-- the texts that a key, or each item of its list, allows: a key with no texts, or hexadecimal ones,
+-- has none here
 abbrev pub allows_text : Key → List ℕ → Bool
 allows_text Listen = is_address
 allows_text UserName = is_name
@@ -109,7 +118,8 @@ user_keys = UserName ∷ UserSalt ∷ UserPassword ∷ UserNetwork ∷ []
 
 abbrev pub network_keys : List Key
 network_keys =
-    NetworkName ∷ NetworkAddress ∷ NetworkNick ∷ NetworkUser ∷ NetworkRealname ∷ NetworkPassword ∷ NetworkJoin ∷ []
+    NetworkName ∷ NetworkAddress ∷ NetworkNick ∷ NetworkUser ∷ NetworkRealname ∷ NetworkPassword ∷
+        NetworkJoin ∷ []
 
 -- the name stands earlier in the same list, byte for byte
 abbrev pub twice_fault : List (List ℕ) → List ℕ → Option ConfigFault
@@ -133,7 +143,8 @@ tables_of (item _ items) = tables_of items
 abbrev pub tables_at : Key → Members → List Members
 tables_at key tree = tables_of (items_of (get_member (word_of key) tree))
 
--- the first fault of a network that comes after networks of these names: of its keys, then that its name is an earlier one's
+-- the first fault of a network that comes after networks of these names: of its keys, then that its
+-- name is an earlier one's
 abbrev pub network_fault : List (List ℕ) → Members → Option ConfigFault
 network_fault earlier tree =
     option_or (keys_fault network_keys tree) (twice_fault earlier (text_at NetworkName tree))
@@ -142,12 +153,14 @@ network_fault earlier tree =
 abbrev pub networks_fault : List (List ℕ) → List Members → Option ConfigFault
 networks_fault earlier [] = None
 networks_fault earlier (tree ∷ rest) =
-    option_or (network_fault earlier tree) (networks_fault (earlier ++ text_at NetworkName tree ∷ []) rest)
+    option_or (network_fault earlier tree)
+        (networks_fault (earlier ++ text_at NetworkName tree ∷ []) rest)
 
 -- the first fault of a user: of its keys, then of its name, then of its networks
 abbrev pub user_fault : List (List ℕ) → Members → Option ConfigFault
 user_fault earlier tree = option_or (keys_fault user_keys tree)
-    (option_or (twice_fault earlier (text_at UserName tree)) (networks_fault [] (tables_at UserNetwork tree)))
+    (option_or (twice_fault earlier (text_at UserName tree))
+        (networks_fault [] (tables_at UserNetwork tree)))
 
 abbrev pub users_fault : List (List ℕ) → List Members → Option ConfigFault
 users_fault earlier [] = None
@@ -228,8 +241,8 @@ IsFaultOf text OutOfMemory = Unit {0}
 IsFaultOf text NotToml = (tree : Members) → IsTree text tree → ⊥
 IsFaultOf text fault = (tree : Members) × IsTree text tree × (first_fault tree ≡ Some fault)
 
--- what is read of a part of a tree: seen as what the part means where it has no fault, else the part's first fault;
--- want of memory may come in place of either
+-- what is read of a part of a tree: seen as what the part means where it has no fault, else the
+-- part's first fault; want of memory may come in place of either
 abbrev pub Reads : {T V : Type 0} → (T → V) → Result T ConfigFault → Option ConfigFault → V → Type 0
 Reads seen (Ok value) fault meant = (fault ≡ None) × (seen value ≡ meant)
 Reads seen (Err e) fault meant = (e ≡ OutOfMemory) ⊎ (fault ≡ Some e)
@@ -237,4 +250,5 @@ Reads seen (Err e) fault meant = (e ≡ OutOfMemory) ⊎ (fault ≡ Some e)
 -- copies of the texts of a list where the key allows them all, else nothing
 abbrev pub AreCopied : Key → Items → Option (List (List ℕ)) → Type 0
 AreCopied key items None = all_items (is_text_where (allows_text key)) items ≡ false
-AreCopied key items (Some texts) = (all_items (is_text_where (allows_text key)) items ≡ true) × (texts ≡ texts_of items)
+AreCopied key items (Some texts) =
+    (all_items (is_text_where (allows_text key)) items ≡ true) × (texts ≡ texts_of items)

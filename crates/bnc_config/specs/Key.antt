@@ -2,9 +2,12 @@
 use Rattle.std.specs.Prelude.{ℕ, List, ◌++◌, codes}
 use Rattle.bnc_config.specs.declared.key.Key.{Key}
 use Rattle.bnc_config.specs.declared.key.Key.TheVariants.{Listen, History, Retry, User}
-use Rattle.bnc_config.specs.declared.key.Key.TheVariants.{UserName, UserSalt, UserPassword, UserNetwork}
-use Rattle.bnc_config.specs.declared.key.Key.TheVariants.{NetworkName, NetworkAddress, NetworkNick, NetworkUser}
-use Rattle.bnc_config.specs.declared.key.Key.TheVariants.{NetworkRealname, NetworkPassword, NetworkJoin}
+use Rattle.bnc_config.specs.declared.key.Key.TheVariants.{UserName, UserSalt, UserPassword}
+use Rattle.bnc_config.specs.declared.key.Key.TheVariants.{UserNetwork}
+use Rattle.bnc_config.specs.declared.key.Key.TheVariants.{NetworkName, NetworkAddress, NetworkNick}
+use Rattle.bnc_config.specs.declared.key.Key.TheVariants.{NetworkUser}
+use Rattle.bnc_config.specs.declared.key.Key.TheVariants.{NetworkRealname, NetworkPassword}
+use Rattle.bnc_config.specs.declared.key.Key.TheVariants.{NetworkJoin}
 
 -- the key's word in its table
 abbrev pub word_of : Key → List ℕ

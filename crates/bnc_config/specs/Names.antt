@@ -7,4 +7,5 @@ use Rattle.bnc_config.specs.declared.names.Names.{Names}
 
 -- a name is found among the names where it is one of these
 abbrev pub AreNames : Names → List (List ℕ) → Type 0
-AreNames names earlier = (name : List ℕ) → is_some (get_by (λ k. bytes_eq name k.now) names.seen) ≡ list_any (bytes_eq name) earlier
+AreNames names earlier = (name : List ℕ)
+    → is_some (get_by (λ k. bytes_eq name k.now) names.seen) ≡ list_any (bytes_eq name) earlier

@@ -1,5 +1,6 @@
 -- What a text of the settings file may be. The format is our own choice.
-use Rattle.std.specs.Prelude.{ℕ, Bool, true, false, ◌&&◌, ◌||◌, ◌==◌, not, nat_le, nat_lt, List, [], ◌∷◌, length, codes}
+use Rattle.std.specs.Prelude.{ℕ, Bool, true, false, ◌&&◌, ◌||◌, ◌==◌, not, nat_le, nat_lt, List, []}
+use Rattle.std.specs.Prelude.{◌∷◌, length, codes}
 use Rattle.std.specs.List.{list_any, list_all, before_first, after_first}
 use Rattle.std.specs.Char.{is_ascii_digit}
 use Rattle.std.specs.Result.{is_ok}
@@ -18,7 +19,8 @@ is_control b = nat_lt b 32 || b == 127
 abbrev pub is_one_of : List ℕ → ℕ → Bool
 is_one_of bytes b = list_any (λ c. b == c) bytes
 
--- what no name holds: control bytes, spaces, and what parts the names in a login `user@client/network:password`
+-- what no name holds: control bytes, spaces, and what parts the names in a login
+-- `user@client/network:password`
 abbrev pub bars_name : ℕ → Bool
 bars_name b = is_control b || is_one_of (codes "/@: ") b
 
@@ -30,8 +32,8 @@ is_name text = not (is_empty text) && not (list_any bars_name text)
 abbrev pub bars_word : ℕ → Bool
 bars_word b = is_control b || b == 32
 
--- a word: a text that a line can hold as any of its parameters (RFC 2812, section 2.3.1, `middle`), without control
--- bytes: it is not empty and does not begin with a colon
+-- a word: a text that a line can hold as any of its parameters (RFC 2812, section 2.3.1, `middle`),
+-- without control bytes: it is not empty and does not begin with a colon
 abbrev pub is_word : List ℕ → Bool
 is_word [] = false
 is_word (b ∷ bs) = not (b == 58) && not (list_any bars_word (b ∷ bs))
@@ -42,11 +44,14 @@ is_one_line text = not (list_any is_control text)
 
 -- a port: a number from 1 to 65535, in decimal digits
 abbrev pub is_port : List ℕ → Bool
-is_port text = list_all is_ascii_digit text && (nat_le 1 (digits_value 10 text) && nat_le (digits_value 10 text) 65535)
+is_port text =
+    list_all is_ascii_digit text
+        && (nat_le 1 (digits_value 10 text) && nat_le (digits_value 10 text) 65535)
 
 -- HOST:PORT, where the host is not empty and, ending at the first colon, holds none
 abbrev pub is_address : List ℕ → Bool
-is_address text = not (is_empty (before_first (λ b. b == 58) text)) && is_port (after_first (λ b. b == 58) text)
+is_address text =
+    not (is_empty (before_first (λ b. b == 58) text)) && is_port (after_first (λ b. b == 58) text)
 
 -- bytes in hexadecimal digits, two a byte, in either case
 abbrev pub is_hexadecimal : List ℕ → Bool

@@ -4,7 +4,8 @@ ghost use Rattle.std.specs.Prelude.{◌≡◌};
 ghost use Rattle.std.specs.Char.{is_ascii_digit};
 ghost use Rattle.std.specs.List.{list_all, list_any};
 ghost use Rattle.bnc_config.specs.Document.{allows_text};
-ghost use Rattle.bnc_config.specs.Text.{bars_name, bars_word, is_address, is_control, is_name, is_port, is_word};
+ghost use Rattle.bnc_config.specs.Text.{bars_name, bars_word, is_address, is_control, is_name};
+ghost use Rattle.bnc_config.specs.Text.{is_port, is_word};
 
 use crate::Key;
 use irc_names::is_nameable;
@@ -39,8 +40,8 @@ fn has_digits_only(text: &[u8]) -> bool
     text.iter().all(|byte| byte.is_ascii_digit())
 }
 
-/// Whether the text can name a user or a network: it is not empty and holds no `/`, `@`, `:`, space or
-/// control byte, so that a login `user@client/network:password` can be cut.
+/// Whether the text can name a user or a network: it is not empty and holds no `/`, `@`, `:`, space
+/// or control byte, so that a login `user@client/network:password` can be cut.
 fn is_name(text: &[u8]) -> bool
     ensures { result ≡ is_name text.now }
 {
@@ -50,7 +51,8 @@ fn is_name(text: &[u8]) -> bool
     }
 }
 
-/// Whether the text is a word without control bytes: not empty, with no space and no colon in front.
+/// Whether the text is a word without control bytes: not empty, with no space and no colon in
+/// front.
 fn is_word(text: &[u8]) -> bool
     ensures { result ≡ is_word text.now }
 {

@@ -1,8 +1,10 @@
 //! The settings as a whole.
 
-ghost use Rattle.std.specs.Prelude.{◌≡◌, ◌↔◌, IsTrue, MatchResult, length, option_map, option_copied};
+ghost use Rattle.std.specs.Prelude.{◌≡◌, ◌≤◌, ◌↔◌, IsTrue, MatchResult, length, option_map};
+ghost use Rattle.std.specs.Prelude.{option_copied};
 ghost use Rattle.bnc_config.specs.Document.{IsFaultOf, Means};
 ghost use Rattle.bnc_config.specs.Settings.{Matches, network_at, networks_at, place_of, user_at};
+ghost use Rattle.bnc_config.specs.Text.{is_address};
 
 use crate::digest::{are_equal, digest_of};
 use crate::networks::place_of_network;
@@ -22,7 +24,7 @@ pub struct Config {
 }
 
 impl Model for Config {
-    ghost use Rattle.bnc_config.specs.Settings.{Settings};
+    ghost use Rattle.bnc_config.specs.Settings.{IsTop, Settings};
 
     ghost Value = { Settings };
 
@@ -32,11 +34,18 @@ impl Model for Config {
       retry = config.retry;
       users = config.users.items;
     } };
+
+    ghost invariant = { λ config. IsTop (record {
+      listen = config.listen;
+      history = config.history;
+      retry = config.retry;
+      users = config.users.items;
+    }) };
 }
 
 impl Config {
-    /// Reads a settings file: the settings that it means, else its first fault. Keys that are not named
-    /// here are not looked at.
+    /// Reads a settings file: the settings that it means, else its first fault. Keys that are not
+    /// named here are not looked at.
     pub fn read(alloc: Global, text: &[u8]) -> Result<Config, ConfigFault>
         ensures { MatchResult result (Means text.now) (IsFaultOf text.now) }
     {
@@ -61,21 +70,25 @@ impl Config {
 impl Config {
     /// Where clients connect: `HOST:PORT`, with a port from 1 to 65535.
     pub fn listen(&self) -> &str
-        ensures { result.now ≡ self.now.listen }
+        ensures value { result.now ≡ self.now.listen }
+        ensures clean { IsTrue (is_address result.now) }
     {
         self.listen.as_str()
     }
 
-    /// How many messages a network's history keeps: 1 to 10,000, and 500 where the file does not say.
+    /// How many messages a network's history keeps: 1 to 10,000, and 500 where the file does not
+    /// say.
     pub fn history(&self) -> usize
-        ensures { result ≡ self.now.history }
+        ensures value { result ≡ self.now.history }
+        ensures within { (1 ≤ result) × (result ≤ 10000) }
     {
         self.history
     }
 
     /// The seconds between two dials after a loss: 1 to 3600, and 30 where the file does not say.
     pub fn retry(&self) -> u64
-        ensures { result ≡ self.now.retry }
+        ensures value { result ≡ self.now.retry }
+        ensures within { (1 ≤ result) × (result ≤ 3600) }
     {
         self.retry
     }
@@ -94,8 +107,8 @@ impl Config {
         self.users.len()
     }
 
-    /// The networks of the user at a place, from 0, in the order of the file: none where there is no such
-    /// user.
+    /// The networks of the user at a place, from 0, in the order of the file: none where there is
+    /// no such user.
     pub fn networks(&self, user: usize) -> &[NetworkConfig]
         ensures { result.now ≡ networks_at self.now user }
     {
@@ -121,15 +134,16 @@ impl Config {
 
     /// The place of a network by the name of its user and its own, byte for byte.
     pub fn find(&self, user: &[u8], network: &[u8]) -> Option<Place>
-        ensures { option_map (λ place. (place.user, place.network)) result ≡ place_of self.now user.now network.now }
+        ensures { option_map (λ place. (place.user, place.network)) result
+            ≡ place_of self.now user.now network.now }
     {
         let user = place_of_user(self.users.as_slice(), user)?;
         let network = place_of_network(self.networks(user), network)?;
         Some(Place { user, network })
     }
 
-    /// Whether this is the password of the user of a name: whether the SHA-256 digest of the user's salt
-    /// followed by the password is the user's. False where no user has the name.
+    /// Whether this is the password of the user of a name: whether the SHA-256 digest of the user's
+    /// salt followed by the password is the user's. False where no user has the name.
     pub fn password_matches(&self, user: &[u8], password: &[u8]) -> bool
         ensures { IsTrue result ↔ Matches self.now user.now password.now }
     {

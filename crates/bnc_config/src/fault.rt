@@ -42,9 +42,9 @@ impl fmt::Display for ConfigFault {
 impl Error for ConfigFault {}
 
 impl From<OutOfMemory> for ConfigFault {
-    ghost use Rattle.bnc_config.specs.declared.fault.ConfigFault.TheVariants.{OutOfMemory as out_of_memory};
+    ghost use Rattle.bnc_config.specs.declared.fault.ConfigFault.TheVariants as fault;
 
-    ghost from_gives = { λ _ fault. fault ≡ out_of_memory };
+    ghost from_gives = { λ _ made. made ≡ fault.OutOfMemory };
 
     fn from(_refused: OutOfMemory) -> ConfigFault {
         ConfigFault::OutOfMemory
@@ -52,9 +52,9 @@ impl From<OutOfMemory> for ConfigFault {
 }
 
 impl<T: Drop> From<AllocFailed<T>> for ConfigFault {
-    ghost use Rattle.bnc_config.specs.declared.fault.ConfigFault.TheVariants.{OutOfMemory as out_of_memory};
+    ghost use Rattle.bnc_config.specs.declared.fault.ConfigFault.TheVariants as fault;
 
-    ghost from_gives = { λ _ fault. fault ≡ out_of_memory };
+    ghost from_gives = { λ _ made. made ≡ fault.OutOfMemory };
 
     fn from(_refused: AllocFailed<T>) -> ConfigFault {
         ConfigFault::OutOfMemory

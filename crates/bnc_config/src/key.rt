@@ -5,8 +5,8 @@ ghost use Rattle.bnc_config.specs.Key.{path_of, word_of};
 
 use std::fmt;
 
-/// A key of the settings file, by the table that it stands in: the top of the file, a `[[user]]` table
-/// or a `[[user.network]]` table.
+/// A key of the settings file, by the table that it stands in: the top of the file, a `[[user]]`
+/// table or a `[[user.network]]` table.
 #[derive(Clone, Copy, Debug, PartialEq, Eq)]
 pub enum Key {
     /// `listen`: the address for clients, `HOST:PORT`.

@@ -1,11 +1,16 @@
 //! A user's networks.
 
-ghost use Rattle.std.specs.Prelude.{◌≡◌, ◌++◌, ◌∷◌, [], List, ℕ, OnOk, drop, map, option_map};
+ghost use Rattle.std.specs.Prelude.{◌≡◌, ◌≤◌, ◌++◌, ◌∷◌, [], List, ℕ, OnOk, drop, length, map};
+ghost use Rattle.std.specs.Prelude.{option_map, IfSome, IsTrue};
+ghost use Rattle.std.specs.List.{list_all};
+ghost use Rattle.irc_names.specs.Nick.{is_nameable};
 ghost use Rattle.toml.specs.View.{items_view, table_view};
 ghost use Rattle.bnc_config.specs.Names.{AreNames};
-ghost use Rattle.bnc_config.specs.Document.{Reads, keys_fault, network_fault, network_in, network_keys};
+ghost use Rattle.bnc_config.specs.Document.{Reads, keys_fault, network_fault, network_in};
+ghost use Rattle.bnc_config.specs.Document.{network_keys};
 ghost use Rattle.bnc_config.specs.Document.{networks_fault, tables_of, text_at};
 ghost use Rattle.bnc_config.specs.Settings.{place_of_network};
+ghost use Rattle.bnc_config.specs.Text.{is_address, is_name, is_one_line, is_word};
 ghost use Rattle.bnc_config.specs.declared.key.Key.TheVariants.{NetworkName};
 
 use crate::names::Names;
@@ -28,7 +33,7 @@ pub struct NetworkConfig {
 }
 
 impl Model for NetworkConfig {
-    ghost use Rattle.bnc_config.specs.Settings.{NetworkSettings};
+    ghost use Rattle.bnc_config.specs.Settings.{IsNetwork, NetworkSettings};
 
     ghost Value = { NetworkSettings };
 
@@ -41,12 +46,24 @@ impl Model for NetworkConfig {
       password = network.password;
       join = network.join.items;
     } };
+
+    ghost invariant = { λ network. IsNetwork (record {
+      name = network.name;
+      address = network.address;
+      nick = network.nick;
+      user = network.user;
+      realname = network.realname;
+      password = network.password;
+      join = network.join.items;
+    }) };
 }
 
 impl NetworkConfig {
     /// The network of this name that a table has the other keys of.
     fn named(alloc: Global, name: &str, table: &Table) -> Result<NetworkConfig, ConfigFault>
-        ensures { Reads (λ network. network) result (keys_fault (drop 1 network_keys) (table_view table.now))
+        requires { IsTrue (is_name name.now) }
+        ensures { Reads (λ network. network) result
+            (keys_fault (drop 1 network_keys) (table_view table.now))
             (record (network_in (table_view table.now)) { name = name.now }) }
     {
         let address = required_text(alloc, table, Key::NetworkAddress)?;
@@ -67,14 +84,16 @@ impl NetworkConfig {
         })
     }
 
-    /// The network that a table means, after networks of the names `earlier`, to which its own is added.
+    /// The network that a table means, after networks of the names `earlier`, to which its own is
+    /// added.
     fn read<'t>(
         alloc: Global,
         table: &'t Table,
         earlier: &mut Names<'t>,
     ) -> Result<NetworkConfig, ConfigFault>
         ensures read { (names : List (List ℕ)) → AreNames earlier.old names
-            → Reads (λ network. network) result (network_fault names (table_view table.now)) (network_in (table_view table.now)) }
+            → Reads (λ network. network) result
+            (network_fault names (table_view table.now)) (network_in (table_view table.now)) }
         ensures named { OnOk result ((names : List (List ℕ)) → AreNames earlier.old names
             → AreNames earlier.new (names ++ text_at NetworkName (table_view table.now) ∷ [])) }
     {
@@ -86,45 +105,54 @@ impl NetworkConfig {
         Ok(network)
     }
 
-    /// What the user calls the network, and a client asks for when it logs in. No other network of the
-    /// user has this name.
+    /// What the user calls the network, and a client asks for when it logs in. No other network of
+    /// the user has this name. It is not empty and holds no `/`, `@`, `:`, space or control byte.
     pub fn name(&self) -> &[u8]
-        ensures { result.now ≡ self.now.name }
+        ensures value { result.now ≡ self.now.name }
+        ensures clean { IsTrue (is_name result.now) }
     {
         self.name.as_bytes()
     }
 
     /// Where the IRC server is: `HOST:PORT`, with a port from 1 to 65535.
     pub fn address(&self) -> &str
-        ensures { result.now ≡ self.now.address }
+        ensures value { result.now ≡ self.now.address }
+        ensures clean { IsTrue (is_address result.now) }
     {
         self.address.as_str()
     }
 
     /// The nick that is asked for first, one that `irc_names::is_nameable` takes.
     pub fn nick(&self) -> &[u8]
-        ensures { result.now ≡ self.now.nick }
+        ensures value { result.now ≡ self.now.nick }
+        ensures clean { IsTrue (is_nameable result.now) }
     {
         self.nick.as_bytes()
     }
 
-    /// The first parameter of the USER line (RFC 2812, section 3.1.3), a word.
+    /// The first parameter of the USER line (RFC 2812, section 3.1.3), a word: it is not empty,
+    /// does not begin with a colon, and holds no space or control byte.
     pub fn user(&self) -> &[u8]
-        ensures { result.now ≡ self.now.user }
+        ensures value { result.now ≡ self.now.user }
+        ensures clean { IsTrue (is_word result.now) }
     {
         self.user.as_bytes()
     }
 
-    /// The last parameter of the USER line (RFC 2812, section 3.1.3). It may have spaces and may be empty.
+    /// The last parameter of the USER line (RFC 2812, section 3.1.3). It may have spaces and may be
+    /// empty, and holds no control byte.
     pub fn realname(&self) -> &[u8]
-        ensures { result.now ≡ self.now.realname }
+        ensures value { result.now ≡ self.now.realname }
+        ensures clean { IsTrue (is_one_line result.now) }
     {
         self.realname.as_bytes()
     }
 
-    /// The parameter of the PASS line (RFC 2812, section 3.1.1), a word; `None` where no PASS is sent.
+    /// The parameter of the PASS line (RFC 2812, section 3.1.1), a word; `None` where no PASS is
+    /// sent.
     pub fn password(&self) -> Option<&[u8]>
-        ensures { option_map (λ password. password.now) result ≡ self.now.password }
+        ensures value { option_map (λ password. password.now) result ≡ self.now.password }
+        ensures clean { IfSome result (λ password. IsTrue (is_word password.now)) }
     {
         match &self.password {
             Some(password) => Some(password.as_bytes()),
@@ -132,9 +160,12 @@ impl NetworkConfig {
         }
     }
 
-    /// The channels to join once the server has said its welcome, in the order of the file: at most 64 words.
+    /// The channels to join once the server has said its welcome, in the order of the file: at most
+    /// 64 words.
     pub fn join(&self) -> &[Text]
-        ensures { result.now ≡ self.now.join }
+        ensures value { result.now ≡ self.now.join }
+        ensures clean { IsTrue (list_all is_word result.now) }
+        ensures few { length result.now ≤ 64 }
     {
         self.join.as_slice()
     }

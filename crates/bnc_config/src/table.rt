@@ -1,13 +1,16 @@
 //! Readers of one key of a table.
 
-ghost use Rattle.std.specs.Prelude.{◌≡◌, ◌&&◌, option_map, false, true, IfOk};
+ghost use Rattle.std.specs.Prelude.{◌≡◌, ◌≤◌, ◌&&◌, length, option_map, false, true, IfOk, IfSome};
+ghost use Rattle.std.specs.Prelude.{IsTrue};
 ghost use Rattle.std.specs.List.{list_all};
 ghost use Rattle.toml.specs.Data.{get_member};
 ghost use Rattle.toml.specs.View.{view, items_view, table_view};
 ghost use Rattle.bnc_config.specs.Key.{word_of};
 ghost use Rattle.bnc_config.specs.Document.{AreCopied, Reads, allows_text, fault_at, has_at_most};
-ghost use Rattle.bnc_config.specs.Document.{is_list_where, is_number_within, is_table, is_text_where};
-ghost use Rattle.bnc_config.specs.Document.{items_of, number_at, optional_text_at, text_at, texts_at};
+ghost use Rattle.bnc_config.specs.Document.{is_list_where, is_number_within, is_table};
+ghost use Rattle.bnc_config.specs.Document.{is_text_where};
+ghost use Rattle.bnc_config.specs.Document.{items_of, number_at, optional_text_at, text_at};
+ghost use Rattle.bnc_config.specs.Document.{texts_at};
 
 use crate::allowed::allows;
 use crate::{ConfigFault, Key, OutOfMemory, Text};
@@ -40,7 +43,8 @@ pub(crate) fn any_text<'t>(table: &'t Table, key: Key) -> Result<&'t str, Config
 
 /// The text at a key that has to stand, one that the key allows.
 pub(crate) fn allowed_text<'t>(table: &'t Table, key: Key) -> Result<&'t str, ConfigFault>
-    ensures { Reads (λ text. text.now) result
+    ensures allowed { IfOk result (λ text. IsTrue (allows_text key text.now)) }
+    ensures read { Reads (λ text. text.now) result
         (fault_at key false (is_text_where (allows_text key))
         (get_member (word_of key) (table_view table.now)))
         (text_at key (table_view table.now)) }
@@ -56,7 +60,8 @@ pub(crate) fn allowed_text<'t>(table: &'t Table, key: Key) -> Result<&'t str, Co
 
 /// A copy of the text at a key that has to stand.
 pub(crate) fn required_text(alloc: Global, table: &Table, key: Key) -> Result<Text, ConfigFault>
-    ensures { Reads (λ text. text) result
+    ensures allowed { IfOk result (λ text. IsTrue (allows_text key text)) }
+    ensures read { Reads (λ text. text) result
         (fault_at key false (is_text_where (allows_text key))
         (get_member (word_of key) (table_view table.now)))
         (text_at key (table_view table.now)) }
@@ -70,7 +75,8 @@ pub(crate) fn optional_text(
     table: &Table,
     key: Key,
 ) -> Result<Option<Text>, ConfigFault>
-    ensures { Reads (λ text. text) result
+    ensures allowed { IfOk result (λ found. IfSome found (λ text. IsTrue (allows_text key text))) }
+    ensures read { Reads (λ text. text) result
         (fault_at key true (is_text_where (allows_text key))
         (get_member (word_of key) (table_view table.now)))
         (optional_text_at key (table_view table.now)) }
@@ -84,14 +90,16 @@ pub(crate) fn optional_text(
     }
 }
 
-/// The number at a key that may be left out, 1 to `most`.
+/// The number at a key that may be left out, 1 to `most`, as the default is.
 pub(crate) fn number_or(
     table: &Table,
     key: Key,
     default: u32,
     most: u32,
 ) -> Result<u32, ConfigFault>
-    ensures { Reads (λ number. number) result
+    requires { (1 ≤ default) × (default ≤ most) }
+    ensures within { IfOk result (λ number. (1 ≤ number) × (number ≤ most)) }
+    ensures read { Reads (λ number. number) result
         (fault_at key true (is_number_within 1 most)
         (get_member (word_of key) (table_view table.now)))
         (number_at default key (table_view table.now)) }
@@ -151,9 +159,18 @@ fn copied_texts(alloc: Global, values: &[Value], key: Key) -> Result<Option<Vec<
 }
 
 /// Copies of the texts of the list at a key, at most 64, which may be left out.
-#[tactic(auto, using(crate::proofs::ItemsLemmas::item_count_view))]
+#[tactic(
+    auto,
+    using(
+        crate::proofs::ItemsLemmas::item_count_view,
+        crate::proofs::ItemsLemmas::texts_of_allowed,
+        crate::proofs::ItemsLemmas::few_texts_of
+    )
+)]
 pub(crate) fn texts_at(alloc: Global, table: &Table, key: Key) -> Result<Vec<Text>, ConfigFault>
-    ensures { Reads (λ texts. texts.items) result
+    ensures allowed { IfOk result (λ texts. IsTrue (list_all (allows_text key) texts.items)) }
+    ensures few { IfOk result (λ texts. length texts.items ≤ 64) }
+    ensures read { Reads (λ texts. texts.items) result
         (fault_at key true
         (λ value. is_list_where (is_text_where (allows_text key)) value && has_at_most 64 value)
         (get_member (word_of key) (table_view table.now)))

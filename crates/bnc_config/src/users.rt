@@ -1,6 +1,6 @@
 //! The users.
 
-ghost use Rattle.std.specs.Prelude.{◌≡◌, ◌++◌, ◌∷◌, [], List, ℕ, OnOk};
+ghost use Rattle.std.specs.Prelude.{◌≡◌, ◌++◌, ◌∷◌, [], List, ℕ, IsTrue, OnOk};
 ghost use Rattle.std.specs.Prelude.{false, map, length, option_map};
 ghost use Rattle.toml.specs.Data.{get_member};
 ghost use Rattle.toml.specs.View.{items_view, table_view};
@@ -9,7 +9,7 @@ ghost use Rattle.bnc_config.specs.Names.{AreNames};
 ghost use Rattle.bnc_config.specs.Document.{Reads, bytes_at, fault_at, is_text_where};
 ghost use Rattle.bnc_config.specs.Document.{tables_of, text_at, user_fault, user_in, users_fault};
 ghost use Rattle.bnc_config.specs.Settings.{place_of_user};
-ghost use Rattle.bnc_config.specs.Text.{is_digest, is_hexadecimal};
+ghost use Rattle.bnc_config.specs.Text.{is_digest, is_hexadecimal, is_name};
 ghost use Rattle.bnc_config.specs.declared.key.Key.TheVariants.{UserName, UserPassword, UserSalt};
 
 use crate::names::Names;
@@ -31,7 +31,7 @@ pub struct UserConfig {
 }
 
 impl Model for UserConfig {
-    ghost use Rattle.bnc_config.specs.Settings.{UserSettings};
+    ghost use Rattle.bnc_config.specs.Settings.{IsUser, UserSettings};
 
     ghost Value = { UserSettings };
 
@@ -41,6 +41,13 @@ impl Model for UserConfig {
       digest = user.digest;
       networks = user.networks.items;
     } };
+
+    ghost invariant = { λ user. IsUser (record {
+      name = user.name;
+      salt = user.salt.items;
+      digest = user.digest;
+      networks = user.networks.items;
+    }) };
 }
 
 /// The bytes of the salt.
@@ -102,9 +109,11 @@ impl UserConfig {
         })
     }
 
-    /// What a client logs in as. No other user has this name.
+    /// What a client logs in as. No other user has this name. It is not empty and holds no `/`,
+    /// `@`, `:`, space or control byte.
     pub fn name(&self) -> &[u8]
-        ensures { result.now ≡ self.now.name }
+        ensures value { result.now ≡ self.now.name }
+        ensures clean { IsTrue (is_name result.now) }
     {
         self.name.as_bytes()
     }

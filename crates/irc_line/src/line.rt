@@ -1,12 +1,15 @@
 //! One line.
 
-ghost use Rattle.std.specs.Prelude.{◌≡◌, ◌≤◌, ◌↔◌, ◌++◌, ℕ, List, Some, IsTrue, false, drop, length, map, slice_get, option_map, IfOk, IfSome, IfNone, OnOk, OnErr, IsErrOf};
+ghost use Rattle.std.specs.Prelude.{◌≡◌, ◌≤◌, ◌↔◌, ◌++◌, ℕ, List, Some, IsTrue, false, drop};
+ghost use Rattle.std.specs.Prelude.{length, map, slice_get, option_map, IfOk, IfSome, IfNone, OnOk};
+ghost use Rattle.std.specs.Prelude.{OnErr, IsErrOf};
 ghost use Rattle.std.specs.List.{flat_map};
 ghost use Rattle.irc_line.specs.Line.{Parts, nick_of, has_command};
 ghost use Rattle.irc_line.specs.Grammar.{Spells};
 ghost use Rattle.irc_line.specs.Reading.{body, line_of};
 ghost use Rattle.irc_line.specs.Tags.{time_of};
-ghost use Rattle.irc_line.specs.Writing.{param_text, text_of, written, is_writable, untagged_line, retagged, is_part};
+ghost use Rattle.irc_line.specs.Writing.{param_text, text_of, written, is_writable};
+ghost use Rattle.irc_line.specs.Writing.{line_of_parts, untagged_line, retagged, is_part};
 
 use crate::OutOfMemory;
 use crate::param_list::Params;
@@ -41,14 +44,16 @@ impl<A: Allocator> Model for Line<A> {
 
     ghost view = { λ l. parts_of l.text.items };
 
-    ghost invariant = { λ l. IsTrue (is_line l.text.items) × (l.command_at ≤ length l.text.items) × (drop l.command_at l.text.items ≡ body l.text.items) };
+    ghost invariant = { λ l.
+        IsTrue (is_line l.text.items) × (l.command_at ≤ length l.text.items) ×
+        (drop l.command_at l.text.items ≡ body l.text.items) };
 }
 
 /// Why parts are no line.
 #[derive(Clone, Copy, Debug, PartialEq, Eq, Error)]
 pub enum MakeError {
-    /// There is no text that is read as these parts: a part that holds a space, a NUL, a CR or an LF
-    /// where none may stand, an empty tag part or source, a command that is none, or a parameter
+    /// There is no text that is read as these parts: a part that holds a space, a NUL, a CR or an
+    /// LF where none may stand, an empty tag part or source, a command that is none, or a parameter
     /// before the last that is no word.
     #[error("not a line")]
     NotALine,
@@ -58,9 +63,9 @@ pub enum MakeError {
 }
 
 impl From<OutOfMemory> for MakeError {
-    ghost use Rattle.irc_line.specs.declared.line.MakeError.TheVariants.{OutOfMemory as the_memory_error};
+    ghost use Rattle.irc_line.specs.declared.line.MakeError.TheVariants as fault;
 
-    ghost from_gives = { λ _ e. e ≡ the_memory_error };
+    ghost from_gives = { λ _ e. e ≡ fault.OutOfMemory };
 
     fn from(_e: OutOfMemory) -> MakeError {
         MakeError::OutOfMemory
@@ -106,8 +111,37 @@ impl<A: Allocator> Line<A> {
         Line::<A>::parse(alloc, text)
     }
 
-    /// A line of these parts, without tags, as in `:a PRIVMSG #c :hi all`. `NotALine` comes exactly where
-    /// no text is read as these parts, and before memory is asked for.
+    /// The line of these parts, as [`Line::make`], for a caller that knows beforehand that some
+    /// text is read as them, as of the parts of lines in hand. One allocation.
+    pub fn from_parts(
+        alloc: A,
+        tags: Option<&[u8]>,
+        source: Option<&[u8]>,
+        command: &[u8],
+        params: &[&[u8]],
+    ) -> Result<Line<A>, OutOfMemory>
+    where
+        A: Drop,
+        requires { IsTrue (is_writable (line_of_parts (option_map (λ t. t.now) tags)
+            (option_map (λ s. s.now) source) command.now (map (λ p. p.now) params.now))) }
+        ensures { IfOk result (λ line. line ≡ line_of_parts (option_map (λ t. t.now) tags.entry)
+            (option_map (λ s. s.now) source.entry) command.now (map (λ p. p.now) params.now)) }
+    {
+        let room = part_room(tags)
+            .saturating_add(part_room(source))
+            .saturating_add(command.len())
+            .saturating_add(params_room(params));
+        let mut text = Vec::with_capacity(alloc, room)?;
+        push_marked(b'@', tags, &mut text)?;
+        push_marked(b':', source, &mut text)?;
+        text.extend_from_slice(command)?;
+        push_all(params, &mut text)?;
+        let command_at = body_place(&text);
+        Ok(Line { text, command_at })
+    }
+
+    /// A line of these parts, without tags, as in `:a PRIVMSG #c :hi all`. `NotALine` comes exactly
+    /// where no text is read as these parts, and before memory is asked for.
     pub fn make(
         alloc: A,
         source: Option<&[u8]>,
@@ -116,21 +150,17 @@ impl<A: Allocator> Line<A> {
     ) -> Result<Line<A>, MakeError>
     where
         A: Drop,
-        ensures made { IfOk result (λ line. line ≡ untagged_line (option_map (λ s. s.now) source.entry) command.now (map (λ p. p.now) params.now)) }
-        ensures not_a_line { IsErrOf result MakeError.NotALine ↔ (is_writable (untagged_line (option_map (λ s. s.now) source.entry) command.now (map (λ p. p.now) params.now)) ≡ false) }
+        ensures made { IfOk result (λ line.
+            line ≡ untagged_line (option_map (λ s. s.now) source.entry) command.now
+            (map (λ p. p.now) params.now)) }
+        ensures not_a_line { IsErrOf result MakeError.NotALine ↔
+            (is_writable (untagged_line (option_map (λ s. s.now) source.entry) command.now
+            (map (λ p. p.now) params.now)) ≡ false) }
     {
         if !is_a_part(source) || !is_a_command(command) || !are_all_params(params) {
             return Err(MakeError::NotALine);
         }
-        let room = part_room(source)
-            .saturating_add(command.len())
-            .saturating_add(params_room(params));
-        let mut text = Vec::with_capacity(alloc, room)?;
-        push_marked(b':', source, &mut text)?;
-        text.extend_from_slice(command)?;
-        push_all(params, &mut text)?;
-        let command_at = body_place(&text);
-        Ok(Line { text, command_at })
+        Ok(Line::from_parts(alloc, None, source, command, params)?)
     }
 
     /// A copy of the line over another allocator.
@@ -144,6 +174,29 @@ impl<A: Allocator> Line<A> {
             text,
             command_at: self.command_at,
         })
+    }
+
+    /// A copy of the line over another allocator, with these tags, or none, in place of its own.
+    /// That the tags are no empty text and hold no space, NUL, CR or LF is for the caller to see
+    /// to. One allocation.
+    pub fn copy_tagged_in<B: Allocator>(
+        &self,
+        alloc: B,
+        tags: Option<&[u8]>,
+    ) -> Result<Line<B>, OutOfMemory>
+    where
+        B: Drop,
+        requires { IsTrue (is_part (option_map (λ t. t.now) tags)) }
+        ensures { IfOk result (λ line.
+            line ≡ retagged self.now (option_map (λ t. t.now) tags.entry)) }
+    {
+        let room = part_room(tags).saturating_add(self.text.len() + 1);
+        let mut text = Vec::with_capacity(alloc, room)?;
+        push_marked(b'@', tags, &mut text)?;
+        push_marked(b':', self.source(), &mut text)?;
+        self.write_body(&mut text)?;
+        let command_at = body_place(&text);
+        Ok(Line { text, command_at })
     }
 
     /// What stands behind the `@`.
@@ -161,7 +214,8 @@ impl<A: Allocator> Line<A> {
         split_marked(b':', rest).0
     }
 
-    /// The nick of the source: what stands before its first `!`, else before its first `@`, else all of it.
+    /// The nick of the source: what stands before its first `!`, else before its first `@`, else
+    /// all of it.
     pub fn source_nick(&self) -> Option<&[u8]>
         ensures { option_map (λ part. part.now) result ≡ option_map nick_of self.now.source }
     {
@@ -170,7 +224,9 @@ impl<A: Allocator> Line<A> {
 
     /// The command, in the letters in which it came.
     pub fn command(&self) -> &[u8]
-        ensures { result.now ≡ self.now.command }
+        ensures value { result.now ≡ self.now.command }
+        // A line in hand can be written: lines of its parts can be made.
+        ensures writable { IsTrue (is_writable self.now) }
     {
         split_token(&self.text[self.command_at..]).0
     }
@@ -182,8 +238,8 @@ impl<A: Allocator> Line<A> {
         self.command().eq_ignore_ascii_case(command)
     }
 
-    /// The parameters in order, a last one without its colon: of `PRIVMSG #c :hi all` those are `#c` and
-    /// `hi all`. It takes no memory, and going over all of them is one pass over the line.
+    /// The parameters in order, a last one without its colon: of `PRIVMSG #c :hi all` those are
+    /// `#c` and `hi all`. It takes no memory, and going over all of them is one pass over the line.
     pub fn params(&self) -> Params<'_>
         ensures { result ≡ self.now.params }
     {
@@ -205,8 +261,8 @@ impl<A: Allocator> Line<A> {
         count_params(split_token(&self.text[self.command_at..]).1)
     }
 
-    /// The value of the first `time=` among the tags, where it has the form `2020-01-02T03:04:05.678Z`
-    /// (IRCv3 server-time); that the numbers name a moment is not asked.
+    /// The value of the first `time=` among the tags, where it has the form
+    /// `2020-01-02T03:04:05.678Z` (IRCv3 server-time); that the numbers name a moment is not asked.
     pub fn time_tag(&self) -> Option<&[u8]>
         ensures { option_map (λ value. value.now) result ≡ time_of self.now }
     {
@@ -216,7 +272,9 @@ impl<A: Allocator> Line<A> {
 
     /// Adds the command and the parameters.
     fn write_body<B: Allocator>(&self, out: &mut Vec<u8, B>) -> Result<(), OutOfMemory>
-        ensures ok { OnOk result (out.new.items ≡ out.old.items ++ (self.now.command ++ flat_map param_text self.now.params)) }
+        ensures ok { OnOk result
+            (out.new.items
+            ≡ out.old.items ++ (self.now.command ++ flat_map param_text self.now.params)) }
         ensures err { OnErr result ((more : List ℕ) × (out.new.items ≡ out.old.items ++ more)) }
     {
         let (command, params) = split_token(&self.text[self.command_at..]);
@@ -236,8 +294,8 @@ impl<A: Allocator> Line<A> {
         Ok(())
     }
 
-    /// Appends the line and CR LF. A colon stands before the last parameter only where that is empty,
-    /// begins with a colon or holds a space. After an error `out` is unchanged.
+    /// Appends the line and CR LF. A colon stands before the last parameter only where that is
+    /// empty, begins with a colon or holds a space. After an error `out` is unchanged.
     pub fn write<B: Allocator>(&self, out: &mut Vec<u8, B>) -> Result<(), OutOfMemory>
         ensures ok { OnOk result (out.new.items ≡ out.old.items ++ written self.now) }
         ensures err { OnErr result (out.new.items ≡ out.old.items) }
@@ -255,32 +313,20 @@ impl<A: Allocator> Line<A> {
 }
 
 impl<A: Allocator + Copy> Line<A> {
-    /// The line with these tags in place of its own.
-    fn with_tags(&self, tags: Option<&[u8]>) -> Result<Line<A>, OutOfMemory>
-        requires { IsTrue (is_part (option_map (λ t. t.now) tags)) }
-        ensures { IfOk result (λ line. line ≡ retagged self.now (option_map (λ t. t.now) tags.entry)) }
-    {
-        let room = part_room(tags).saturating_add(self.text.len() + 1);
-        let mut text = Vec::with_capacity(*self.text.allocator(), room)?;
-        push_marked(b'@', tags, &mut text)?;
-        push_marked(b':', self.source(), &mut text)?;
-        self.write_body(&mut text)?;
-        let command_at = body_place(&text);
-        Ok(Line { text, command_at })
-    }
-
-    /// Gives the line these tags, or none, in place of its own. `NotALine` comes exactly where the tags
-    /// are empty or hold a space, a NUL, a CR or an LF, and before memory is asked for. After an error the
-    /// line is unchanged.
+    /// Gives the line these tags, or none, in place of its own. `NotALine` comes exactly where the
+    /// tags are empty or hold a space, a NUL, a CR or an LF, and before memory is asked for. After
+    /// an error the line is unchanged.
     pub fn set_tags(&mut self, tags: Option<&[u8]>) -> Result<(), MakeError>
-        ensures ok { OnOk result (self.new ≡ retagged self.old (option_map (λ t. t.now) tags.entry)) }
-        ensures not_a_line { IsErrOf result MakeError.NotALine ↔ (is_part (option_map (λ t. t.now) tags.entry) ≡ false) }
-        ensures err { OnErr result (self.new ≡ self.old) }
+        ensures taken { OnOk result
+            (self.new ≡ retagged self.old (option_map (λ t. t.now) tags.entry)) }
+        ensures not_a_line { IsErrOf result MakeError.NotALine
+            ↔ (is_part (option_map (λ t. t.now) tags.entry) ≡ false) }
+        ensures kept { OnErr result (self.new ≡ self.old) }
     {
         if !is_a_part(tags) {
             return Err(MakeError::NotALine);
         }
-        *self = self.with_tags(tags)?;
+        *self = self.copy_tagged_in(*self.text.allocator(), tags)?;
         Ok(())
     }
 }

@@ -1,14 +1,11 @@
-//! Names of users and channels: when two are one name, their order, and which nicks something is told of.
+//! Names of users and channels: when two are one name, their order, and which nicks something is
+//! told of.
 #![tactic(auto)]
 
 mod case_mapping;
-mod laws;
+pub mod laws;
 mod nick;
 
 pub use case_mapping::CaseMapping;
-pub use laws::{names_are_equivalent, order_is_total};
 pub use nick::is_nameable;
 pub use std::alloc::AllocError as OutOfMemory;
-
-#[cfg(test)]
-mod tests;

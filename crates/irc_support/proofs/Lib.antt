@@ -6,4 +6,10 @@ pub mod SymbolRun
 pub mod Spelling
 pub mod TokenTable
 pub mod PreparedEdits
+pub mod Tests
+pub mod TokensRead
+pub mod ModesRead
+pub mod SpelledWords
+pub mod HighestWords
+pub mod NamesRead
 mod Rows

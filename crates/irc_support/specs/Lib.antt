@@ -8,6 +8,7 @@ pub mod ChanModes
 pub mod Settings
 pub mod ModeChanges
 pub mod NamesReply
+pub mod Written
 pub mod Line
 pub mod Shown
 pub mod ChangeShown

@@ -25,7 +25,10 @@ pub mod View
 pub mod Step
 pub mod Readers
 pub mod Seen
+pub mod Agrees
 pub mod Sound
+pub mod Written
 pub mod Found
+pub mod StateCommands
 pub mod Tells
 pub mod Least

@@ -1,9 +1,11 @@
 -- A tape after one more item.
 use Rattle.irc_support.specs.Tokens.{Token, set_tokens}
-use Rattle.std.specs.Prelude.{◌≡◌, ◌&&◌, is_some, ℕ, ◌+◌, ◌<◌, ◌^◌, suc, Bool, true, false, List, [], ◌∷◌, ◌++◌, length, set, get_or}
+use Rattle.std.specs.Prelude.{◌≡◌, ◌&&◌, is_some, ℕ, ◌+◌, ◌<◌, ◌^◌, suc, Bool, true, false, List, [], ◌∷◌, ◌++◌, length, set, get_or, reverse}
 use Rattle.std.proofs.Common.{Option, Bor, codes, cond, not, refl, sym, ap, ◌∙◌, arith, subst}
-use Rattle.std.proofs.lemmas.List.{reverse-append, get_or_default}
+use Rattle.std.proofs.lemmas.List.{reverse-append, reverse-reverse, get_or_default}
 use Rattle.irc_line.specs.Line.{Parts, has_command}
+use Rattle.irc_line.specs.Writing.{is_writable}
+use Rattle.net_view.specs.Written.{AreWritten}
 use Rattle.tape_view.specs.declared.kept.Kept.{Kept}
 use Rattle.net_view.specs.Arrival.{Arrival, Received, Lost}
 use Rattle.net_view.specs.View.{view_back, view_of, lost_view}
@@ -130,16 +132,26 @@ marked_line items k r settings own ready in_force tells ours is marks fixed =
           ∙ ap (λ t. ready_after t (standing items)) (tells (settings_of items));
     }
 
+kept_written : (lost : Bool) (items : List Arrival) → AreWritten (with_lost lost items) → AreWritten items
+kept_written true items h = h.1
+kept_written false items h = h
+
+-- after one more line
+pub written_push : {A : Type 0} (ks ls : List (Kept A)) (k : Kept A) → ls ≡ ks ++ k ∷ [] → k.lost ≡ false → is_writable k.line ≡ true → AreWritten (tape_of ks) → AreWritten (tape_of ls)
+written_push ks ls k pushed lost line h =
+    subst AreWritten (sym (ap tape_of pushed ∙ tape_push ks k ∙ ap (λ b. with_lost b (Received k.line ∷ tape_of ks)) lost)) (line, h)
+
 -- what holds of the kept lines with one more
 pub line_kept : {A B : Type 0} (settings new : List Token) (ks ls : List (Kept A)) (k : Kept A) (r : Telling B) (l : Parts) (count sum : ℕ) → ls ≡ ks ++ k ∷ [] → (k.line ≡ l) × (k.lost ≡ false) → IsMarkedLine (tape_of ks) k →
-    ((s : List Token) → meant s r ≡ told s (Received l)) → settings_of (tape_of ks) ≡ settings → settings_after (meant settings r) (standing (tape_of ks)) ≡ new → IsMarkedTape ks → IsCounted ks count → (sum ≡ count + name_count (meant settings r)) × (sum < 2 ^ 64) →
-    IsMarkedTape ls × (settings_of (tape_of ls) ≡ new) × IsCounted ls sum
+    ((s : List Token) → meant s r ≡ told s (Received l)) → settings_of (tape_of ks) ≡ settings → settings_after (meant settings r) (standing (tape_of ks)) ≡ new → IsMarkedTape ks → IsCounted ks count → (sum ≡ count + name_count (meant settings r)) × (sum < 2 ^ 64) → AreWritten (tape_of ks) → is_writable l ≡ true →
+    IsMarkedTape ls × (settings_of (tape_of ls) ≡ new) × IsCounted ls sum × AreWritten (tape_of ls)
 unfolding told
-line_kept settings new ks ls k r l count sum pushed line marked tells in_force is before counted more =
+line_kept settings new ks ls k r l count sum pushed line marked tells in_force is before counted more written writable =
     let tell = told_there settings (tape_of ks) r l in_force tells in (
       subst IsMarkedTape (sym pushed) (marked_push ks k marked before),
       ap settings_of (pushed_tape ks ls k l (tape_of ks) pushed line refl) ∙ ap (λ t. settings_after t (standing (tape_of ks))) (sym tell) ∙ is,
       counted_push ks ls k (meant settings r) count sum pushed (tell ∙ ap (λ m. told (settings_of (tape_of ks)) (Received m)) (sym (line.0))) counted more,
+      written_push ks ls k pushed (line.1) (subst (λ m. is_writable m ≡ true) (sym (line.0)) writable) written,
     )
 
 -- ---- a loss
@@ -180,3 +192,28 @@ none_marked A = tt
 pub no_settings_yet : (A : Type 0) → settings_of (tape_of {A = A} []) ≡ []
 unfolding tape_of
 no_settings_yet A = refl
+
+-- after a loss
+pub loss_written : {A : Type 0} (ks : List (Kept A)) (i : ℕ) (k : Kept A) → suc i ≡ length ks → k ≡ get_or ks i k → AreWritten (tape_of ks) →
+    AreWritten (tape_of (set ks i (record { line = k.line; marks = k.marks; fixed = k.fixed; lost = true })))
+loss_written {A} ks i k last at h =
+    let x : Kept A = record { line = k.line; marks = k.marks; fixed = k.fixed; lost = true } in
+    let r = split_last ks i x last in
+    let same_k : k ≡ r.last = at ∙ get_or_default ks i k x (omega arith) ∙ r.is in
+    let old : AreWritten (Received r.last.line ∷ tape_of r.front) =
+    kept_written r.last.lost (Received r.last.line ∷ tape_of r.front) (subst AreWritten (ap tape_of r.whole ∙ tape_push r.front r.last) h) in
+    subst AreWritten (sym (ap tape_of r.marked ∙ tape_push r.front x)) (tt, subst (λ (j : Kept A). AreWritten (Received j.line ∷ tape_of r.front)) (sym same_k) old)
+
+-- in the order in which they came
+written_end : (items : List Arrival) (x : Arrival) → AreWritten items → AreWritten (x ∷ []) → AreWritten (items ++ x ∷ [])
+written_end [] x h k = k
+written_end (y ∷ items) x h k = (h.0, written_end items x (h.1) k)
+
+pub written_reversed : (items : List Arrival) → AreWritten items → AreWritten (reverse items)
+written_reversed [] h = tt
+written_reversed (x ∷ items) h = subst AreWritten (sym (reverse-append (x ∷ []) items)) (written_end (reverse items) x (written_reversed items (h.1)) (h.0, tt))
+
+-- a tape's view comes from its items
+pub from_lines : (tape : List Arrival) → AreWritten tape → (items : List Arrival) × AreWritten items × (view_back tape ≡ view_of items)
+unfolding view_of
+from_lines tape h = (reverse tape, written_reversed tape h, ap view_back (sym (reverse-reverse tape)))

@@ -29,7 +29,7 @@ impl<'a, A: Allocator> Said<'a, A> {
             option_map (λ name. key_there self.now name.now) result ≡ joined_to us (meaning self.now) }
     {
         match &self.telling {
-            Telling::Joined(channel, _, _) if self.marks.by_us => Some(*channel),
+            Telling::Joined { channel, .. } if self.marks.by_us => Some(*channel),
             _ => None,
         }
     }
@@ -69,7 +69,7 @@ impl<'a, A: Allocator> Tape<'a, A> {
             (key self.now nick.now) }
     {
         match &said.telling {
-            Telling::Joined(channel, who, _) => {
+            Telling::Joined { channel, who, .. } => {
                 if !self.is_on(channel) {
                     return None;
                 }
@@ -79,7 +79,7 @@ impl<'a, A: Allocator> Tape<'a, A> {
                     None
                 }
             }
-            Telling::Present(channel, line) => {
+            Telling::Present { channel, line } => {
                 if !self.is_on(channel) {
                     return None;
                 }
@@ -88,7 +88,7 @@ impl<'a, A: Allocator> Tape<'a, A> {
                     None => None,
                 }
             }
-            Telling::Renamed(_, new) => {
+            Telling::Renamed { new, .. } => {
                 if self.is_same(nick, new) && (said.marks.by_us || !said.marks.names_us) {
                     Some(*new)
                 } else {
@@ -107,9 +107,12 @@ impl<'a, A: Allocator> Tape<'a, A> {
             (key self.now nick.now) }
     {
         match telling {
-            Telling::Joined(channel, who, account)
-                if self.is_same(nick, who) && self.is_on(channel) => { *account }
-            Telling::HasAccount(who, account) if self.is_same(nick, who) => Some(*account),
+            Telling::Joined {
+                channel,
+                who,
+                account,
+            } if self.is_same(nick, who) && self.is_on(channel) => { *account }
+            Telling::HasAccount { who, account } if self.is_same(nick, who) => Some(*account),
             _ => None,
         }
     }
@@ -120,7 +123,7 @@ impl<'a, A: Allocator> Tape<'a, A> {
             ≡ says_away us on (meant self.now.settings telling.now) (key self.now nick.now) }
     {
         match telling {
-            Telling::IsAway(who, text) if self.is_same(nick, who) => Some(*text),
+            Telling::IsAway { who, text } if self.is_same(nick, who) => Some(*text),
             _ => None,
         }
     }

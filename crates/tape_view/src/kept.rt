@@ -58,10 +58,10 @@ fn doer<'a, A: Allocator>(telling: &Telling<'a, A>) -> Option<&'a [u8]>
         option_map (λ nick. key_by settings nick.now) result ≡ doer (meant settings telling.now) }
 {
     match telling {
-        Telling::Joined(_, who, _)
-        | Telling::Parted(_, who)
-        | Telling::Quits(who)
-        | Telling::Renamed(who, _) => Some(*who),
+        Telling::Joined { who, .. }
+        | Telling::Parted { who, .. }
+        | Telling::Quits { who }
+        | Telling::Renamed { old: who, .. } => Some(*who),
         _ => None,
     }
 }
@@ -73,7 +73,7 @@ fn person_named<'a, A: Allocator>(telling: &Telling<'a, A>) -> Option<&'a [u8]>
         ≡ person_named (meant settings telling.now) }
 {
     match telling {
-        Telling::Kicked(_, who) | Telling::Renamed(_, who) => Some(*who),
+        Telling::Kicked { who, .. } | Telling::Renamed { new: who, .. } => Some(*who),
         _ => None,
     }
 }
@@ -104,8 +104,8 @@ pub(crate) fn fixed_after<A: Allocator>(
         (record { own = option_map (λ o. o.now) own.entry; ready = ready; settings = settings }) }
 {
     match telling {
-        Telling::Welcomed(_) => false,
-        Telling::Joined(_, _, _) | Telling::Settles => own.is_some(),
+        Telling::Welcomed { .. } => false,
+        Telling::Joined { .. } | Telling::Settles => own.is_some(),
         _ => ready,
     }
 }
@@ -116,8 +116,8 @@ fn own_told<'a, A: Allocator>(telling: &Telling<'a, A>, marks: Marks) -> Option<
         option_map (λ nick. nick.now) result ≡ own_said us (meant settings telling.now) }
 {
     match telling {
-        Telling::Welcomed(nick) => Some(*nick),
-        Telling::Renamed(_, new) if marks.by_us => Some(*new),
+        Telling::Welcomed { nick } => Some(*nick),
+        Telling::Renamed { new, .. } if marks.by_us => Some(*new),
         _ => None,
     }
 }

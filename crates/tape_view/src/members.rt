@@ -71,7 +71,11 @@ impl<'a, A: Allocator> Said<'a, A> {
             (key_there self.now nick.now) }
     {
         match &self.telling {
-            Telling::Joined(name, who, _) => {
+            Telling::Joined {
+                channel: name,
+                who,
+                ..
+            } => {
                 if !is_same(self.support, channel, name) {
                     return None;
                 }
@@ -88,7 +92,10 @@ impl<'a, A: Allocator> Said<'a, A> {
                     None
                 }
             }
-            Telling::Present(name, line) => {
+            Telling::Present {
+                channel: name,
+                line,
+            } => {
                 if is_same(self.support, channel, name)
                     && word_of(self.support, line, nick).is_some()
                 {
@@ -97,7 +104,7 @@ impl<'a, A: Allocator> Said<'a, A> {
                     None
                 }
             }
-            Telling::Parted(name, who) | Telling::Kicked(name, who) => {
+            Telling::Parted { channel: name, who } | Telling::Kicked { channel: name, who } => {
                 if is_same(self.support, channel, name) && is_same(self.support, nick, who) {
                     Some(false)
                 } else {

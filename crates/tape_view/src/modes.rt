@@ -89,14 +89,20 @@ impl<'a, A: Allocator> Said<'a, A> {
             ≡ says_mode (key_there self.now channel.now) letter us (meaning self.now) }
     {
         match &self.telling {
-            Telling::Joined(name, _, _)
+            Telling::Joined { channel: name, .. }
                 if self.marks.by_us
                     && self.support.is_channel(name)
                     && is_same(self.support, channel, name) => { Some(None) }
-            Telling::Changed(name, line) if is_same(self.support, channel, name) => {
+            Telling::Changed {
+                channel: name,
+                line,
+            } if is_same(self.support, channel, name) => {
                 last_setting(self.support, line, letter)
             }
-            Telling::Listed(name, line) if is_same(self.support, channel, name) => {
+            Telling::Listed {
+                channel: name,
+                line,
+            } if is_same(self.support, channel, name) => {
                 Some(last_setting(self.support, line, letter).unwrap_or(None))
             }
             _ => None,
@@ -161,7 +167,7 @@ impl<'a, A: Allocator> Tape<'a, A> {
             (letters_told self.now.settings telling.now) }
     {
         match telling {
-            Telling::Changed(_, line) | Telling::Listed(_, line) => {
+            Telling::Changed { line, .. } | Telling::Listed { line, .. } => {
                 self.best_listed(channel, after, best, line)
             }
             _ => best,

@@ -42,8 +42,8 @@ pub(crate) fn with_named<S: Allocator, A: Allocator>(
         (count + name_count (meant support.now telling.now)) }
 {
     match telling {
-        Telling::Joined(_, _, _) | Telling::Renamed(_, _) => count.checked_add(1),
-        Telling::Present(_, line) => with_listed(support, line, count),
+        Telling::Joined { .. } | Telling::Renamed { .. } => count.checked_add(1),
+        Telling::Present { line, .. } => with_listed(support, line, count),
         _ => Some(count),
     }
 }

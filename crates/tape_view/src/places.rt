@@ -122,11 +122,12 @@ impl<'a, A: Allocator> Tape<'a, A> {
             (names_in table.entry (meant self.now.settings telling.now)) }
     {
         match (table, telling) {
-            (Table::Channels, Telling::Joined(name, _, _)) => self.better(table, after, best, name),
-            (Table::Members(_), Telling::Joined(_, who, _) | Telling::Renamed(_, who)) => {
-                self.better(table, after, best, who)
-            }
-            (Table::Members(_), Telling::Present(_, line)) => {
+            (Table::Channels, Telling::Joined { channel, .. }) => self.better(
+                table, after, best, channel,
+            ),
+            (Table::Members(_), Telling::Joined { who, .. } | Telling::Renamed { new: who, .. }) =>
+                { self.better(table, after, best, who) }
+            (Table::Members(_), Telling::Present { line, .. }) => {
                 self.best_named(table, after, best, line)
             }
             _ => best,

@@ -18,16 +18,16 @@ impl<'a, A: Allocator> Said<'a, A> {
             ≡ says_on (key_there self.now channel.now) us (meaning self.now) }
     {
         match &self.telling {
-            Telling::Welcomed(_) => Some(None),
-            Telling::Joined(name, _, _)
+            Telling::Welcomed { .. } => Some(None),
+            Telling::Joined { channel: name, .. }
                 if self.marks.by_us
                     && self.support.is_channel(name)
                     && is_same(self.support, channel, name) => { Some(Some(*name)) }
-            Telling::Parted(name, _) if self.marks.by_us && is_same(self.support, channel, name) =>
-                { Some(None) }
-            Telling::Kicked(name, _)
+            Telling::Parted { channel: name, .. }
+                if self.marks.by_us && is_same(self.support, channel, name) => { Some(None) }
+            Telling::Kicked { channel: name, .. }
                 if self.marks.names_us && is_same(self.support, channel, name) => { Some(None) }
-            Telling::Quits(_) if self.marks.by_us => Some(None),
+            Telling::Quits { .. } if self.marks.by_us => Some(None),
             _ => None,
         }
     }

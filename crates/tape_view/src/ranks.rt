@@ -71,7 +71,11 @@ impl<'a, A: Allocator> Said<'a, A> {
             (key_there self.now nick.now) }
     {
         match &self.telling {
-            Telling::Joined(name, who, _) => {
+            Telling::Joined {
+                channel: name,
+                who,
+                ..
+            } => {
                 if !is_same(self.support, channel, name) {
                     return None;
                 }
@@ -88,13 +92,19 @@ impl<'a, A: Allocator> Said<'a, A> {
                     None
                 }
             }
-            Telling::Present(name, line) if is_same(self.support, channel, name) => {
+            Telling::Present {
+                channel: name,
+                line,
+            } if is_same(self.support, channel, name) => {
                 match word_of(self.support, line, nick) {
                     Some(word) => Some(word.ranks.has(rank)),
                     None => None,
                 }
             }
-            Telling::Changed(name, line) if is_same(self.support, channel, name) => {
+            Telling::Changed {
+                channel: name,
+                line,
+            } if is_same(self.support, channel, name) => {
                 rank_changed(self.support, line, nick, rank)
             }
             _ => None,

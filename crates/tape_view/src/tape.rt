@@ -33,7 +33,7 @@ impl<'a, A: Allocator> Said<'a, A> {
             ≡ name_before us (meaning self.now) (key_there self.now nick.now) }
     {
         match &self.telling {
-            Telling::Renamed(old, new) => {
+            Telling::Renamed { old, new } => {
                 if self.marks.names_us && !self.marks.by_us {
                     return Some(nick);
                 }
@@ -46,8 +46,8 @@ impl<'a, A: Allocator> Said<'a, A> {
                     Some(nick)
                 }
             }
-            Telling::Quits(gone) if is_same(self.support, nick, gone) => None,
-            Telling::Welcomed(_) => None,
+            Telling::Quits { who } if is_same(self.support, nick, who) => None,
+            Telling::Welcomed { .. } => None,
             _ => Some(nick),
         }
     }

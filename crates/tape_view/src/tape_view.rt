@@ -9,7 +9,7 @@ use crate::places::Table;
 use crate::tape::Tape;
 use irc_line::Line;
 use irc_support::Support;
-use net_view::{Channel, Item, Member, NetworkView, OutOfMemory, Telling, is_state_line, told};
+use net_view::{Channel, Item, Member, NetworkView, OutOfMemory, StateCommand, Telling, told};
 use std::alloc::{Allocator, Global};
 use std::marker::Model;
 
@@ -32,6 +32,7 @@ impl<A: Allocator> Model for TapeView<A> {
     ghost use Rattle.std.specs.Prelude.{◌≡◌, List};
     ghost use Rattle.net_view.specs.Transcript.{settings_of};
     ghost use Rattle.net_view.specs.Arrival.{Arrival};
+    ghost use Rattle.net_view.specs.Written.{AreWritten};
     ghost use Rattle.tape_view.specs.NameCount.{IsCounted};
     ghost use Rattle.tape_view.specs.Kept.{tape_of, IsMarkedTape};
 
@@ -39,7 +40,7 @@ impl<A: Allocator> Model for TapeView<A> {
 
     ghost view = { λ v. tape_of v.kept.items };
 
-    ghost invariant = { λ v. IsMarkedTape v.kept.items × (settings_of (tape_of v.kept.items) ≡ v.support) × IsCounted v.kept.items v.names };
+    ghost invariant = { λ v. IsMarkedTape v.kept.items × (settings_of (tape_of v.kept.items) ≡ v.support) × IsCounted v.kept.items v.names × AreWritten (tape_of v.kept.items) };
 }
 
 impl<A: Allocator + Copy> TapeView<A> {
@@ -57,7 +58,8 @@ impl<A: Allocator + Copy> TapeView<A> {
 }
 
 impl<A: Allocator + Copy> TapeView<A> {
-    ghost use Rattle.std.specs.Prelude.{◌≡◌, ◌<◌, ◌^◌, List, ◌∷◌, false, length, IfOk, OnOk, OnErr};
+    ghost use Rattle.std.specs.Prelude.{◌≡◌, ◌<◌, ◌^◌, List, ◌∷◌, false, length, IfOk, OnOk, OnErr, IsTrue};
+    ghost use Rattle.irc_line.specs.Writing.{is_writable};
     ghost use Rattle.irc_support.specs.Tokens.{Token};
     ghost use Rattle.net_view.specs.StateLines.{told};
     ghost use Rattle.net_view.specs.Tells.{meant};
@@ -98,8 +100,9 @@ impl<A: Allocator + Copy> TapeView<A> {
         })
     }
 
-    /// Keeps a state line.
+    /// Keeps a state line, which can be written.
     fn keep<B: Allocator>(&mut self, line: &Line<B>) -> Result<(), OutOfMemory>
+        requires { IsTrue (is_writable line.now) }
         ensures taken { OnOk result (self.new ≡ Received line.now ∷ self.old) }
         ensures kept { OnErr result (self.new ≡ self.old) }
     {
@@ -107,12 +110,12 @@ impl<A: Allocator + Copy> TapeView<A> {
         let kept = self.to_keep(line, &telling)?;
         let names = with_named(&self.support, &telling, self.names).ok_or(OutOfMemory)?;
         match telling {
-            Telling::Welcomed(_) => {
+            Telling::Welcomed { .. } => {
                 let support = Support::new(*self.kept.allocator())?;
                 self.kept.push(kept)?;
                 self.support = support;
             }
-            Telling::Supports(_) if own_in(&self.kept).is_some() && !ready_in(&self.kept) => {
+            Telling::Supports { .. } if own_in(&self.kept).is_some() && !ready_in(&self.kept) => {
                 self.kept.push(kept)?;
                 if let Err(refused) = self.support.take(line) {
                     let _ = self.kept.pop();
@@ -136,7 +139,7 @@ impl<A: Allocator + Copy> NetworkView for TapeView<A> {
     fn take<B: Allocator>(&mut self, item: &Item<B>) -> Result<(), OutOfMemory> {
         match item {
             Item::Line(line) => {
-                if is_state_line(line) {
+                if StateCommand::of(line).is_some() {
                     self.keep(line)?;
                 }
             }
@@ -148,6 +151,10 @@ impl<A: Allocator + Copy> NetworkView for TapeView<A> {
             }
         }
         Ok(())
+    }
+
+    fn comes_from_lines(&self) {
+        let _kept = &self.kept;
     }
 
     fn welcomed(&self) -> bool {

@@ -19,11 +19,14 @@ impl<'a, A: Allocator> Said<'a, A> {
             ≡ says_topic (key_there self.now channel.now) us (meaning self.now) }
     {
         match &self.telling {
-            Telling::Joined(name, _, _)
+            Telling::Joined { channel: name, .. }
                 if self.marks.by_us
                     && self.support.is_channel(name)
                     && is_same(self.support, channel, name) => { Some(None) }
-            Telling::Titled(name, text) if is_same(self.support, channel, name) => Some(*text),
+            Telling::Titled {
+                channel: name,
+                topic,
+            } if is_same(self.support, channel, name) => Some(*topic),
             _ => None,
         }
     }

@@ -4,6 +4,7 @@ use Rattle.bnc.proofs.check.network_total.Given as goal
 
 abbrev pub invariant-loop-user : goal.invariant-loop-user
 invariant-loop-user l = record {
-  counted : l.total ≡ sum_by (λ (user : UserSettings). length user.networks) (take l.user-index l.user-items);
+  counted : l.total
+      ≡ sum_by (λ (user : UserSettings). length user.networks) (take l.user-index l.user-items);
   small : l.total ≤ l.user-index * 18446744073709551615;
 }

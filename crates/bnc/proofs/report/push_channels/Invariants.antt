@@ -3,4 +3,5 @@ use Rattle.bnc.proofs.ReportLemmas.{channels_before}
 use Rattle.bnc.proofs.report.push_channels.Given as goal
 
 abbrev pub invariant-loop-i : goal.invariant-loop-i
-invariant-loop-i g l = l.report.items ≡ l.fn.report.items ++ channels_before (g.V.NetworkView.view l.view) l.i
+invariant-loop-i g l =
+    l.report.items ≡ l.fn.report.items ++ channels_before (g.V.NetworkView.view l.view) l.i

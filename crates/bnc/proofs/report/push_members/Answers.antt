@@ -16,9 +16,12 @@ loop-j-preserved g c =
       | in-Some+in_ok-push_member w ↦
           let m = w.in-Some.member in
           let shown = rw w.in-Some.is at c.member_at.ensures in
-          rw w.report-is (w.in_ok-push_member.ensures ∙ member_pushed v i j (Some (parts_of m)) c.args.report.now.items c.loop-j.report.items
+          rw w.report-is (w.in_ok-push_member.ensures
+          ∙ member_pushed v i j (Some (parts_of m)) c.args.report.now.items
+          c.loop-j.report.items
           (parts_shown o m shown.nick shown.ranks shown.account shown.away) c.loop-j.invariant)
       | in_default w ↦
-          rw w.report-is (sym (append-nil c.loop-j.report.items) ∙ member_pushed v i j None c.args.report.now.items c.loop-j.report.items
+          rw w.report-is (sym (append-nil c.loop-j.report.items)
+          ∙ member_pushed v i j None c.args.report.now.items c.loop-j.report.items
           (none_shown o (rw w.in_default.is at c.member_at.ensures.nick)) c.loop-j.invariant)
     ]

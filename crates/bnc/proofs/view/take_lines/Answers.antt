@@ -14,7 +14,9 @@ loop-line-preserved-in_ok-take g c =
       tt,
       tt,
       (step.2.0 ∙ so_far.2.0, step.2.1 ∙ so_far.2.1, step.2.2 ∙ so_far.2.2),
-      append_assoc done (line ∷ []) (drain_items c.next.new.self) ∙ ap (λ t. done ++ t) (sym step.0) ∙ so_far.3,
+      append_assoc done (line ∷ []) (drain_items c.next.new.self) ∙ ap (λ t. done ++ t) (sym step.0)
+          ∙ so_far.3,
       λ items is. c.in_ok-take.ensures.taken (items ++ map Received done) (so_far.4 items is)
-          ∙ ap view_of (append_assoc items (map Received done) (Received line ∷ []) ∙ ap (λ t. items ++ t) (sym (map-append Received done (line ∷ [])))),
+          ∙ ap view_of (append_assoc items (map Received done) (Received line ∷ [])
+          ∙ ap (λ t. items ++ t) (sym (map-append Received done (line ∷ [])))),
     )

@@ -9,4 +9,5 @@ invariant-loop-line g l = (goal.iterator-loop-line g).can_next l.line-iterator
     × (goal.iterator-loop-line g).is_finite l.line-iterator
     × DrainKeeps l.initial.line-iterator l.line-iterator
     × (l.yielded ++ drain_items l.line-iterator ≡ drain_items l.initial.line-iterator)
-    × ((items : List Arrival) → g.V.NetworkView.view l.initial.view ≡ view_of items → g.V.NetworkView.view l.view ≡ view_of (items ++ map Received l.yielded))
+    × ((items : List Arrival) → g.V.NetworkView.view l.initial.view ≡ view_of items
+    → g.V.NetworkView.view l.view ≡ view_of (items ++ map Received l.yielded))

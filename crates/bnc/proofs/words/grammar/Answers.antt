@@ -6,8 +6,12 @@ use Rattle.bnc.proofs.words.grammar.Goals as goal
 pub returns : goal.returns
 returns c =
     let about_is : app_of c.about.result ≡ new_app (codes "check") = search rules in
-    let check_is : app_of c.in_ok-check.check ≡ check_app = c.in_ok-check.ensures.shape c.file_argument.ensures.local
+    let check_is : app_of c.in_ok-check.check ≡ check_app =
+    c.in_ok-check.ensures.shape c.file_argument.ensures.local
     ∙ ap₂ with_rule about_is c.file_argument.ensures.rule in
     let view_is : app_of c.about-view.result ≡ view_app = search rules in
-    let both_is = c.in_ok-with_view.ensures.shape (search rules) ∙ ap₂ with_subcommand c.in_ok-bare.ensures (ap (λ (a : App). a.top) view_is) in
-    c.in_ok-bnc.ensures.shape (search rules) ∙ ap₂ with_subcommand both_is (ap (λ (a : App). a.top) check_is)
+    let both_is =
+    c.in_ok-with_view.ensures.shape (search rules)
+    ∙ ap₂ with_subcommand c.in_ok-bare.ensures (ap (λ (a : App). a.top) view_is) in
+    c.in_ok-bnc.ensures.shape (search rules)
+    ∙ ap₂ with_subcommand both_is (ap (λ (a : App). a.top) check_is)

@@ -8,5 +8,6 @@ returns c = (
   λ none. let same_length : length c.args.a.now ≡ length c.args.b.now = omega arith in
       let no_difference : c.difference.result ≡ 0 = grind (arith, nat_tests) in
       same_from_difference _ _ same_length (sym c.difference.ensures ∙ no_difference),
-  λ same. let no_difference : c.difference.result ≡ 0 = c.difference.ensures ∙ rw same (difference_of-self c.args.b.now) in grind (arith, nat_tests),
+  λ same. let no_difference : c.difference.result ≡ 0 =
+      c.difference.ensures ∙ rw same (difference_of-self c.args.b.now) in grind (arith, nat_tests),
 )

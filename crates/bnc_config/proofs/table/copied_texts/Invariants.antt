@@ -7,5 +7,6 @@ abbrev pub invariant-loop-value : goal.invariant-loop-value
 invariant-loop-value l = record {
   allowed : all_items (is_text_where (allows_text l.key)) (items_view l.values)
       ≡ all_items (is_text_where (allows_text l.key)) (items_view (drop l.value-index l.values));
-  copied : texts_of (items_view l.values) ≡ l.texts.items ++ texts_of (items_view (drop l.value-index l.values));
+  copied : texts_of (items_view l.values)
+      ≡ l.texts.items ++ texts_of (items_view (drop l.value-index l.values));
 }

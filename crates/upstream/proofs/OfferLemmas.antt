@@ -1,0 +1,131 @@
+-- Capabilities in lists, and in the lines so far.
+use Rattle.std.proofs.Common.{◌≡◌, ◌∙◌, refl, sym, ap, ℕ, Bool, true, false, List, [], ◌∷◌}
+use Rattle.std.proofs.Common.{◌++◌, ◌||◌, ◌==◌, map}
+use Rattle.std.proofs.Common.{filter, Bor, append-nil, codes, inl}
+use Rattle.std.proofs.Common.{inr}
+use Rattle.std.specs.List.{join_by, flat_map, list_all, list_any, slice_split}
+use Rattle.std.proofs.lemmas.List.Folds.{list_all-append, list_any-append}
+use Rattle.upstream.proofs.Writable.{and_left, and_right, both}
+use Rattle.irc_line.specs.Line.{Parts, is_line_byte}
+use Rattle.irc_line.specs.Writing.{is_clean}
+use Rattle.upstream.specs.Registration.{is_list, is_offered, is_word_for, last_param, named}
+use Rattle.upstream.specs.Registration.{names_of, offered_by, offers, our_caps}
+use Rattle.upstream.specs.declared.offers.Offered.{Offered}
+use Rattle.irc_line.proofs.ParamScan.{sure}
+use Rattle.upstream.specs.Said.{said}
+
+or_false : (x : Bool) → (x || false) ≡ x
+or_false true = refl
+or_false false = refl
+
+-- what one more line offers
+pub offered_more : (name : List ℕ) (before : List Parts) (line : Parts)
+    → is_offered (before ++ line ∷ []) name ≡ (is_offered before name || offers name line)
+offered_more name before line =
+    list_any-append (offers name) before (line ∷ [])
+    ∙ ap (λ x. is_offered before name || x) (or_false (offers name line))
+
+-- which are offered after one more line
+pub offered_by_more : (before : List Parts) (line : Parts) (offered : Offered)
+    → offered ≡ offered_by before
+    → offered_by (before ++ line ∷ []) ≡ record {
+      multi_prefix = offered.multi_prefix || offers (codes "multi-prefix") line;
+      extended_join = offered.extended_join || offers (codes "extended-join") line;
+      account_notify = offered.account_notify || offers (codes "account-notify") line;
+      away_notify = offered.away_notify || offers (codes "away-notify") line;
+      server_time = offered.server_time || offers (codes "server-time") line;
+    }
+offered_by_more before line offered at =
+    rw (
+      offered_more (codes "multi-prefix") before line,
+      offered_more (codes "extended-join") before
+          line,
+      offered_more (codes "account-notify") before line,
+      offered_more (codes "away-notify") before
+          line,
+      offered_more (codes "server-time") before line,
+      at,
+    ) refl
+
+-- a line that has no list offers nothing
+pub offers_nothing : (before : List Parts) (line : Parts) (offered : Offered)
+    → is_list (said line) ≡ false
+    → offered ≡ offered_by before → offered ≡ offered_by (before ++ line ∷ [])
+offers_nothing before line offered none at =
+    sym (offered_by_more before line offered at ∙ rw none (simp or_false))
+
+filter_first : (p : List ℕ → Bool) (x : List ℕ) (xs : List (List ℕ))
+    → filter p (x ∷ xs) ≡ named (p x) x ++ filter p xs
+filter_first p x xs = elim (sure (p x)) [ inl is ↦ rw is refl | inr is ↦ rw is refl ]
+
+-- the names of those that lines offered are ours that they offered
+pub names_are_offered : (lines : List Parts)
+    → names_of (offered_by lines) ≡ filter (is_offered lines) our_caps
+names_are_offered lines = simp filter_first (simp append-nil)
+
+named_are_clean : (b : Bool) (name : List ℕ) → is_clean name ≡ true
+    → list_all is_clean (named b name) ≡ true
+named_are_clean true name h = rw h refl
+named_are_clean false name h = refl
+
+both_clean : (a b : List (List ℕ)) → list_all is_clean a ≡ true → list_all is_clean b ≡ true
+    → list_all is_clean (a ++ b) ≡ true
+both_clean a b p q = list_all-append is_clean a b ∙ rw (p, q) refl
+
+-- our names are clean
+pub names_are_clean : (offered : Offered) → list_all is_clean (names_of offered) ≡ true
+names_are_clean offered =
+    both_clean (named offered.multi_prefix _) _ (named_are_clean offered.multi_prefix _ refl)
+    (both_clean (named offered.extended_join _) _ (named_are_clean offered.extended_join _ refl)
+    (both_clean (named offered.account_notify _) _ (named_are_clean offered.account_notify _ refl)
+    (both_clean (named offered.away_notify _) _ (named_are_clean offered.away_notify _ refl)
+    (named_are_clean offered.server_time _ refl))))
+
+-- names that are joined by spaces
+tail_is_clean : (names : List (List ℕ)) → list_all is_clean names ≡ true
+    → is_clean (flat_map (λ y. (32 ∷ []) ++ y) names) ≡ true
+tail_is_clean [] h = refl
+tail_is_clean (x ∷ xs) h =
+    list_all-append is_line_byte x (flat_map (λ y. (32 ∷ []) ++ y) xs)
+    ∙ both (is_clean x) _ (and_left (is_clean x) _ h)
+    (tail_is_clean xs (and_right (is_clean x) _ h))
+
+pub joined_is_clean : (names : List (List ℕ)) → list_all is_clean names ≡ true
+    → is_clean (join_by (λ n. n) (32 ∷ []) names) ≡ true
+joined_is_clean [] h = refl
+joined_is_clean (x ∷ xs) h =
+    list_all-append is_line_byte x (flat_map (λ y. (32 ∷ []) ++ y) xs)
+    ∙ both (is_clean x) _ (and_left (is_clean x) _ h)
+    (tail_is_clean xs (and_right (is_clean x) _ h))
+
+joined_tail : (names : List (Bor (List ℕ)))
+    → flat_map (λ (b : Bor (List ℕ)). (32 ∷ []) ++ b.now) names
+    ≡ flat_map (λ y. (32 ∷ []) ++ y) (map (λ (b : Bor (List ℕ)). b.now) names)
+joined_tail [] = refl
+joined_tail (b ∷ bs) = ap (λ t. (32 ∷ b.now) ++ t) (joined_tail bs)
+
+-- the names are joined as they are lent
+pub joined_as_lent : (names : List (Bor (List ℕ)))
+    → join_by (λ (b : Bor (List ℕ)). b.now) (32 ∷ []) names
+    ≡ join_by (λ n. n) (32 ∷ []) (map (λ (b : Bor (List ℕ)). b.now) names)
+joined_as_lent [] = refl
+joined_as_lent (b ∷ bs) = ap (λ t. b.now ++ t) (joined_tail bs)
+
+-- which are offered after one more line that has a list
+pub offers_listed : (before : List Parts) (line : Parts) (offered : Offered) (list : List ℕ)
+    (a b c d e : Bool)
+    → is_list (said line) ≡ true → offered ≡ offered_by before → list ≡ last_param line
+    → a ≡ list_any (is_word_for (codes "multi-prefix")) (slice_split (λ x. x == 32) list)
+    → b ≡ list_any (is_word_for (codes "extended-join")) (slice_split (λ x. x == 32) list)
+    → c ≡ list_any (is_word_for (codes "account-notify")) (slice_split (λ x. x == 32) list)
+    → d ≡ list_any (is_word_for (codes "away-notify")) (slice_split (λ x. x == 32) list)
+    → e ≡ list_any (is_word_for (codes "server-time")) (slice_split (λ x. x == 32) list)
+    → ◌≡◌ {A = Offered} (record {
+      multi_prefix = offered.multi_prefix || a;
+      extended_join = offered.extended_join || b;
+      account_notify = offered.account_notify || c;
+      away_notify = offered.away_notify || d;
+      server_time = offered.server_time || e;
+    }) (offered_by (before ++ line ∷ []))
+offers_listed before line offered list a b c d e listed at is p q r s t =
+    sym (offered_by_more before line offered at ∙ rw (p, q, r, s, t, is, listed) refl)

@@ -1,0 +1,4 @@
+pub mod Said
+pub mod Registration
+pub mod Taken
+pub mod Progress

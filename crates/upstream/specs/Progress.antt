@@ -1,0 +1,14 @@
+-- What a registration keeps.
+use Rattle.std.specs.Prelude.{ℕ, Bool, List}
+use Rattle.irc_line.specs.Line.{Parts}
+use Rattle.upstream.specs.declared.offers.Offered.{Offered}
+
+-- the nick without marks, the lines for the welcome, which capabilities were offered, how often the
+-- nick was another's, how many lines came, and whether it has ended
+pub record Progress : Type 0 where
+  pub nick : List ℕ
+  pub joins : List Parts
+  pub offered : Offered
+  pub tries : ℕ
+  pub count : ℕ
+  pub is_over : Bool

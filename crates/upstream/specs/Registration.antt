@@ -1,0 +1,200 @@
+-- What a registration sends, and how it ends, after a list of lines of the network (RFC 2812,
+-- section 3.1; IRCv3 capability negotiation). How often another nick is tried, that it gets a mark
+-- more each time, and the limit of lines are our own choice.
+use Rattle.std.specs.Prelude.{ℕ, ◌+◌, ◌-◌, Bool, true, false, ◌&&◌, ◌||◌, ◌==◌, nat_le, List, []}
+use Rattle.std.specs.Prelude.{◌∷◌, ◌++◌}
+use Rattle.std.specs.Prelude.{length, map, filter, count_by, slice_get, codes, unwrap_or, replicate}
+use Rattle.std.specs.Prelude.{position, take}
+use Rattle.std.specs.Prelude.{Option, Some, None, if◌then◌else◌}
+use Rattle.std.specs.List.{join_by, list_any, slice_split}
+use Rattle.std.specs.Str.{bytes_eq}
+use Rattle.irc_line.specs.Line.{Parts}
+use Rattle.irc_line.specs.Writing.{untagged_line}
+use Rattle.bnc_config.specs.Settings.{NetworkSettings}
+use Rattle.upstream.specs.Said.{said}
+use Rattle.upstream.specs.declared.offers.Offered.{Offered}
+use Rattle.upstream.specs.declared.registration.RegisterFault.{RegisterFault}
+use Rattle.upstream.specs.declared.registration.RegisterFault.TheVariants as fault
+use Rattle.upstream.specs.declared.said.Said.{Said}
+use Rattle.upstream.specs.declared.said.Said.TheVariants as says
+
+-- ---- what lines are sent
+
+-- a line of ours
+abbrev pub command : List ℕ → List (List ℕ) → Parts
+command name params = untagged_line None name params
+
+abbrev pub pass_lines : Option (List ℕ) → List Parts
+pass_lines None = []
+pass_lines (Some password) = command (codes "PASS") (password ∷ []) ∷ []
+
+abbrev pub nick_line : List ℕ → Parts
+nick_line nick = command (codes "NICK") (nick ∷ [])
+
+abbrev pub user_line : NetworkSettings → Parts
+user_line network =
+    command (codes "USER") (network.user ∷ codes "0" ∷ codes "*" ∷ network.realname ∷ [])
+
+-- what is sent before a line has come
+abbrev pub first_lines : NetworkSettings → List Parts
+first_lines network =
+    command (codes "CAP") (codes "LS" ∷ codes "302" ∷ [])
+    ∷ (pass_lines network.password ++ (nick_line network.nick ∷ user_line network ∷ []))
+
+-- the nick with so many marks behind it
+abbrev pub marked : List ℕ → ℕ → List ℕ
+marked nick marks = nick ++ replicate marks 95
+
+abbrev pub cap_end : Parts
+cap_end = command (codes "CAP") (codes "END" ∷ [])
+
+-- the request for these capabilities, in one parameter; where there are none, the negotiation ends
+abbrev pub request_of : List (List ℕ) → Parts
+request_of [] = cap_end
+request_of (name ∷ names) =
+    command (codes "CAP") (codes "REQ" ∷ join_by (λ n. n) (32 ∷ []) (name ∷ names) ∷ [])
+
+-- PING's parameters come back
+abbrev pub pong_line : Parts → Parts
+pong_line line = command (codes "PONG") line.params
+
+abbrev pub join_line : List ℕ → Parts
+join_line channel = command (codes "JOIN") (channel ∷ [])
+
+abbrev pub join_lines : NetworkSettings → List Parts
+join_lines network = map join_line network.join
+
+-- ---- the capabilities that are asked for
+
+-- those that we can use, in the order of a request
+abbrev pub our_caps : List (List ℕ)
+our_caps =
+    codes "multi-prefix" ∷ codes "extended-join" ∷ codes "account-notify" ∷ codes "away-notify"
+    ∷ codes "server-time" ∷ []
+
+abbrev pub is_list : Said → Bool
+is_list says.List = true
+is_list says.LastList = true
+is_list _ = false
+
+-- the last parameter, which is the list of a CAP LS
+abbrev pub last_param : Parts → List ℕ
+last_param line = unwrap_or (slice_get line.params (length line.params - 1)) []
+
+-- what stands in a word before its first `=`, else the word
+abbrev pub before_value : List ℕ → List ℕ
+before_value word = take (unwrap_or (position (λ b. b == 61) word) (length word)) word
+
+-- a word of the list offers the capability of this name
+abbrev pub is_word_for : List ℕ → List ℕ → Bool
+is_word_for name word = bytes_eq (before_value word) name
+
+-- the line has a list in which the capability of this name is offered
+abbrev pub offers : List ℕ → Parts → Bool
+offers name line =
+    is_list (said line)
+    && list_any (is_word_for name) (slice_split (λ b. b == 32) (last_param line))
+
+-- the capability of this name was offered by one of the lines
+abbrev pub is_offered : List Parts → List ℕ → Bool
+is_offered lines name = list_any (offers name) lines
+
+-- which of ours were offered by the lines
+abbrev pub offered_by : List Parts → Offered
+offered_by lines = record {
+  multi_prefix = is_offered lines (codes "multi-prefix");
+  extended_join = is_offered lines (codes "extended-join");
+  account_notify = is_offered lines (codes "account-notify");
+  away_notify = is_offered lines (codes "away-notify");
+  server_time = is_offered lines (codes "server-time");
+}
+
+-- a name, where it was offered
+abbrev pub named : Bool → List ℕ → List (List ℕ)
+named true name = name ∷ []
+named false name = []
+
+-- the names of those that were offered, in the order of a request
+abbrev pub names_of : Offered → List (List ℕ)
+names_of offered =
+    named offered.multi_prefix (codes "multi-prefix")
+    ++ (named offered.extended_join (codes "extended-join")
+    ++ (named offered.account_notify (codes "account-notify")
+    ++ (named offered.away_notify (codes "away-notify")
+    ++ named offered.server_time (codes "server-time"))))
+
+-- ---- how it ends
+
+abbrev pub is_in_use : Said → Bool
+is_in_use says.NickInUse = true
+is_in_use _ = false
+
+-- how many of the lines say that the nick is another's
+abbrev pub tries_in : List Parts → ℕ
+tries_in lines = count_by (λ line. is_in_use (said line)) lines
+
+-- a line that ends a registration wherever it comes
+abbrev pub is_final : Said → Bool
+is_final says.Welcome = true
+is_final says.BadNick = true
+is_final says.Refused = true
+is_final _ = false
+
+-- the lines ended a registration: one of them ended it, the nick was another's four times, or
+-- 10,000 came (that each of these is one end, and there is no other, is a law:
+-- `laws::a_registration_ends_once`)
+abbrev pub has_ended : List Parts → Bool
+has_ended lines =
+    list_any (λ line. is_final (said line)) lines
+    || (nat_le 4 (tries_in lines) || nat_le 10000 (length lines))
+
+-- ---- the answer to a line
+
+-- lines are sent and it goes on; or we are in, and lines are sent; or it failed
+pub data Answer : Type 0 where
+  sends : List Parts → Answer
+  welcomes : List Parts → Answer
+  fails : RegisterFault → Answer
+
+-- after 9,999 lines without an end the next is one
+abbrev pub fault_by_count : List Parts → Option RegisterFault
+fault_by_count before = if length before == 9999 then Some fault.NoWelcome else None
+
+-- the fault that a line which says this is, behind lines that have not ended the registration
+abbrev pub fault_of : List Parts → Said → Option RegisterFault
+fault_of before says.Welcome = None
+fault_of before says.BadNick = Some fault.BadNick
+fault_of before says.Refused = Some fault.Refused
+fault_of before says.NickInUse =
+    if tries_in before == 3 then Some fault.NickInUse else fault_by_count before
+fault_of before _ = fault_by_count before
+
+-- what is sent for a line which says this, behind lines that have not ended the registration
+abbrev pub reply_to : NetworkSettings → List Parts → Parts → Said → List Parts
+reply_to network before line says.LastList =
+    request_of (filter (is_offered (before ++ line ∷ [])) our_caps) ∷ []
+reply_to network before line says.CapAnswered = cap_end ∷ []
+reply_to network before line says.NickInUse =
+    nick_line (marked network.nick (tries_in before + 1)) ∷ []
+reply_to network before line says.Ping = pong_line line ∷ []
+reply_to network before line _ = []
+
+abbrev pub is_welcome : Said → Bool
+is_welcome says.Welcome = true
+is_welcome _ = false
+
+abbrev pub fails_or_sends : Option RegisterFault → List Parts → Answer
+fails_or_sends (Some f) lines = fails f
+fails_or_sends None lines = sends lines
+
+-- the answer to a line behind these lines: nothing once it has ended
+abbrev pub answer_to : NetworkSettings → List Parts → Parts → Answer
+answer_to network before line =
+    if has_ended before then sends [] else
+    if is_welcome (said line) then welcomes (join_lines network) else
+    fails_or_sends (fault_of before (said line)) (reply_to network before line (said line))
+
+abbrev pub is_end : Answer → Bool
+is_end (sends lines) = false
+is_end (welcomes lines) = true
+is_end (fails f) = true

@@ -1,0 +1,32 @@
+-- Where a registration stands after a list of lines.
+use Rattle.std.specs.Prelude.{◌≡◌, false, List, length}
+use Rattle.irc_line.specs.Line.{Parts}
+use Rattle.bnc_config.specs.Settings.{NetworkSettings}
+use Rattle.upstream.specs.Registration.{Answer, sends, welcomes, fails, has_ended, join_lines}
+use Rattle.upstream.specs.Registration.{offered_by, tries_in}
+use Rattle.upstream.specs.Progress.{Progress}
+use Rattle.upstream.specs.declared.registration.Step.{Step}
+use Rattle.upstream.specs.declared.registration.Step.TheVariants.{Send, Done, Fault}
+
+-- the answer that a step is
+abbrev pub answer_of : Step → Answer
+answer_of (Send lines) = sends lines.items
+answer_of (Done lines) = welcomes lines.items
+answer_of (Fault f) = fails f
+
+-- a registration that has not ended knows what the lines said of it
+abbrev pub IsAt : NetworkSettings → List Parts → Progress → Type 0
+IsAt network lines register = record {
+  nick : register.nick ≡ network.nick;
+  joins : register.joins ≡ join_lines network;
+  offered : register.offered ≡ offered_by lines;
+  tries : register.tries ≡ tries_in lines;
+  count : register.count ≡ length lines;
+}
+
+-- a registration at the network has taken these lines
+abbrev pub HasTaken : NetworkSettings → List Parts → Progress → Type 0
+HasTaken network lines register = record {
+  over : register.is_over ≡ has_ended lines;
+  going : has_ended lines ≡ false → IsAt network lines register;
+}

@@ -1,0 +1,11 @@
+//! The registration at a network: what is sent, and how it ends.
+#![tactic(auto)]
+
+pub mod laws;
+mod offers;
+mod registration;
+mod said;
+mod sending;
+
+pub use registration::{Register, RegisterFault, Step};
+pub use std::alloc::AllocError as OutOfMemory;

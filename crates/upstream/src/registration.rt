@@ -1,0 +1,190 @@
+//! The registration at a network, line by line.
+
+ghost use Rattle.std.specs.Prelude.{◌≡◌, ◌≢◌, ◌<◌, ◌++◌, ◌∷◌, [], List, IfNone, IfOk, OnErr, OnOk};
+ghost use Rattle.irc_line.specs.Line.{Parts};
+ghost use Rattle.bnc_config.specs.Settings.{NetworkSettings};
+ghost use Rattle.upstream.specs.Said.{said};
+ghost use Rattle.upstream.specs.Registration.{answer_to, fault_of, first_lines, offered_by};
+ghost use Rattle.upstream.specs.Registration.{reply_to};
+ghost use Rattle.upstream.specs.Taken.{HasTaken, IsAt, answer_of};
+
+use crate::OutOfMemory;
+use crate::offers::Offered;
+use crate::said::Said;
+use crate::sending::{cap_end, first_lines, join_lines, nick_line, pong_line, request_line};
+use bnc_config::NetworkConfig;
+use irc_line::Line;
+use std::alloc::Global;
+use std::marker::Model;
+use std::mem;
+use thiserror::Error;
+
+/// Why a network did not take us in.
+#[derive(Clone, Copy, Debug, PartialEq, Eq, Error)]
+pub enum RegisterFault {
+    /// The nick was another's, and so was it with one, two and three marks (433 ERR_NICKNAMEINUSE).
+    #[error("nick in use")]
+    NickInUse,
+    /// The nick is none on this network (432 ERR_ERRONEUSNICKNAME).
+    #[error("bad nick")]
+    BadNick,
+    /// The password is wrong or the network closed the connection (464 ERR_PASSWDMISMATCH, ERROR).
+    #[error("refused")]
+    Refused,
+    /// 10,000 lines came without a welcome.
+    #[error("no welcome")]
+    NoWelcome,
+}
+
+/// What follows from one line of the network.
+#[derive(Drop)]
+pub enum Step {
+    /// These lines are to be sent; the registration goes on.
+    Send(Vec<Line>),
+    /// We are in, under the nick of the line; these lines are to be sent.
+    Done(Vec<Line>),
+    /// It failed.
+    Fault(RegisterFault),
+}
+
+/// A registration at a network (RFC 2812, section 3.1; IRCv3 capability negotiation), from its
+/// first lines to the welcome or a fault.
+///
+/// ```text
+/// -> CAP LS 302                        <- :s CAP * LS :account-notify=1 multi-prefix -> NICK ann
+///                        <- :s CAP * ACK :multi-prefix account-notify -> USER ann 0 * :Ann A
+///         <- :s 433 * ann :in use -> CAP REQ :multi-prefix account-notify -> CAP END
+///             <- :s 001 ann_ :hi -> NICK ann_
+/// ```
+#[derive(Drop)]
+pub struct Register {
+    nick: Vec<u8>,
+    // what is sent once we are in
+    joins: Vec<Line>,
+    offered: Offered,
+    // how often the nick was another's
+    tries: usize,
+    // how many lines came
+    count: usize,
+    is_over: bool,
+}
+
+impl Model for Register {
+    ghost use Rattle.std.specs.Prelude.{◌≤◌, IsTrue};
+    ghost use Rattle.irc_names.specs.Nick.{is_nameable};
+    ghost use Rattle.upstream.specs.Progress.{Progress};
+
+    ghost Value = { Progress };
+
+    ghost view = { λ register. record {
+      nick = register.nick.items;
+      joins = register.joins.items;
+      offered = register.offered;
+      tries = register.tries;
+      count = register.count;
+      is_over = register.is_over;
+    } };
+
+    ghost invariant = { λ register. record {
+      nameable : IsTrue (is_nameable register.nick.items);
+      few_tries : register.tries ≤ 3;
+      few_lines : register.count ≤ 9999;
+    } };
+}
+
+impl Register {
+    /// A registration, and the lines that it sends first: `CAP LS 302`, PASS where the settings
+    /// have a password, NICK and USER.
+    pub fn start(
+        alloc: Global,
+        network: &NetworkConfig,
+    ) -> Result<(Register, Vec<Line>), OutOfMemory>
+        ensures taken { IfOk result (λ x. HasTaken network.now [] x.0) }
+        ensures sent { IfOk result (λ x. x.1.items ≡ first_lines network.now) }
+    {
+        let lines = first_lines(alloc, network)?;
+        let register = Register {
+            nick: Vec::from_slice(alloc, network.nick())?,
+            joins: join_lines(alloc, network)?,
+            offered: Offered::none(),
+            tries: 0,
+            count: 0,
+            is_over: false,
+        };
+        Ok((register, lines))
+    }
+
+    /// The fault that a line which says this is.
+    fn fault_of(&self, says: Said) -> Option<RegisterFault>
+        ensures fault { (network : NetworkSettings) (before : List Parts) →
+            IsAt network before self.now → result ≡ fault_of before says }
+        ensures room { IfNone result (says ≢ Said.Welcome → self.now.count < 9999) }
+        ensures tries { IfNone result (says ≡ Said.NickInUse → self.now.tries < 3) }
+    {
+        match says {
+            Said::Welcome => None,
+            Said::BadNick => Some(RegisterFault::BadNick),
+            Said::Refused => Some(RegisterFault::Refused),
+            Said::NickInUse if self.tries == 3 => Some(RegisterFault::NickInUse),
+            _ if self.count == 9_999 => Some(RegisterFault::NoWelcome),
+            _ => None,
+        }
+    }
+
+    /// What is sent for a line, where it does not end the registration; `offered` is with those of
+    /// the line.
+    fn reply_to(&self, says: Said, line: &Line, offered: Offered) -> Result<Vec<Line>, OutOfMemory>
+        requires { says ≡ Said.NickInUse → self.now.tries < 3 }
+        ensures { (network : NetworkSettings) (before : List Parts) → IsAt network before self.now →
+            offered ≡ offered_by (before ++ line.now ∷ []) →
+            IfOk result (λ lines. lines.items ≡ reply_to network before line.now says) }
+    {
+        let alloc = *self.nick.allocator();
+        let reply = match says {
+            Said::LastList => request_line(alloc, offered.names(alloc)?.as_slice())?,
+            Said::CapAnswered => cap_end(alloc)?,
+            Said::NickInUse => nick_line(alloc, self.nick.as_slice(), self.tries + 1)?,
+            Said::Ping => pong_line(alloc, line)?,
+            _ => return Ok(Vec::new(alloc)),
+        };
+        let mut lines = Vec::with_capacity(alloc, 1)?;
+        lines.push(reply)?;
+        Ok(lines)
+    }
+
+    /// Takes a line of the network, and tells what follows from it; once it has ended, that nothing
+    /// is to be sent. Of the capabilities that a network offers, `multi-prefix`, `extended-join`,
+    /// `account-notify`, `away-notify` and `server-time` are asked for. After want of memory the
+    /// registration is as it was.
+    pub fn line(&mut self, line: &Line) -> Result<Step, OutOfMemory>
+        ensures answer { (network : NetworkSettings) (before : List Parts) →
+            HasTaken network before self.old →
+            IfOk result (λ step. answer_of step ≡ answer_to network before line.now) }
+        ensures taken { (network : NetworkSettings) (before : List Parts) →
+            HasTaken network before self.old →
+            OnOk result (HasTaken network (before ++ line.now ∷ []) self.new) }
+        ensures err { OnErr result (self.new ≡ self.old) }
+    {
+        let alloc = *self.nick.allocator();
+        if self.is_over {
+            return Ok(Step::Send(Vec::new(alloc)));
+        }
+        let says = Said::of(line);
+        if let Said::Welcome = says {
+            self.is_over = true;
+            return Ok(Step::Done(mem::replace(&mut self.joins, Vec::new(alloc))));
+        }
+        if let Some(fault) = self.fault_of(says) {
+            self.is_over = true;
+            return Ok(Step::Fault(fault));
+        }
+        let offered = self.offered.with(says, line);
+        let lines = self.reply_to(says, line, offered)?;
+        self.offered = offered;
+        self.count += 1;
+        if let Said::NickInUse = says {
+            self.tries += 1;
+        }
+        Ok(Step::Send(lines))
+    }
+}

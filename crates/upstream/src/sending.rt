@@ -1,0 +1,101 @@
+//! The lines that a registration sends.
+
+ghost use Rattle.std.specs.Prelude.{◌≡◌, ◌<◌, IfOk, IsTrue, map};
+ghost use Rattle.std.specs.List.{list_all};
+ghost use Rattle.irc_line.specs.Writing.{is_clean, is_writable};
+ghost use Rattle.irc_names.specs.Nick.{is_nameable};
+ghost use Rattle.upstream.specs.Registration.{cap_end, command, first_lines, join_line, join_lines};
+ghost use Rattle.upstream.specs.Registration.{marked, nick_line, pong_line, request_of};
+ghost use Rattle.upstream.specs.Registration.{user_line};
+
+use crate::OutOfMemory;
+use bnc_config::NetworkConfig;
+use irc_line::Line;
+use std::alloc::Global;
+
+/// A line of ours, without a source.
+fn command(alloc: Global, name: &[u8], params: &[&[u8]]) -> Result<Line, OutOfMemory>
+    requires { IsTrue (is_writable (command name.now (map (λ p. p.now) params.now))) }
+    ensures { IfOk result (λ line. line ≡ command name.now (map (λ p. p.now) params.now)) }
+{
+    Line::from_parts(alloc, None, None, name, params)
+}
+
+/// `NICK nick`, with so many marks behind the nick.
+pub(crate) fn nick_line(alloc: Global, nick: &[u8], marks: usize) -> Result<Line, OutOfMemory>
+    requires nameable { IsTrue (is_nameable nick.now) }
+    requires few { marks < 4 }
+    ensures { IfOk result (λ line. line ≡ nick_line (marked nick.now marks)) }
+{
+    let mut marked = Vec::from_slice(alloc, nick)?;
+    marked.extend_from_slice(&b"___"[..marks])?;
+    command(alloc, b"NICK", &[marked.as_slice()])
+}
+
+/// `USER user 0 * :realname` (RFC 2812, section 3.1.3).
+fn user_line(alloc: Global, network: &NetworkConfig) -> Result<Line, OutOfMemory>
+    ensures { IfOk result (λ line. line ≡ user_line network.now) }
+{
+    let params = [network.user(), b"0", b"*", network.realname()];
+    command(alloc, b"USER", &params)
+}
+
+/// What is sent before a line has come: `CAP LS 302`, PASS where there is a password, NICK and
+/// USER.
+pub(crate) fn first_lines(alloc: Global, network: &NetworkConfig) -> Result<Vec<Line>, OutOfMemory>
+    ensures { IfOk result (λ lines. lines.items ≡ first_lines network.now) }
+{
+    let mut lines = Vec::with_capacity(alloc, 4)?;
+    lines.push(command(alloc, b"CAP", &[b"LS", b"302"])?)?;
+    if let Some(password) = network.password() {
+        lines.push(command(alloc, b"PASS", &[password])?)?;
+    }
+    lines.push(command(alloc, b"NICK", &[network.nick()])?)?;
+    lines.push(user_line(alloc, network)?)?;
+    Ok(lines)
+}
+
+/// `JOIN channel` for each channel of the settings, in their order.
+pub(crate) fn join_lines(alloc: Global, network: &NetworkConfig) -> Result<Vec<Line>, OutOfMemory>
+    ensures { IfOk result (λ lines. lines.items ≡ join_lines network.now) }
+{
+    let channels = network.join();
+    let mut lines = Vec::with_capacity(alloc, channels.len())?;
+    for channel in channels {
+        lines.push(command(alloc, b"JOIN", &[channel.as_bytes()])?)?;
+    }
+    Ok(lines)
+}
+
+/// `CAP END`.
+pub(crate) fn cap_end(alloc: Global) -> Result<Line, OutOfMemory>
+    ensures { IfOk result (λ line. line ≡ cap_end) }
+{
+    command(alloc, b"CAP", &[b"END"])
+}
+
+/// `CAP REQ :names`, or `CAP END` where there are none.
+pub(crate) fn request_line(alloc: Global, names: &[&str]) -> Result<Line, OutOfMemory>
+    requires { IsTrue (list_all is_clean (map (λ name. name.now) names.now)) }
+    ensures { IfOk result (λ line. line ≡ request_of (map (λ name. name.now) names.now)) }
+{
+    match names {
+        [] => cap_end(alloc),
+        [_, ..] => {
+            let text = names.join(alloc, " ")?;
+            command(alloc, b"CAP", &[b"REQ", text.as_str().as_bytes()])
+        }
+    }
+}
+
+/// `PONG` with PING's parameters.
+pub(crate) fn pong_line(alloc: Global, ping: &Line) -> Result<Line, OutOfMemory>
+    ensures { IfOk result (λ line. line ≡ pong_line ping.now) }
+{
+    let _ = ping.command();
+    let mut params = Vec::with_capacity(alloc, 2)?;
+    for param in ping.params() {
+        params.push(param)?;
+    }
+    command(alloc, b"PONG", params.as_slice())
+}
