@@ -9,7 +9,8 @@ use Rattle.irc_support.specs.ChanModes.{kind_of}
 use Rattle.irc_support.specs.Settings.{mapping_of, is_channel}
 use Rattle.irc_support.specs.ModeChanges.{changes}
 use Rattle.irc_support.specs.NamesReply.{words}
-use Rattle.net_view.specs.Seen.{HeldCaps, all_caps, seen_ranks}
+use Rattle.net_view.specs.Members.{rank_decided}
+use Rattle.net_view.specs.Seen.{HeldCaps, all_caps, thinned_ranks, was_shown}
 use Rattle.net_view.specs.StateLines.{state_lines, told}
 use Rattle.net_view.proofs.Transcripts.{read, joined}
 
@@ -17,7 +18,7 @@ abbrev no_caps : HeldCaps
 no_caps = record { multi_prefix = false; extended_join = false; account_notify = false; away_notify = false }
 
 abbrev seen : HeldCaps → List Text → ℕ → Text → List ℕ
-seen caps lines k n = seen_ranks caps (read lines) k (codes "#c") n
+seen caps lines k n = thinned_ranks caps (was_shown (read lines) k (codes "#c") n) (ranks_that (rank_decided (read lines) (codes "#c") n))
 
 abbrev op_and_voice : List Text
 op_and_voice = joined ++ codes ":s 353 Me = #c :Me @+bob" ∷ []

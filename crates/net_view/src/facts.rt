@@ -18,7 +18,8 @@ ghost use Rattle.net_view.specs.View.{View, Channel, welcomed_view, view_of};
 ghost use Rattle.net_view.specs.Step.{is_seen};
 ghost use Rattle.net_view.specs.Readers.{account_shown};
 ghost use Rattle.net_view.specs.Seen.{all_caps, seen_since};
-ghost use Rattle.net_view.specs.Sound.{IsSound};
+ghost use Rattle.net_view.specs.Sound.{IsSound, IsWellFormed};
+ghost use Rattle.net_view.specs.Written.{AreWritten, IsCleanView};
 
 /// What is found by looking back, in a reader's words: the last item that speaks of a matter or of
 /// a person says it, and all since are silent; of what is known of a person, who was in sight ever
@@ -32,10 +33,13 @@ pub fn the_last_word<A>()
         (known says items n ≡ Some answer) ↔ IsKnown says items n answer }
 {}
 
-/// What every network view is like. A channel that we are on has the name of our own JOIN, and
+/// What every network view is like; that what is written of it is read back as it is; and that all its texts can
+/// stand in lines, where those of the transcript can be written. A channel that we are on has the name of our own JOIN, and
 /// nothing since took us off it.
 pub fn views_are_sound()
     ensures sound { (items : List Arrival) → IsSound (view_of items) }
+    ensures formed { (items : List Arrival) → IsWellFormed (view_of items) }
+    ensures clean { (items : List Arrival) → AreWritten items → IsCleanView (view_of items) }
     ensures joined { (items : List Arrival) (c : Text) (channel : Channel) →
         get (view_of items).channels c ≡ Some channel →
         IsSaidLast (says_on c) (readings_of (reverse items)) (Some channel.name) }

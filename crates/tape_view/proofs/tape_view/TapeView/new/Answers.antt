@@ -1,6 +1,6 @@
 use Rattle.std.proofs.Common.{ap, sym, subst, ◌∙◌}
 use Rattle.net_view.specs.Transcript.{settings_of}
-use Rattle.tape_view.specs.Tape.{tape_of, IsMarkedTape}
+use Rattle.tape_view.specs.Kept.{tape_of, IsMarkedTape}
 use Rattle.net_view.specs.Written.{AreWritten}
 use Rattle.tape_view.specs.NameCount.{IsCounted}
 use Rattle.tape_view.proofs.Counted.{none_counted}

@@ -3,7 +3,7 @@ use Rattle.std.proofs.lemmas.Bool.Decides.{nat_tests}
 use Rattle.net_view.specs.View.{view_back, view_of}
 use Rattle.net_view.specs.Step.{after}
 use Rattle.net_view.specs.Arrival.{Received, arrival_of}
-use Rattle.tape_view.specs.Tape.{tape_of}
+use Rattle.tape_view.specs.Kept.{tape_of}
 use Rattle.net_view.proofs.StepLaw.{view_step, view_back_step, view_unchanged}
 use Rattle.tape_view.proofs.Counted.{loss_counted}
 use Rattle.tape_view.proofs.TapeTake.{loss_taken, loss_marked, loss_settings, loss_of_nothing, loss_written}
