@@ -10,6 +10,7 @@ use crate::name_count::with_named;
 use crate::shown::{Shown, shown_at, shown_count};
 use crate::tape::{Kept, marks_of, name_on, own_in, ready_in, spelling_in, topic_in};
 use irc_line::Line;
+use irc_names::is_nameable;
 use irc_support::Support;
 use net_view::{Channel, Item, Member, NetworkView, OutOfMemory, StateCommand, Telling, told};
 use std::alloc::{Allocator, Global};
@@ -193,6 +194,9 @@ impl<A: Allocator + Copy> NetworkView for TapeView<A> {
     }
 
     fn account_of(&self, nick: &[u8]) -> Option<&[u8]> {
+        if !is_nameable(nick) {
+            return None;
+        }
         fact_in(&self.support, &self.kept, nick, Fact::Account)
     }
 }
