@@ -21,6 +21,18 @@ pub struct Caps {
     pub batch: bool,
 }
 
+pub(crate) const MULTI_PREFIX: &[u8] = b"multi-prefix";
+
+pub(crate) const EXTENDED_JOIN: &[u8] = b"extended-join";
+
+pub(crate) const ACCOUNT_NOTIFY: &[u8] = b"account-notify";
+
+pub(crate) const AWAY_NOTIFY: &[u8] = b"away-notify";
+
+pub(crate) const SERVER_TIME: &[u8] = b"server-time";
+
+pub(crate) const BATCH: &[u8] = b"batch";
+
 impl Caps {
     /// No capability.
     pub const fn none() -> Caps
@@ -41,12 +53,12 @@ impl Caps {
         ensures { option_map (λ name. name.now) result ≡ slice_get cap_names place }
     {
         match place {
-            0 => Some(b"multi-prefix"),
-            1 => Some(b"extended-join"),
-            2 => Some(b"account-notify"),
-            3 => Some(b"away-notify"),
-            4 => Some(b"server-time"),
-            5 => Some(b"batch"),
+            0 => Some(MULTI_PREFIX),
+            1 => Some(EXTENDED_JOIN),
+            2 => Some(ACCOUNT_NOTIFY),
+            3 => Some(AWAY_NOTIFY),
+            4 => Some(SERVER_TIME),
+            5 => Some(BATCH),
             _ => None,
         }
     }

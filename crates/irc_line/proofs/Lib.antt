@@ -9,3 +9,4 @@ pub mod Making
 pub mod Limit
 pub mod ReadOn
 pub mod Streams
+pub mod WrittenStream

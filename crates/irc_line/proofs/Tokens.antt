@@ -1,11 +1,14 @@
 -- Tokens and gaps at the front of a text.
-use Rattle.std.proofs.Common.{◌≡◌, ℕ, suc, ◌+◌, ◌-◌, ◌≤◌, Bool, true, false, List, [], ◌∷◌, ◌++◌, length, take, drop, refl, ap, sym, ◌∙◌, arith, cond, Some, None, append_assoc, length-append, ◌==◌}
+use Rattle.std.proofs.Common.{◌≡◌, ℕ, suc, ◌+◌, ◌-◌, ◌≤◌, Bool, true, false, List, [], ◌∷◌, ◌++◌}
+use Rattle.std.proofs.Common.{length, take, drop, refl, ap, sym, ◌∙◌, arith, cond, Some, None}
+use Rattle.std.proofs.Common.{append_assoc, length-append, ◌==◌}
 use Rattle.std.proofs.lemmas.Bool.{ltb-false}
 use Rattle.std.proofs.lemmas.List.{take_all, drop_all, drop_at}
 use Rattle.std.specs.Prelude.{not}
 use Rattle.std.specs.List.{position_or_len, position}
 use Rattle.irc_line.specs.Line.{is_space}
-use Rattle.irc_line.specs.Reading.{token, after_token, trimmed, unless_empty, after_marked, untagged, body}
+use Rattle.irc_line.specs.Reading.{token, after_token, trimmed, unless_empty, after_marked}
+use Rattle.irc_line.specs.Reading.{untagged, body}
 
 one-add : (n : ℕ) → 1 + n ≡ suc n
 one-add n = omega arith
@@ -14,7 +17,9 @@ one-add n = omega arith
 pub token-is : (text : List ℕ) → take (position_or_len is_space text) text ≡ token text
 token-is [] = refl
 token-is (b ∷ bs) =
-    elim (is_space b) as (λ s. take (cond (not s) (1 + position_or_len is_space bs) 0) (b ∷ bs) ≡ cond s [] (b ∷ token bs)) [
+    elim (is_space b) as
+    (λ s. take (cond (not s) (1 + position_or_len is_space bs) 0) (b ∷ bs)
+    ≡ cond s [] (b ∷ token bs)) [
       | true ↦ refl
       | false ↦ rw (one-add (position_or_len is_space bs)) (ap (λ r. b ∷ r) (token-is bs))
     ]
@@ -22,7 +27,9 @@ token-is (b ∷ bs) =
 pub after_token-is : (text : List ℕ) → drop (position_or_len is_space text) text ≡ after_token text
 after_token-is [] = refl
 after_token-is (b ∷ bs) =
-    elim (is_space b) as (λ s. drop (cond (not s) (1 + position_or_len is_space bs) 0) (b ∷ bs) ≡ cond s (b ∷ bs) (after_token bs)) [
+    elim (is_space b) as
+    (λ s. drop (cond (not s) (1 + position_or_len is_space bs) 0) (b ∷ bs)
+    ≡ cond s (b ∷ bs) (after_token bs)) [
       | true ↦ refl
       | false ↦ rw (one-add (position_or_len is_space bs)) (after_token-is bs)
     ]
@@ -31,7 +38,8 @@ after_token-is (b ∷ bs) =
 pub token-append : (text : List ℕ) → token text ++ after_token text ≡ text
 token-append [] = refl
 token-append (b ∷ bs) =
-    elim (is_space b) as (λ s. cond s [] (b ∷ token bs) ++ cond s (b ∷ bs) (after_token bs) ≡ b ∷ bs) [
+    elim (is_space b) as
+    (λ s. cond s [] (b ∷ token bs) ++ cond s (b ∷ bs) (after_token bs) ≡ b ∷ bs) [
       | true ↦ refl
       | false ↦ ap (λ r. b ∷ r) (token-append bs)
     ]
@@ -58,7 +66,8 @@ after_token-whole text e =
 pub token-at : (text : List ℕ) (n : ℕ) → position is_space text ≡ Some n → take n text ≡ token text
 token-at text n e = rw (← some-at _ _ n e) (token-is text)
 
-pub after_token-at : (text : List ℕ) (n : ℕ) → position is_space text ≡ Some n → drop n text ≡ after_token text
+pub after_token-at : (text : List ℕ) (n : ℕ) → position is_space text ≡ Some n →
+    drop n text ≡ after_token text
 after_token-at text n e = rw (← some-at _ _ n e) (after_token-is text)
 
 -- one text stands at the end of the other
@@ -92,24 +101,33 @@ after_token-ends text = record { front = token text; whole = token-append text }
 after_marked-ends : (mark : ℕ) (text : List ℕ) → EndsIn text (after_marked mark text)
 after_marked-ends mark [] = EndsIn-self []
 after_marked-ends mark (b ∷ bs) =
-    let behind = EndsIn-cons b bs _ (EndsIn-trans bs (after_token bs) _ (after_token-ends bs) (trimmed-ends (after_token bs))) in
-    elim (b == mark) as (λ s. EndsIn (b ∷ bs) (cond s (unless_empty (token bs) (trimmed (after_token bs)) (b ∷ bs)) (b ∷ bs))) [
-      | true ↦ elim (token bs) as (λ t. EndsIn (b ∷ bs) (unless_empty t (trimmed (after_token bs)) (b ∷ bs))) [
-        | [] ↦ EndsIn-self (b ∷ bs)
-        | c ∷ cs ↦ behind
-      ]
+    let behind =
+    EndsIn-cons b bs _
+    (EndsIn-trans bs (after_token bs) _ (after_token-ends bs) (trimmed-ends (after_token bs)))
+    in
+    elim (b == mark) as
+    (λ s. EndsIn (b ∷ bs)
+    (cond s (unless_empty (token bs) (trimmed (after_token bs)) (b ∷ bs)) (b ∷ bs))) [
+      | true ↦
+          elim (token bs) as
+          (λ t. EndsIn (b ∷ bs) (unless_empty t (trimmed (after_token bs)) (b ∷ bs))) [
+            | [] ↦ EndsIn-self (b ∷ bs)
+            | c ∷ cs ↦ behind
+          ]
       | false ↦ EndsIn-self (b ∷ bs)
     ]
 
 pub body-ends : (text : List ℕ) → EndsIn text (body text)
 body-ends text =
     EndsIn-trans text (trimmed text) (body text) (trimmed-ends text)
-    (EndsIn-trans (trimmed text) (untagged text) (body text) (after_marked-ends 64 (trimmed text)) (after_marked-ends 58 (untagged text)))
+    (EndsIn-trans (trimmed text) (untagged text) (body text) (after_marked-ends 64 (trimmed text))
+    (after_marked-ends 58 (untagged text)))
 
 pub EndsIn-length : (text end : List ℕ) → EndsIn text end → length end ≤ length text
 EndsIn-length text end e = omega (arith, length-append e.front end, ap length e.whole)
 
 pub EndsIn-drop : (text end : List ℕ) → EndsIn text end → drop (length text - length end) text ≡ end
 EndsIn-drop text end e =
-    let at : length text - length end ≡ length e.front = omega (arith, length-append e.front end, ap length e.whole) in
+    let at : length text - length end ≡ length e.front =
+    omega (arith, length-append e.front end, ap length e.whole) in
     rw (at, ← e.whole) (drop_at e.front end _ refl)

@@ -1,15 +1,18 @@
--- Which texts spell which lines (RFC 2812, section 2.3.1, with tags before the source as IRCv3 message-tags
--- has them).
+-- Which texts spell which lines (RFC 2812, section 2.3.1, with tags before the source as IRCv3
+-- message-tags has them).
 --
---     line     = *SP ["@" tags 1*SP] [":" source 1*SP] command *(1*SP middle) (*SP / 1*SP ":" trailing)
+--     line     = *SP ["@" tags 1*SP] [":" source 1*SP] command *(1*SP middle)
+--                (*SP / 1*SP ":" trailing)
 --     tags     = 1*(any byte but SP)           source   = 1*(any byte but SP)
 --     command  = 1*letter / 3digit
 --     middle   = 1*(any byte but SP), not beginning with ":"
 --     trailing = *(any byte)
 --
--- No byte is NUL, CR or LF. Our own choices: spaces may stand at the front, more than one between parts, and
--- there is no limit to the number of parameters (RFC 2812 has fifteen) nor here to a line's length.
-use Rattle.std.specs.Prelude.{◌≡◌, ℕ, true, false, IsTrue, ◌⊎◌, ◌==◌, List, [], ◌∷◌, ◌++◌, Option, Some, None}
+-- No byte is NUL, CR or LF. Our own choices: spaces may stand at the front, more than one between
+-- parts, and there is no limit to the number of parameters (RFC 2812 has fifteen) nor here to a
+-- line's length.
+use Rattle.std.specs.Prelude.{◌≡◌, ℕ, true, false, IsTrue, ◌⊎◌, ◌==◌, List, [], ◌∷◌, ◌++◌, Option}
+use Rattle.std.specs.Prelude.{Some, None}
 use Rattle.std.specs.List.{AllByRecursion}
 use Rattle.irc_line.specs.Line.{Parts, is_space, is_line_byte, is_command}
 
@@ -34,7 +37,8 @@ IsWord (b ∷ bs) = ((b == 58) ≡ false) × AllByRecursion (λ c. is_space c �
 -- the text of tags or a source, which may be missing: its mark, the part, a gap
 abbrev pub SpellsMarked : ℕ → Option (List ℕ) → List ℕ → Type 0
 SpellsMarked mark None text = text ≡ []
-SpellsMarked mark (Some part) text = IsToken part × (gap : List ℕ) × IsGap gap × (text ≡ mark ∷ (part ++ gap))
+SpellsMarked mark (Some part) text =
+    IsToken part × (gap : List ℕ) × IsGap gap × (text ≡ mark ∷ (part ++ gap))
 
 -- the text behind a command: each parameter behind a gap, the last perhaps behind a colon
 abbrev pub SpellsParams : List (List ℕ) → List ℕ → Type 0

@@ -1,6 +1,7 @@
--- The lines of a stream of bytes (RFC 2812, section 2.3: CR LF ends a line; that LF alone ends one too is our
--- own choice).
-use Rattle.std.specs.Prelude.{◌≡◌, ℕ, ◌+◌, ◌-◌, ◌^◌, Bool, false, ◌&&◌, not, ◌==◌, nat_lt, List, [], ◌∷◌, ◌++◌, length, if◌then◌else◌, count_by, slice_index, take, min}
+-- The lines of a stream of bytes (RFC 2812, section 2.3: CR LF ends a line; that LF alone ends one
+-- too is our own choice).
+use Rattle.std.specs.Prelude.{◌≡◌, ℕ, ◌+◌, ◌-◌, ◌^◌, Bool, false, ◌&&◌, not, ◌==◌, nat_lt, List, []}
+use Rattle.std.specs.Prelude.{◌∷◌, ◌++◌, length, if◌then◌else◌, count_by, slice_index, take, min}
 use Rattle.std.specs.List.{AllByRecursion, list_any, filter_map, slice_split}
 use Rattle.irc_line.specs.Line.{Parts}
 use Rattle.irc_line.specs.Reading.{is_line, line_of, trimmed}
@@ -36,7 +37,10 @@ rest_of bytes = the_last (segments_of bytes)
 
 -- a segment without one CR at its end
 abbrev pub without_cr : List ℕ → List ℕ
-without_cr segment = if slice_index segment (length segment - 1) == 13 then take (length segment - 1) segment else segment
+without_cr segment =
+    if slice_index segment (length segment - 1) == 13
+    then take (length segment - 1) segment
+    else segment
 
 -- the lines that the bytes hold, in order
 abbrev pub lines_of : List ℕ → List Parts
@@ -53,7 +57,8 @@ is_skipped text = not (is_line text) && not (is_blank text)
 abbrev pub skipped_of : List ℕ → ℕ
 skipped_of bytes = count_by (λ segment. is_skipped (without_cr segment)) (ended_of bytes)
 
--- how many bytes may stand without LF (RFC 2812, section 2.3, has 512 with CR LF; this limit is our own)
+-- how many bytes may stand without LF (RFC 2812, section 2.3, has 512 with CR LF; this limit is our
+-- own)
 abbrev pub line_limit : ℕ
 line_limit = 16384
 
@@ -75,7 +80,11 @@ counted n = min n (2 ^ 64 - 1)
 
 -- what a splitter holds after one more piece
 abbrev pub fed : Pending → List ℕ → Pending
-fed s piece = record { rest = rest_of (s.rest ++ piece); skipped = counted (s.skipped + skipped_of (s.rest ++ piece)) }
+fed s piece =
+    record {
+      rest = rest_of (s.rest ++ piece);
+      skipped = counted (s.skipped + skipped_of (s.rest ++ piece));
+    }
 
 -- the same after pieces one behind the other, and the lines that they gave
 abbrev pub fed_all : Pending → List (List ℕ) → Pending

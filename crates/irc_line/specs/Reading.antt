@@ -1,6 +1,7 @@
--- The line that a text spells, computed. That this is the grammar's is a law, `the_grammar`: what is read
--- here is what `Grammar` says, and all of it.
-use Rattle.std.specs.Prelude.{ℕ, Bool, true, false, ◌&&◌, ◌==◌, List, [], ◌∷◌, Option, Some, None, if◌then◌else◌}
+-- The line that a text spells, computed. That this is the grammar's is a law, `the_grammar`: what
+-- is read here is what `Grammar` says, and all of it.
+use Rattle.std.specs.Prelude.{ℕ, Bool, true, false, ◌&&◌, ◌==◌, List, [], ◌∷◌, Option, Some, None}
+use Rattle.std.specs.Prelude.{if◌then◌else◌}
 use Rattle.std.specs.List.{list_all, onto_first}
 use Rattle.irc_line.specs.Line.{Parts, is_space, is_line_byte, is_command}
 
@@ -32,15 +33,20 @@ marked mark (b ∷ bs) = if b == mark then unless_empty (token bs) (Some (token 
 -- what stands behind such a part, or the text where there is none
 abbrev pub after_marked : ℕ → List ℕ → List ℕ
 after_marked mark [] = []
-after_marked mark (b ∷ bs) = if b == mark then unless_empty (token bs) (trimmed (after_token bs)) (b ∷ bs) else b ∷ bs
+after_marked mark (b ∷ bs) =
+    if b == mark then unless_empty (token bs) (trimmed (after_token bs)) (b ∷ bs) else b ∷ bs
 
--- The parameters behind a command. In a word the first is the rest of that word; a colon before a word
--- makes all that follows one parameter.
+-- The parameters behind a command. In a word the first is the rest of that word; a colon before a
+-- word makes all that follows one parameter.
 abbrev pub params_at : Bool → List ℕ → List (List ℕ)
 params_at true [] = [] ∷ []
 params_at false [] = []
-params_at true (b ∷ bs) = if is_space b then [] ∷ params_at false bs else onto_first b (params_at true bs)
-params_at false (b ∷ bs) = if is_space b then params_at false bs else if b == 58 then bs ∷ [] else onto_first b (params_at true bs)
+params_at true (b ∷ bs) =
+    if is_space b then [] ∷ params_at false bs else onto_first b (params_at true bs)
+params_at false (b ∷ bs) =
+    if is_space b then params_at false bs else
+    if b == 58 then bs ∷ [] else
+    onto_first b (params_at true bs)
 
 -- a text from the place behind its tags, and from its command on
 abbrev pub untagged : List ℕ → List ℕ

@@ -1,6 +1,7 @@
--- The time tag of a line (IRCv3 message-tags: tags are separated by `;`, a value stands behind `=`; IRCv3
--- server-time: `@time=YYYY-MM-DDThh:mm:ss.sssZ`).
-use Rattle.std.specs.Prelude.{ℕ, Bool, true, false, ◌&&◌, ◌==◌, nat_eq, List, [], ◌∷◌, Option, Some, None, length, drop, find, codes, if◌then◌else◌}
+-- The time tag of a line (IRCv3 message-tags: tags are separated by `;`, a value stands behind `=`;
+-- IRCv3 server-time: `@time=YYYY-MM-DDThh:mm:ss.sssZ`).
+use Rattle.std.specs.Prelude.{ℕ, Bool, true, false, ◌&&◌, ◌==◌, nat_eq, List, [], ◌∷◌, Option, Some}
+use Rattle.std.specs.Prelude.{None, length, drop, find, codes, if◌then◌else◌}
 use Rattle.std.specs.Option.{option_and_then, option_map}
 use Rattle.std.specs.List.{slice_split, starts_with}
 use Rattle.std.specs.Char.{is_ascii_digit}
@@ -11,9 +12,12 @@ tags_in tags = slice_split (λ b. b == 59) tags
 
 -- the value of the first tag that begins like this
 abbrev pub value_behind : List ℕ → List ℕ → Option (List ℕ)
-value_behind front tags = option_map (λ tag. drop (length front) tag) (find (λ tag. starts_with nat_eq tag front) (tags_in tags))
+value_behind front tags =
+    option_map (λ tag. drop (length front) tag)
+    (find (λ tag. starts_with nat_eq tag front) (tags_in tags))
 
--- whether the byte may stand where a form has this one: `d` (100) stands for a digit, any other for itself
+-- whether the byte may stand where a form has this one: `d` (100) stands for a digit, any other for
+-- itself
 abbrev pub fits_form : ℕ → ℕ → Bool
 fits_form b form = if form == 100 then is_ascii_digit b else b == form
 
@@ -33,4 +37,6 @@ time_value value = if has_form time_form value then Some value else None
 
 -- the value of the first `time=` among the line's tags, where it has the form of a time
 abbrev pub time_of : Parts → Option (List ℕ)
-time_of line = option_and_then (λ tags. option_and_then time_value (value_behind (codes "time=") tags)) line.tags
+time_of line =
+    option_and_then (λ tags. option_and_then time_value (value_behind (codes "time=") tags))
+    line.tags

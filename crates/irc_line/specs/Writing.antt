@@ -1,5 +1,6 @@
 -- The text of a line, and which parts have one (RFC 2812, section 2.3.1).
-use Rattle.std.specs.Prelude.{ℕ, Bool, true, false, ◌&&◌, not, ◌==◌, List, [], ◌∷◌, ◌++◌, Option, Some, None, if◌then◌else◌, length}
+use Rattle.std.specs.Prelude.{ℕ, Bool, true, false, ◌&&◌, not, ◌==◌, List, [], ◌∷◌, ◌++◌, Option}
+use Rattle.std.specs.Prelude.{Some, None, if◌then◌else◌, length}
 use Rattle.std.specs.List.{list_any, list_all, flat_map}
 use Rattle.irc_line.specs.Line.{Parts, is_space, is_line_byte, is_command}
 
@@ -19,7 +20,9 @@ marked_text mark (Some part) = mark ∷ (part ++ 32 ∷ [])
 
 -- the text that a line is written as, without its ending
 abbrev pub text_of : Parts → List ℕ
-text_of line = marked_text 64 line.tags ++ (marked_text 58 line.source ++ (line.command ++ flat_map param_text line.params))
+text_of line =
+    marked_text 64 line.tags
+    ++ (marked_text 58 line.source ++ (line.command ++ flat_map param_text line.params))
 
 -- the same with CR LF
 abbrev pub written : Parts → List ℕ
@@ -45,11 +48,14 @@ are_params (param ∷ next ∷ params) = (is_word param && is_clean param) && ar
 
 -- whether the parts are those of a line: whether some text spells them (a law, `what_is_written`)
 abbrev pub is_writable : Parts → Bool
-is_writable line = is_part line.tags && (is_part line.source && (is_command line.command && are_params line.params))
+is_writable line =
+    is_part line.tags
+    && (is_part line.source && (is_command line.command && are_params line.params))
 
 -- a line of these parts
 abbrev pub line_of_parts : Option (List ℕ) → Option (List ℕ) → List ℕ → List (List ℕ) → Parts
-line_of_parts tags source command params = record { tags = tags; source = source; command = command; params = params }
+line_of_parts tags source command params =
+    record { tags = tags; source = source; command = command; params = params }
 
 -- a line without tags
 abbrev pub untagged_line : Option (List ℕ) → List ℕ → List (List ℕ) → Parts

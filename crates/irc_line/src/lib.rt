@@ -1,4 +1,5 @@
-//! Lines of IRC: one line by its grammar, read, made and written, and a stream of bytes cut into lines.
+//! Lines of IRC: one line by its grammar, read, made and written, and a stream of bytes cut into
+//! lines.
 #![tactic(auto)]
 
 pub mod laws;
@@ -13,6 +14,4 @@ pub use line::{Line, MakeError};
 pub use param_list::Params;
 pub use splitter::{FeedError, LINE_LIMIT, Splitter};
 pub use std::alloc::AllocError as OutOfMemory;
-
-#[cfg(test)]
-mod tests;
+pub use writing::write_line;

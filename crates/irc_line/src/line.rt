@@ -1,12 +1,15 @@
 //! One line.
 
-ghost use Rattle.std.specs.Prelude.{◌≡◌, ◌≤◌, ◌↔◌, ◌++◌, ℕ, List, Some, IsTrue, false, drop, length, map, slice_get, option_map, IfOk, IfSome, IfNone, OnOk, OnErr, IsErrOf};
+ghost use Rattle.std.specs.Prelude.{◌≡◌, ◌≤◌, ◌↔◌, ◌++◌, ℕ, List, Some, IsTrue, false, drop};
+ghost use Rattle.std.specs.Prelude.{length, map, slice_get, option_map, IfOk, IfSome, IfNone, OnOk};
+ghost use Rattle.std.specs.Prelude.{OnErr, IsErrOf};
 ghost use Rattle.std.specs.List.{flat_map};
 ghost use Rattle.irc_line.specs.Line.{Parts, nick_of, has_command};
 ghost use Rattle.irc_line.specs.Grammar.{Spells};
 ghost use Rattle.irc_line.specs.Reading.{body, line_of};
 ghost use Rattle.irc_line.specs.Tags.{time_of};
-ghost use Rattle.irc_line.specs.Writing.{param_text, text_of, written, is_writable, line_of_parts, untagged_line, retagged, is_part};
+ghost use Rattle.irc_line.specs.Writing.{param_text, text_of, written, is_writable};
+ghost use Rattle.irc_line.specs.Writing.{line_of_parts, untagged_line, retagged, is_part};
 
 use crate::OutOfMemory;
 use crate::param_list::Params;
@@ -41,14 +44,16 @@ impl<A: Allocator> Model for Line<A> {
 
     ghost view = { λ l. parts_of l.text.items };
 
-    ghost invariant = { λ l. IsTrue (is_line l.text.items) × (l.command_at ≤ length l.text.items) × (drop l.command_at l.text.items ≡ body l.text.items) };
+    ghost invariant = { λ l.
+        IsTrue (is_line l.text.items) × (l.command_at ≤ length l.text.items) ×
+        (drop l.command_at l.text.items ≡ body l.text.items) };
 }
 
 /// Why parts are no line.
 #[derive(Clone, Copy, Debug, PartialEq, Eq, Error)]
 pub enum MakeError {
-    /// There is no text that is read as these parts: a part that holds a space, a NUL, a CR or an LF
-    /// where none may stand, an empty tag part or source, a command that is none, or a parameter
+    /// There is no text that is read as these parts: a part that holds a space, a NUL, a CR or an
+    /// LF where none may stand, an empty tag part or source, a command that is none, or a parameter
     /// before the last that is no word.
     #[error("not a line")]
     NotALine,
@@ -58,9 +63,9 @@ pub enum MakeError {
 }
 
 impl From<OutOfMemory> for MakeError {
-    ghost use Rattle.irc_line.specs.declared.line.MakeError.TheVariants.{OutOfMemory as the_memory_error};
+    ghost use Rattle.irc_line.specs.declared.line.MakeError.TheVariants as fault;
 
-    ghost from_gives = { λ _ e. e ≡ the_memory_error };
+    ghost from_gives = { λ _ e. e ≡ fault.OutOfMemory };
 
     fn from(_e: OutOfMemory) -> MakeError {
         MakeError::OutOfMemory
@@ -106,8 +111,8 @@ impl<A: Allocator> Line<A> {
         Line::<A>::parse(alloc, text)
     }
 
-    /// The line of these parts, where some text is read as them: as [`Line::make`], for a caller that knows so
-    /// beforehand, as of the parts of lines in hand. One allocation.
+    /// The line of these parts, as [`Line::make`], for a caller that knows beforehand that some
+    /// text is read as them, as of the parts of lines in hand. One allocation.
     pub fn from_parts(
         alloc: A,
         tags: Option<&[u8]>,
@@ -135,8 +140,8 @@ impl<A: Allocator> Line<A> {
         Ok(Line { text, command_at })
     }
 
-    /// A line of these parts, without tags, as in `:a PRIVMSG #c :hi all`. `NotALine` comes exactly where
-    /// no text is read as these parts, and before memory is asked for.
+    /// A line of these parts, without tags, as in `:a PRIVMSG #c :hi all`. `NotALine` comes exactly
+    /// where no text is read as these parts, and before memory is asked for.
     pub fn make(
         alloc: A,
         source: Option<&[u8]>,
@@ -145,10 +150,12 @@ impl<A: Allocator> Line<A> {
     ) -> Result<Line<A>, MakeError>
     where
         A: Drop,
-        ensures made { IfOk result (λ line. line ≡ untagged_line
-            (option_map (λ s. s.now) source.entry) command.now (map (λ p. p.now) params.now)) }
-        ensures not_a_line { IsErrOf result MakeError.NotALine ↔ (is_writable (untagged_line
-            (option_map (λ s. s.now) source.entry) command.now (map (λ p. p.now) params.now)) ≡ false) }
+        ensures made { IfOk result (λ line.
+            line ≡ untagged_line (option_map (λ s. s.now) source.entry) command.now
+            (map (λ p. p.now) params.now)) }
+        ensures not_a_line { IsErrOf result MakeError.NotALine ↔
+            (is_writable (untagged_line (option_map (λ s. s.now) source.entry) command.now
+            (map (λ p. p.now) params.now)) ≡ false) }
     {
         if !is_a_part(source) || !is_a_command(command) || !are_all_params(params) {
             return Err(MakeError::NotALine);
@@ -169,8 +176,9 @@ impl<A: Allocator> Line<A> {
         })
     }
 
-    /// A copy of the line over another allocator, with these tags, or none, in place of its own. That the
-    /// tags are no empty text and hold no space, NUL, CR or LF is for the caller to see to. One allocation.
+    /// A copy of the line over another allocator, with these tags, or none, in place of its own.
+    /// That the tags are no empty text and hold no space, NUL, CR or LF is for the caller to see
+    /// to. One allocation.
     pub fn copy_tagged_in<B: Allocator>(
         &self,
         alloc: B,
@@ -206,7 +214,8 @@ impl<A: Allocator> Line<A> {
         split_marked(b':', rest).0
     }
 
-    /// The nick of the source: what stands before its first `!`, else before its first `@`, else all of it.
+    /// The nick of the source: what stands before its first `!`, else before its first `@`, else
+    /// all of it.
     pub fn source_nick(&self) -> Option<&[u8]>
         ensures { option_map (λ part. part.now) result ≡ option_map nick_of self.now.source }
     {
@@ -229,8 +238,8 @@ impl<A: Allocator> Line<A> {
         self.command().eq_ignore_ascii_case(command)
     }
 
-    /// The parameters in order, a last one without its colon: of `PRIVMSG #c :hi all` those are `#c` and
-    /// `hi all`. It takes no memory, and going over all of them is one pass over the line.
+    /// The parameters in order, a last one without its colon: of `PRIVMSG #c :hi all` those are
+    /// `#c` and `hi all`. It takes no memory, and going over all of them is one pass over the line.
     pub fn params(&self) -> Params<'_>
         ensures { result ≡ self.now.params }
     {
@@ -252,8 +261,8 @@ impl<A: Allocator> Line<A> {
         count_params(split_token(&self.text[self.command_at..]).1)
     }
 
-    /// The value of the first `time=` among the tags, where it has the form `2020-01-02T03:04:05.678Z`
-    /// (IRCv3 server-time); that the numbers name a moment is not asked.
+    /// The value of the first `time=` among the tags, where it has the form
+    /// `2020-01-02T03:04:05.678Z` (IRCv3 server-time); that the numbers name a moment is not asked.
     pub fn time_tag(&self) -> Option<&[u8]>
         ensures { option_map (λ value. value.now) result ≡ time_of self.now }
     {
@@ -263,7 +272,9 @@ impl<A: Allocator> Line<A> {
 
     /// Adds the command and the parameters.
     fn write_body<B: Allocator>(&self, out: &mut Vec<u8, B>) -> Result<(), OutOfMemory>
-        ensures ok { OnOk result (out.new.items ≡ out.old.items ++ (self.now.command ++ flat_map param_text self.now.params)) }
+        ensures ok { OnOk result
+            (out.new.items
+            ≡ out.old.items ++ (self.now.command ++ flat_map param_text self.now.params)) }
         ensures err { OnErr result ((more : List ℕ) × (out.new.items ≡ out.old.items ++ more)) }
     {
         let (command, params) = split_token(&self.text[self.command_at..]);
@@ -283,8 +294,8 @@ impl<A: Allocator> Line<A> {
         Ok(())
     }
 
-    /// Appends the line and CR LF. A colon stands before the last parameter only where that is empty,
-    /// begins with a colon or holds a space. After an error `out` is unchanged.
+    /// Appends the line and CR LF. A colon stands before the last parameter only where that is
+    /// empty, begins with a colon or holds a space. After an error `out` is unchanged.
     pub fn write<B: Allocator>(&self, out: &mut Vec<u8, B>) -> Result<(), OutOfMemory>
         ensures ok { OnOk result (out.new.items ≡ out.old.items ++ written self.now) }
         ensures err { OnErr result (out.new.items ≡ out.old.items) }
@@ -302,13 +313,15 @@ impl<A: Allocator> Line<A> {
 }
 
 impl<A: Allocator + Copy> Line<A> {
-    /// Gives the line these tags, or none, in place of its own. `NotALine` comes exactly where the tags
-    /// are empty or hold a space, a NUL, a CR or an LF, and before memory is asked for. After an error the
-    /// line is unchanged.
+    /// Gives the line these tags, or none, in place of its own. `NotALine` comes exactly where the
+    /// tags are empty or hold a space, a NUL, a CR or an LF, and before memory is asked for. After
+    /// an error the line is unchanged.
     pub fn set_tags(&mut self, tags: Option<&[u8]>) -> Result<(), MakeError>
-        ensures ok { OnOk result (self.new ≡ retagged self.old (option_map (λ t. t.now) tags.entry)) }
-        ensures not_a_line { IsErrOf result MakeError.NotALine ↔ (is_part (option_map (λ t. t.now) tags.entry) ≡ false) }
-        ensures err { OnErr result (self.new ≡ self.old) }
+        ensures taken { OnOk result
+            (self.new ≡ retagged self.old (option_map (λ t. t.now) tags.entry)) }
+        ensures not_a_line { IsErrOf result MakeError.NotALine
+            ↔ (is_part (option_map (λ t. t.now) tags.entry) ≡ false) }
+        ensures kept { OnErr result (self.new ≡ self.old) }
     {
         if !is_a_part(tags) {
             return Err(MakeError::NotALine);

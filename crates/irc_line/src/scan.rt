@@ -1,10 +1,12 @@
 //! Steps through the text of a line.
 
-ghost use Rattle.std.specs.Prelude.{◌≡◌, ◌==◌, ◌<◌, ◌+◌, false, option_map, IfNone, IfSome, [], ◌∷◌, length, slice_get};
+ghost use Rattle.std.specs.Prelude.{◌≡◌, ◌==◌, ◌<◌, ◌+◌, false, option_map, IfNone, IfSome, []};
+ghost use Rattle.std.specs.Prelude.{◌∷◌, length, slice_get};
 ghost use Rattle.std.specs.List.{list_all, position, slice_split};
 ghost use Rattle.std.specs.Char.{is_ascii_alphabetic, is_ascii_digit};
 ghost use Rattle.irc_line.specs.Line.{is_command, is_line_byte, nick_of};
-ghost use Rattle.irc_line.specs.Reading.{trimmed, token, after_token, marked, after_marked, params_at};
+ghost use Rattle.irc_line.specs.Reading.{trimmed, token, after_token, marked, after_marked};
+ghost use Rattle.irc_line.specs.Reading.{params_at};
 
 use memchr::memchr;
 
@@ -29,7 +31,9 @@ pub fn first(byte: u8, text: &[u8]) -> Option<usize>
 /// What stands before the first such byte, and what stands behind it.
 pub fn split_byte(byte: u8, text: &[u8]) -> Option<(&[u8], &[u8])>
     ensures none { IfNone result (slice_split (λ b. b == byte) text.now ≡ text.now ∷ []) }
-    ensures some { IfSome result (λ x. slice_split (λ b. b == byte) text.now ≡ x.0.now ∷ slice_split (λ b. b == byte) x.1.now) }
+    ensures some { IfSome result
+        (λ x. slice_split (λ b. b == byte) text.now
+        ≡ x.0.now ∷ slice_split (λ b. b == byte) x.1.now) }
     ensures shorter { IfSome result (λ x. length x.0.now + 1 + length x.1.now ≡ length text.now) }
 {
     let end = first(byte, text)?;
@@ -92,7 +96,8 @@ pub fn is_a_command(text: &[u8]) -> bool
 /// The parameter at the front of what stands behind a command, and what stands behind it.
 pub fn next_param(text: &[u8]) -> Option<(&[u8], &[u8])>
     ensures none { IfNone result (params_at false text.now ≡ []) }
-    ensures some { IfSome result (λ x. params_at false text.now ≡ x.0.now ∷ params_at false x.1.now) }
+    ensures some { IfSome result
+        (λ x. params_at false text.now ≡ x.0.now ∷ params_at false x.1.now) }
     ensures shorter { IfSome result (λ x. length x.1.now < length text.now) }
 {
     let rest = trim(text);

@@ -1,9 +1,12 @@
 //! A stream of bytes, cut into lines.
 
-ghost use Rattle.std.specs.Prelude.{◌≡◌, ◌≤◌, ◌<◌, ◌+◌, ◌↔◌, ◌++◌, List, [], ◌∷◌, ℕ, IfOk, IfNone, IfSome, OnOk, OnErr, IsErrOf, IsTrue, length, drop, option_to_list};
+ghost use Rattle.std.specs.Prelude.{◌≡◌, ◌≤◌, ◌<◌, ◌+◌, ◌↔◌, ◌++◌, List, [], ◌∷◌, ℕ, IfOk, IfNone};
+ghost use Rattle.std.specs.Prelude.{IfSome, OnOk, OnErr, IsErrOf, IsTrue, length, drop};
+ghost use Rattle.std.specs.Prelude.{option_to_list};
 ghost use Rattle.irc_line.specs.Line.{Parts};
 ghost use Rattle.irc_line.specs.Reading.{line_of};
-ghost use Rattle.irc_line.specs.Lines.{HasNoLf, lines_of, rest_of, skipped_of, without_cr, is_skipped, is_too_long, line_limit, start, fed};
+ghost use Rattle.irc_line.specs.Lines.{HasNoLf, lines_of, rest_of, skipped_of, without_cr};
+ghost use Rattle.irc_line.specs.Lines.{is_skipped, is_too_long, line_limit, start, fed};
 
 use crate::OutOfMemory;
 use crate::line::Line;
@@ -13,7 +16,8 @@ use std::alloc::{AllocFailed, Allocator, Global};
 use std::marker::Model;
 use thiserror::Error;
 
-/// How many bytes may stand before LF. RFC 2812, section 2.3, allows 512 with CR LF; this limit is our own.
+/// How many bytes may stand before LF. RFC 2812, section 2.3, allows 512 with CR LF; this limit is
+/// our own.
 pub const LINE_LIMIT: usize = 16_384;
 
 /// Why a piece was not taken.
@@ -28,17 +32,17 @@ pub enum FeedError {
 }
 
 impl From<OutOfMemory> for FeedError {
-    ghost use Rattle.irc_line.specs.declared.splitter.FeedError.TheVariants.{OutOfMemory as the_memory_error};
+    ghost use Rattle.irc_line.specs.declared.splitter.FeedError.TheVariants as fault;
 
-    ghost from_gives = { λ _ e. e ≡ the_memory_error };
+    ghost from_gives = { λ _ e. e ≡ fault.OutOfMemory };
 
     fn from(_e: OutOfMemory) -> FeedError {
         FeedError::OutOfMemory
     }
 }
 
-/// Cuts a stream into lines, in whatever pieces it comes. A line ends at LF, and one CR before that is
-/// dropped (RFC 2812, section 2.3).
+/// Cuts a stream into lines, in whatever pieces it comes. A line ends at LF, and one CR before that
+/// is dropped (RFC 2812, section 2.3).
 #[derive(Drop)]
 pub struct Splitter<A: Allocator = Global> {
     // what stands behind the last LF
@@ -66,7 +70,8 @@ fn strip_cr(segment: &[u8]) -> &[u8]
     }
 }
 
-/// Whether somewhere more than `LINE_LIMIT` bytes stand without LF, once the piece stands behind the rest.
+/// Whether somewhere more than `LINE_LIMIT` bytes stand without LF, once the piece stands behind
+/// the rest.
 ///
 /// The last LF within reach is looked for, so that most of the piece is passed over unread.
 fn runs_over(rest: &[u8], piece: &[u8]) -> bool
@@ -92,7 +97,8 @@ fn read_segment<A: Allocator + Drop, B: Allocator>(
     segment: &[u8],
     out: &mut Vec<Line<A>, B>,
 ) -> Result<bool, OutOfMemory>
-    ensures added { OnOk result (out.new.items ≡ out.old.items ++ option_to_list (line_of (without_cr segment.now))) }
+    ensures added { OnOk result
+        (out.new.items ≡ out.old.items ++ option_to_list (line_of (without_cr segment.now))) }
     ensures skips { IfOk result (λ skips. skips ≡ is_skipped (without_cr segment.now)) }
     ensures err { OnErr result (out.new.items ≡ out.old.items) }
 {
@@ -106,8 +112,8 @@ fn read_segment<A: Allocator + Drop, B: Allocator>(
     }
 }
 
-/// Adds the lines that the bytes hold; answers what stands behind the last LF, and how many segments are
-/// skipped.
+/// Adds the lines that the bytes hold; answers what stands behind the last LF, and how many
+/// segments are skipped.
 fn read_lines<'a, A: Allocator + Copy, B: Allocator>(
     alloc: A,
     bytes: &'a [u8],
@@ -138,15 +144,18 @@ fn drop_front<A: Allocator>(bytes: &mut Vec<u8, A>, count: usize)
     bytes.truncate(bytes.len() - count);
 }
 
-/// Adds the line that the rest and the bytes before the first LF are together, if any; answers whether they
-/// are skipped. They may be put together in the rest.
+/// Adds the line that the rest and the bytes before the first LF are together, if any; answers
+/// whether they are skipped. They may be put together in the rest.
 fn read_first<A: Allocator + Copy, B: Allocator>(
     rest: &mut Vec<u8, A>,
     head: &[u8],
     out: &mut Vec<Line<A>, B>,
 ) -> Result<bool, OutOfMemory>
-    ensures added { OnOk result (out.new.items ≡ out.old.items ++ option_to_list (line_of (without_cr (rest.old.items ++ head.now)))) }
-    ensures skips { IfOk result (λ skips. skips ≡ is_skipped (without_cr (rest.old.items ++ head.now))) }
+    ensures added { OnOk result
+        (out.new.items
+        ≡ out.old.items ++ option_to_list (line_of (without_cr (rest.old.items ++ head.now)))) }
+    ensures skips { IfOk result
+        (λ skips. skips ≡ is_skipped (without_cr (rest.old.items ++ head.now))) }
     ensures err { OnErr result (out.new.items ≡ out.old.items) }
     ensures grown { (more : List ℕ) × (rest.new.items ≡ rest.old.items ++ more) }
 {
@@ -157,18 +166,20 @@ fn read_first<A: Allocator + Copy, B: Allocator>(
     read_segment(*rest.allocator(), rest, out)
 }
 
-/// Adds the lines that the rest and the piece hold, and leaves the new rest; answers how many segments are
-/// skipped. After an error more may stand behind the old rest and the old lines.
+/// Adds the lines that the rest and the piece hold, and leaves the new rest; answers how many
+/// segments are skipped. After an error more may stand behind the old rest and the old lines.
 fn read_on<A: Allocator + Copy, B: Allocator>(
     rest: &mut Vec<u8, A>,
     piece: &[u8],
     out: &mut Vec<Line<A>, B>,
 ) -> Result<u64, OutOfMemory>
     requires { HasNoLf rest.old.items }
-    ensures added { OnOk result (out.new.items ≡ out.old.items ++ lines_of (rest.old.items ++ piece.now)) }
+    ensures added { OnOk result
+        (out.new.items ≡ out.old.items ++ lines_of (rest.old.items ++ piece.now)) }
     ensures left { OnOk result (rest.new.items ≡ rest_of (rest.old.items ++ piece.now)) }
     ensures skips { IfOk result (λ skipped. skipped ≡ skipped_of (rest.old.items ++ piece.now)) }
-    ensures err_lines { OnErr result ((more : List Parts) × (out.new.items ≡ out.old.items ++ more)) }
+    ensures err_lines { OnErr result
+        ((more : List Parts) × (out.new.items ≡ out.old.items ++ more)) }
     ensures err_rest { OnErr result ((more : List ℕ) × (rest.new.items ≡ rest.old.items ++ more)) }
 {
     let Some((head, after)) = split_byte(b'\n', piece) else {
@@ -204,22 +215,24 @@ impl<A: Allocator> Splitter<A> {
 }
 
 impl<A: Allocator + Copy> Splitter<A> {
-    /// Takes a piece of what was received, however it was cut, and adds the lines that it completes to
-    /// `out`, in order. A line that is blank is dropped; another that is outside the grammar is skipped and
-    /// counted.
+    /// Takes a piece of what was received, however it was cut, and adds the lines that it completes
+    /// to `out`, in order. A line that is blank is dropped; another that is outside the grammar is
+    /// skipped and counted.
     ///
-    /// `TooLong` comes exactly where more than `LINE_LIMIT` bytes stand without LF, and before memory is
-    /// asked for. After an error splitter and list are unchanged. Each byte is searched for LF once, however
-    /// small the pieces are, and each line takes one allocation.
+    /// `TooLong` comes exactly where more than `LINE_LIMIT` bytes stand without LF, and before
+    /// memory is asked for. After an error splitter and list are unchanged. Each byte is searched
+    /// for LF once, however small the pieces are, and each line takes one allocation.
     pub fn feed<B: Allocator>(
         &mut self,
         piece: &[u8],
         out: &mut Vec<Line<A>, B>,
     ) -> Result<(), FeedError>
-        ensures lines { OnOk result (out.new.items ≡ out.old.items ++ lines_of (self.old.rest ++ piece.now)) }
+        ensures lines { OnOk result
+            (out.new.items ≡ out.old.items ++ lines_of (self.old.rest ++ piece.now)) }
         ensures left { OnOk result (self.new ≡ fed self.old piece.now) }
-        ensures too_long { IsErrOf result FeedError.TooLong ↔ IsTrue (is_too_long (self.old.rest ++ piece.now)) }
-        ensures err { OnErr result ((self.new ≡ self.old) × (out.new.items ≡ out.old.items)) }
+        ensures too_long { IsErrOf result FeedError.TooLong
+            ↔ IsTrue (is_too_long (self.old.rest ++ piece.now)) }
+        ensures kept { OnErr result ((self.new ≡ self.old) × (out.new.items ≡ out.old.items)) }
     {
         if runs_over(&self.rest, piece) {
             return Err(FeedError::TooLong);

@@ -1,10 +1,13 @@
 //! The text of a line.
 
-ghost use Rattle.std.specs.Prelude.{◌≡◌, ◌++◌, ◌∷◌, [], ℕ, List, false, option_map, OnOk, OnErr, map};
+ghost use Rattle.std.specs.Prelude.{◌≡◌, ◌++◌, ◌∷◌, [], ℕ, List, false, option_map, OnOk, OnErr};
+ghost use Rattle.std.specs.Prelude.{map};
 ghost use Rattle.std.specs.List.{list_any, flat_map};
 ghost use Rattle.irc_line.specs.Line.{is_space};
 ghost use Rattle.irc_line.specs.Reading.{params_at};
-ghost use Rattle.irc_line.specs.Writing.{is_word, param_text, marked_text, is_token, is_part, are_params};
+ghost use Rattle.irc_line.specs.Writing.{line_of_parts, written, is_word, param_text, marked_text};
+ghost use Rattle.irc_line.specs.Writing.{is_token, is_part};
+ghost use Rattle.irc_line.specs.Writing.{are_params};
 
 use crate::OutOfMemory;
 use crate::scan::{is_clean, next_param};
@@ -32,7 +35,8 @@ pub fn push_marked<A: Allocator>(
     part: Option<&[u8]>,
     out: &mut Vec<u8, A>,
 ) -> Result<(), OutOfMemory>
-    ensures ok { OnOk result (out.new.items ≡ out.old.items ++ marked_text mark (option_map (λ p. p.now) part.entry)) }
+    ensures ok { OnOk result
+        (out.new.items ≡ out.old.items ++ marked_text mark (option_map (λ p. p.now) part.entry)) }
     ensures err { OnErr result ((more : List ℕ) × (out.new.items ≡ out.old.items ++ more)) }
 {
     if let Some(part) = part {
@@ -57,7 +61,8 @@ fn push_param<A: Allocator>(param: &[u8], out: &mut Vec<u8, A>) -> Result<(), Ou
 
 /// Adds the parameters of what stands behind a command.
 pub fn push_params<A: Allocator>(text: &[u8], out: &mut Vec<u8, A>) -> Result<(), OutOfMemory>
-    ensures ok { OnOk result (out.new.items ≡ out.old.items ++ flat_map param_text (params_at false text.now)) }
+    ensures ok { OnOk result
+        (out.new.items ≡ out.old.items ++ flat_map param_text (params_at false text.now)) }
     ensures err { OnErr result ((more : List ℕ) × (out.new.items ≡ out.old.items ++ more)) }
 {
     let mut rest = text;
@@ -70,7 +75,9 @@ pub fn push_params<A: Allocator>(text: &[u8], out: &mut Vec<u8, A>) -> Result<()
 
 /// Adds these parameters.
 pub fn push_all<A: Allocator>(params: &[&[u8]], out: &mut Vec<u8, A>) -> Result<(), OutOfMemory>
-    ensures { OnOk result (out.new.items ≡ out.old.items ++ flat_map param_text (map (λ p. p.now) params.now)) }
+    ensures ok { OnOk result (out.new.items
+        ≡ out.old.items ++ flat_map param_text (map (λ p. p.now) params.now)) }
+    ensures err { OnErr result ((more : List ℕ) × (out.new.items ≡ out.old.items ++ more)) }
 {
     let mut rest = params;
     while let [param, after @ ..] = rest {
@@ -78,6 +85,49 @@ pub fn push_all<A: Allocator>(params: &[&[u8]], out: &mut Vec<u8, A>) -> Result<
         rest = after;
     }
     Ok(())
+}
+
+fn push_line<A: Allocator>(
+    tags: Option<&[u8]>,
+    source: Option<&[u8]>,
+    command: &[u8],
+    params: &[&[u8]],
+    out: &mut Vec<u8, A>,
+) -> Result<(), OutOfMemory>
+    ensures ok { OnOk result (out.new.items ≡ out.old.items
+        ++ written (line_of_parts (option_map (λ t. t.now) tags.entry)
+        (option_map (λ s. s.now) source.entry) command.now (map (λ p. p.now) params.now))) }
+    ensures err { OnErr result ((more : List ℕ) × (out.new.items ≡ out.old.items ++ more)) }
+{
+    push_marked(b'@', tags, out)?;
+    push_marked(b':', source, out)?;
+    out.extend_from_slice(command)?;
+    push_all(params, out)?;
+    out.extend_from_slice(b"\r\n")?;
+    Ok(())
+}
+
+/// Appends a line of these parts and CR LF, as [`Line::write`](crate::Line::write) does with a line
+/// in hand; no line is made. Whether the text is read as these parts is not asked (that is what
+/// [`Line::make`](crate::Line::make) tells). After an error `out` is unchanged.
+pub fn write_line<A: Allocator>(
+    tags: Option<&[u8]>,
+    source: Option<&[u8]>,
+    command: &[u8],
+    params: &[&[u8]],
+    out: &mut Vec<u8, A>,
+) -> Result<(), OutOfMemory>
+    ensures taken { OnOk result (out.new.items ≡ out.old.items
+        ++ written (line_of_parts (option_map (λ t. t.now) tags.entry)
+        (option_map (λ s. s.now) source.entry) command.now (map (λ p. p.now) params.now))) }
+    ensures kept { OnErr result (out.new.items ≡ out.old.items) }
+{
+    let len = out.len();
+    let done = push_line(tags, source, command, params, out);
+    if done.is_err() {
+        out.truncate(len);
+    }
+    done
 }
 
 /// How many bytes a part takes behind its mark, with a space.

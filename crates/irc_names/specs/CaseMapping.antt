@@ -1,4 +1,5 @@
--- When two names are one name (RFC 2812, section 2.2; CASEMAPPING of the isupport draft, section 3.1).
+-- When two names are one name (RFC 2812, section 2.2; CASEMAPPING of the isupport draft, section
+-- 3.1).
 use Rattle.std.specs.Prelude.{◌≡◌, ℕ, ◌==◌, List, [], ◌∷◌, map, if◌then◌else◌, codes}
 use Rattle.std.specs.Char.{to_ascii_lowercase}
 use Rattle.irc_names.specs.declared.case_mapping.CaseMapping.{CaseMapping}

@@ -1,6 +1,7 @@
--- Which nicks something is told of. RFC 2812, section 2.3.1, is narrower than what networks allow, so
--- this test is our own choice.
-use Rattle.std.specs.Prelude.{ℕ, Bool, false, ◌||◌, ◌&&◌, not, ◌==◌, nat_le, nat_lt, List, [], ◌∷◌, codes}
+-- Which nicks something is told of. RFC 2812, section 2.3.1, is narrower than what networks allow,
+-- so this test is our own choice.
+use Rattle.std.specs.Prelude.{ℕ, Bool, false, ◌||◌, ◌&&◌, not, ◌==◌, nat_le, nat_lt, List, [], ◌∷◌}
+use Rattle.std.specs.Prelude.{codes}
 use Rattle.std.specs.List.{list_any}
 use Rattle.std.specs.Char.{is_ascii_alphanumeric}
 

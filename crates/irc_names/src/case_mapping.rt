@@ -21,7 +21,8 @@ pub enum CaseMapping {
 }
 
 impl CaseMapping {
-    /// The byte that stands for `byte` in the key of a name. A key's own bytes stand for themselves.
+    /// The byte that stands for `byte` in the key of a name. A key's own bytes stand for
+    /// themselves.
     pub fn fold_byte(self, byte: u8) -> u8
         ensures { result ≡ key_byte self byte }
     {
@@ -32,7 +33,8 @@ impl CaseMapping {
         }
     }
 
-    /// The key of a name, as long as the name: what the name is compared by, and kept under in a map.
+    /// The key of a name, as long as the name: what the name is compared by, and kept under in a
+    /// map.
     pub fn key<A: Allocator>(self, alloc: A, name: &[u8]) -> Result<Vec<u8, A>, OutOfMemory>
         ensures { IfOk result (λ key. key.items ≡ key_of self name.now) }
     {
@@ -75,8 +77,8 @@ impl CaseMapping {
         }
     }
 
-    /// The order of a name's key and a key that is at hand, byte by byte, a shorter one first. The name is
-    /// folded on the way, so it needs no key of its own; takes no memory.
+    /// The order of a name's key and a key that is at hand, byte by byte, a shorter one first. The
+    /// name is folded on the way, so it needs no key of its own; takes no memory.
     pub fn order_to_key(self, name: &[u8], key: &[u8]) -> Ordering
         ensures { result ≡ slice_cmp nat_cmp (key_of self name.now) key.now }
     {

@@ -1,4 +1,5 @@
-//! Names of users and channels: when two are one name, their order, and which nicks something is told of.
+//! Names of users and channels: when two are one name, their order, and which nicks something is
+//! told of.
 #![tactic(auto)]
 
 mod case_mapping;
@@ -8,6 +9,3 @@ mod nick;
 pub use case_mapping::CaseMapping;
 pub use nick::is_nameable;
 pub use std::alloc::AllocError as OutOfMemory;
-
-#[cfg(test)]
-mod tests;

@@ -22,9 +22,10 @@ fn has_barred(nick: &[u8]) -> bool
     nick.iter().any(|byte| is_barred(*byte))
 }
 
-/// Whether something is told of this nick: it is not empty, begins with an ASCII letter, a digit, one of
-/// `` [ ] \ ` _ ^ { | } `` or a byte from 0x80 on, and holds no space, no byte below 0x20, no 0x7F, no `!`
-/// and no `@`. Our own choice: RFC 2812, section 2.3.1, allows fewer nicks than networks do.
+/// Whether something is told of this nick: it is not empty, begins with an ASCII letter, a digit,
+/// one of `` [ ] \ ` _ ^ { | } `` or a byte from 0x80 on, and holds no space, no byte below 0x20,
+/// no 0x7F, no `!` and no `@`. Our own choice: RFC 2812, section 2.3.1, allows fewer nicks than
+/// networks do.
 pub fn is_nameable(nick: &[u8]) -> bool
     ensures { result ≡ Rattle.irc_names.specs.Nick.is_nameable nick.now }
 {

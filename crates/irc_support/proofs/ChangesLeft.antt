@@ -1,5 +1,6 @@
 -- The changes of a mode text, and the parameters that they take.
-use Rattle.std.proofs.Common.{◌≡◌, ℕ, ◌≤◌, true, List, [], ◌++◌, length, drop, map, Option, Some, None, unwrap_or, append-nil, ◌∙◌, refl}
+use Rattle.std.proofs.Common.{◌≡◌, ℕ, ◌≤◌, true, List, [], ◌++◌, length, drop, map, Option, Some}
+use Rattle.std.proofs.Common.{None, unwrap_or, append-nil, ◌∙◌, refl}
 use Rattle.std.proofs.Math.Seq.{drop-append_seam}
 use Rattle.std.proofs.Math.ListN.{drop_of_length-le}
 use Rattle.std.proofs.lemmas.List.{length-map}
@@ -11,17 +12,27 @@ use Rattle.irc_support.specs.Tokens.{Token}
 use Rattle.irc_support.specs.ModeChanges.{changes, signed, with_params}
 
 -- `nth` gives the first of what stands from the place on, and leaves the rest
-nth-leaves : (params : List Text) (place : ℕ) (found : Option (Bor Text)) (left : List Text) → SkipsThenYields (YieldsFirstRef (λ rest. rest)) params place found left → YieldsFirstRef (λ rest. rest) (drop place params) found left
+nth-leaves : (params : List Text) (place : ℕ) (found : Option (Bor Text)) (left : List Text) →
+    SkipsThenYields (YieldsFirstRef (λ rest. rest)) params place found left →
+    YieldsFirstRef (λ rest. rest) (drop place params) found left
 nth-leaves params place None left ran =
-    let all : params ≡ map (λ p. p.now) ran.0 ++ ran.1.0 = rest_so_far (λ p. p.now) ran.0 params ran.1.0 ran.1.1 in
-    let passed : length params ≤ place = rw (all, ran.1.2.0, append-nil (map (λ p. p.now) ran.0), length-map ran.0 (λ p. p.now)) ran.2 in
+    let all : params ≡ map (λ p. p.now) ran.0 ++ ran.1.0 =
+    rest_so_far (λ p. p.now) ran.0 params ran.1.0 ran.1.1 in
+    let passed : length params ≤ place =
+    rw (all, ran.1.2.0, append-nil (map (λ p. p.now) ran.0), length-map ran.0 (λ p. p.now))
+    ran.2 in
     (drop_of_length-le params passed, ran.1.2.1)
 nth-leaves params place (Some text) left ran =
-    let all : params ≡ map (λ p. p.now) ran.0 ++ ran.1.0 = rest_so_far (λ p. p.now) ran.0 params ran.1.0 ran.1.1 in
+    let all : params ≡ map (λ p. p.now) ran.0 ++ ran.1.0 =
+    rest_so_far (λ p. p.now) ran.0 params ran.1.0 ran.1.1 in
     let passed : length (map (λ p. p.now) ran.0) ≡ place = length-map ran.0 (λ p. p.now) ∙ ran.2 in
     rw (← passed, all) (drop-append_seam (map (λ p. p.now) ran.0) ran.1.0) ∙ ran.1.2
 
-pub changes-nth : (settings : List Token) (params : List Text) (place : ℕ) (found : Option (Bor Text)) (left : List Text) (empty : Bor Text) → empty.now ≡ [] → SkipsThenYields (YieldsFirstRef (λ rest. rest)) params place found left → with_params settings (signed true (unwrap_or found empty).now) left ≡ changes settings (drop place params)
+pub changes-nth : (settings : List Token) (params : List Text) (place : ℕ)
+    (found : Option (Bor Text)) (left : List Text) (empty : Bor Text) → empty.now ≡ [] →
+    SkipsThenYields (YieldsFirstRef (λ rest. rest)) params place found left →
+    with_params settings (signed true (unwrap_or found empty).now) left
+    ≡ changes settings (drop place params)
 unfolding changes
 changes-nth settings params place None left empty is ran =
     let leaves = nth-leaves params place None left ran in

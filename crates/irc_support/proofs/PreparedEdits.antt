@@ -8,12 +8,24 @@ use Rattle.irc_support.specs.declared.tokens.Edit.{Edit}
 
 -- the edits do what the parameters do
 abbrev pub Prepares : {A : Type 0} → List (Edit A) → List Text → Type 0
-Prepares edits params = (settings : List Token) → fold edited settings edits ≡ fold after_param settings params
+Prepares edits params =
+    (settings : List Token) → fold edited settings edits ≡ fold after_param settings params
 
-pub Prepares-edit : {A : Type 0} (edits : List (Edit A)) (edit : Edit A) (params : List Text) (param : Text) → ((settings : List Token) → edited_if settings (Some edit) ≡ after_param settings param) → Prepares edits params → Prepares (edits ++ edit ∷ []) (params ++ param ∷ [])
+pub Prepares-edit : {A : Type 0} (edits : List (Edit A)) (edit : Edit A) (params : List Text)
+    (param : Text) →
+    ((settings : List Token) → edited_if settings (Some edit) ≡ after_param settings param) →
+    Prepares edits params → Prepares (edits ++ edit ∷ []) (params ++ param ∷ [])
 Prepares-edit edits edit params param says before settings =
-    rw (fold-append edited settings edits (edit ∷ []), fold-append after_param settings params (param ∷ []), before settings) (says (fold after_param settings params))
+    rw (
+      fold-append edited settings edits (edit ∷ []),
+      fold-append after_param settings params (param ∷ []),
+      before settings,
+    )
+    (says (fold after_param settings params))
 
-pub Prepares-skip : {A : Type 0} (edits : List (Edit A)) (params : List Text) (param : Text) → ((settings : List Token) → edited_if {A = A} settings None ≡ after_param settings param) → Prepares edits params → Prepares edits (params ++ param ∷ [])
+pub Prepares-skip : {A : Type 0} (edits : List (Edit A)) (params : List Text) (param : Text) →
+    ((settings : List Token) → edited_if {A = A} settings None ≡ after_param settings param) →
+    Prepares edits params → Prepares edits (params ++ param ∷ [])
 Prepares-skip edits params param says before settings =
-    rw (fold-append after_param settings params (param ∷ []), before settings) (says (fold after_param settings params))
+    rw (fold-append after_param settings params (param ∷ []), before settings)
+    (says (fold after_param settings params))

@@ -1,6 +1,7 @@
--- Name lists: the words of RPL_NAMREPLY, 353 (RFC 2812, section 5.1), as IRCv3 multi-prefix has them: all
--- symbols of a member stand before the nick.
-use Rattle.std.specs.Prelude.{ℕ, Bool, false, not, ◌==◌, List, length, map, filter, take_while, drop, is_some}
+-- Name lists: the words of RPL_NAMREPLY, 353 (RFC 2812, section 5.1), as IRCv3 multi-prefix has
+-- them: all symbols of a member stand before the nick.
+use Rattle.std.specs.Prelude.{ℕ, Bool, false, not, ◌==◌, List, length, map, filter, take_while}
+use Rattle.std.specs.Prelude.{drop, is_some}
 use Rattle.std.specs.List.{list_any, slice_split}
 use Rattle.std.specs.Option.{option_map_or}
 use Rattle.irc_support.specs.Text.{Text, cut_at}
@@ -8,14 +9,16 @@ use Rattle.irc_support.specs.Tokens.{Token}
 use Rattle.irc_support.specs.Ranking.{rank_of_symbol}
 use Rattle.irc_support.specs.Ranks.{ranks_that}
 
--- a member of a name list: the ranks whose symbols stand before the nick, highest first, and the nick
+-- a member of a name list: the ranks whose symbols stand before the nick, highest first, and the
+-- nick
 pub record Word : Type 0 where
   pub ranks : List ℕ
   pub nick : Text
 
 -- the texts between spaces
 abbrev pub words_between : Text → List Text
-words_between text = filter (λ (word : Text). not (length word == 0)) (slice_split (λ b. b == 32) text)
+words_between text =
+    filter (λ (word : Text). not (length word == 0)) (slice_split (λ b. b == 32) text)
 
 abbrev pub is_rank_symbol : List Token → ℕ → Bool
 is_rank_symbol settings b = is_some (rank_of_symbol settings b)
@@ -29,17 +32,21 @@ after_symbols settings word = drop (length (symbols_before settings word)) word
 
 -- whether one of these symbols shows the rank
 abbrev pub shows_rank : List Token → Text → ℕ → Bool
-shows_rank settings symbols rank = list_any (λ b. option_map_or (λ r. r == rank) (rank_of_symbol settings b) false) symbols
+shows_rank settings symbols rank =
+    list_any (λ b. option_map_or (λ r. r == rank) (rank_of_symbol settings b) false) symbols
 
--- a word taken apart: the ranks whose symbols stand at its front, highest first, and what follows these
+-- a word taken apart: the ranks whose symbols stand at its front, highest first, and what follows
+-- these
 abbrev pub split_word : List Token → Text → List ℕ × Text
-split_word settings word = (ranks_that (shows_rank settings (symbols_before settings word)), after_symbols settings word)
+split_word settings word =
+    (ranks_that (shows_rank settings (symbols_before settings word)), after_symbols settings word)
 
 -- the words of the last parameter of a 353, taken apart
 unfoldable pub split_words : List Token → Text → List (List ℕ × Text)
 split_words settings text = map (split_word settings) (words_between text)
 
--- the member that such a word names; a nick ends before its first `!`, where the word has user and host
+-- the member that such a word names; a nick ends before its first `!`, where the word has user and
+-- host
 abbrev pub member_of : List ℕ × Text → Word
 member_of w = record { ranks = w.0; nick = (cut_at 33 w.1).0 }
 

@@ -1,5 +1,6 @@
 -- A set of ranks as a number of 16 bits, where bit r stands for rank r; nothing is lost.
-use Rattle.std.specs.Prelude.{◌≡◌, ℕ, suc, zero, ◌+◌, ◌*◌, ◌/◌, ◌%◌, ◌^◌, ◌<◌, Bool, true, false, ◌==◌, cond, List, [], ◌∷◌, filter, refl}
+use Rattle.std.specs.Prelude.{◌≡◌, ℕ, suc, zero, ◌+◌, ◌*◌, ◌/◌, ◌%◌, ◌^◌, ◌<◌, Bool, true, false}
+use Rattle.std.specs.Prelude.{◌==◌, cond, List, [], ◌∷◌, filter, refl}
 use Rattle.std.specs.List.{range_with_len}
 use Rattle.std.specs.Int.{bit_at}
 use Rattle.std.proofs.Common.{sym, subst, ◌∙◌, arith}
@@ -31,11 +32,13 @@ halved : (n a : ℕ) → n / 2 ^ (a + 1) ≡ n / 2 ^ a / 2
 halved n a = rw (next_power a) (sym (div-div-eq-div-mul n (2 ^ a) 2))
 
 -- with q the number from bit a on, and rest told of the bits above a
-told : (b : Bool) (p q rest : ℕ) → (q % 2 == 1) ≡ b → rest ≡ q / 2 * (p * 2) → (cond b (p + rest) rest) ≡ q * p
+told : (b : Bool) (p q rest : ℕ) → (q % 2 == 1) ≡ b → rest ≡ q / 2 * (p * 2) →
+    (cond b (p + rest) rest) ≡ q * p
 told true p q rest e r = rw r (odd p q (q / 2) (grind (arith, nat_tests)))
 told false p q rest e r = rw r (even p q (q / 2) (grind (arith, nat_tests)))
 
-bits_of-cond : (b : Bool) (a : ℕ) (ranks : List ℕ) → bits_of (cond b (a ∷ ranks) ranks) ≡ cond b (2 ^ a + bits_of ranks) (bits_of ranks)
+bits_of-cond : (b : Bool) (a : ℕ) (ranks : List ℕ) →
+    bits_of (cond b (a ∷ ranks) ranks) ≡ cond b (2 ^ a + bits_of ranks) (bits_of ranks)
 bits_of-cond true a ranks = refl
 bits_of-cond false a ranks = refl
 
@@ -45,8 +48,10 @@ bits_of-ones_from n (suc c) a small =
     let twice : n / 2 ^ a < 2 ^ c * 2 = subst (λ (x : ℕ). n / 2 ^ a < x) (pow-suc 2 c) small in
     let below : n / 2 ^ (a + 1) < 2 ^ c = rw (halved n a) (omega arith) in
     let above = bits_of-ones_from n c (a + 1) below in
-    let rest : bits_of (ones_from n (a + 1) c) ≡ n / 2 ^ a / 2 * (2 ^ a * 2) = above ∙ rw (halved n a, next_power a) refl in
-    bits_of-cond (bit_at n a == 1) a (ones_from n (a + 1) c) ∙ told (bit_at n a == 1) (2 ^ a) (n / 2 ^ a) (bits_of (ones_from n (a + 1) c)) refl rest
+    let rest : bits_of (ones_from n (a + 1) c) ≡ n / 2 ^ a / 2 * (2 ^ a * 2) =
+    above ∙ rw (halved n a, next_power a) refl in
+    bits_of-cond (bit_at n a == 1) a (ones_from n (a + 1) c)
+    ∙ told (bit_at n a == 1) (2 ^ a) (n / 2 ^ a) (bits_of (ones_from n (a + 1) c)) refl rest
 
 small_enough : (n : ℕ) → n < 2 ^ 16 → n / 2 ^ 0 < 2 ^ rank_count
 unfolding rank_count
@@ -54,4 +59,5 @@ small_enough n small = rw (div-one n) small
 
 pub bits_of-ranks_at_bits : (n : ℕ) → n < 2 ^ 16 → bits_of (ranks_at_bits n) ≡ n
 unfolding ranks_that
-bits_of-ranks_at_bits n small = bits_of-ones_from n rank_count 0 (small_enough n small) ∙ rw (div-one n) (omega arith)
+bits_of-ranks_at_bits n small =
+    bits_of-ones_from n rank_count 0 (small_enough n small) ∙ rw (div-one n) (omega arith)

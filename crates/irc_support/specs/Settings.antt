@@ -1,5 +1,6 @@
 -- How settings read names: CASEMAPPING and CHANTYPES (isupport draft, sections 3.1 and 3.5).
-use Rattle.std.specs.Prelude.{ℕ, Bool, false, ◌||◌, ◌&&◌, not, ◌==◌, if◌then◌else◌, List, [], ◌∷◌, unwrap_or, codes}
+use Rattle.std.specs.Prelude.{ℕ, Bool, false, ◌||◌, ◌&&◌, not, ◌==◌, if◌then◌else◌, List, [], ◌∷◌}
+use Rattle.std.specs.Prelude.{unwrap_or, codes}
 use Rattle.std.specs.List.{list_any}
 use Rattle.std.specs.Str.{bytes_eq}
 use Rattle.irc_names.specs.declared.case_mapping.CaseMapping.{CaseMapping}
@@ -17,7 +18,8 @@ mapping_named name =
 
 -- the mapping under these settings; without the token it is rfc1459
 unfoldable pub mapping_of : List Token → CaseMapping
-mapping_of settings = mapping_named (unwrap_or (value_of settings (codes "CASEMAPPING")) (codes "rfc1459"))
+mapping_of settings =
+    mapping_named (unwrap_or (value_of settings (codes "CASEMAPPING")) (codes "rfc1459"))
 
 -- what a name is compared by
 abbrev pub key_by : List Token → Text → Text
@@ -31,7 +33,10 @@ channel_types settings = unwrap_or (value_of settings (codes "CHANTYPES")) (code
 abbrev pub is_outside_channel : ℕ → Bool
 is_outside_channel b = b == 32 || b == 44 || b == 7
 
--- Whether this is a channel's name. A name that begins with a colon can't be a parameter of its own.
+-- Whether this is a channel's name. A name that begins with a colon can't be a parameter of its
+-- own.
 unfoldable pub is_channel : List Token → Text → Bool
 is_channel settings [] = false
-is_channel settings (b ∷ name) = has_byte (channel_types settings) b && not (b == 58) && not (list_any is_outside_channel (b ∷ name))
+is_channel settings (b ∷ name) =
+    has_byte (channel_types settings) b && not (b == 58)
+    && not (list_any is_outside_channel (b ∷ name))

@@ -1,5 +1,7 @@
--- How tokens, modes and members are written, and which of them can be: what is written is read back.
-use Rattle.std.specs.Prelude.{⊤, ◌≡◌, ℕ, Bool, true, false, ◌&&◌, ◌||◌, not, ◌==◌, IsTrue, List, [], ◌∷◌, ◌++◌, map, take, Option, Some, None, is_some}
+-- How tokens, modes and members are written, and which of them can be: what is written is read
+-- back.
+use Rattle.std.specs.Prelude.{⊤, ◌≡◌, ℕ, Bool, true, false, ◌&&◌, ◌||◌, not, ◌==◌, IsTrue, List, []}
+use Rattle.std.specs.Prelude.{◌∷◌, ◌++◌, map, take, Option, Some, None, is_some}
 use Rattle.std.specs.List.{AllByRecursion, list_any, filter_map, join_with_byte}
 use Rattle.std.specs.Str.{bytes_eq}
 use Rattle.irc_names.specs.Nick.{is_nameable}
@@ -13,7 +15,8 @@ use Rattle.irc_support.specs.NamesReply.{Word, words_between, split_word}
 
 -- ---- tokens (005 RPL_ISUPPORT; isupport draft, section 2)
 
--- whether this can be a token's name: it is not empty, begins with no minus and holds no equals sign
+-- whether this can be a token's name: it is not empty, begins with no minus and holds no equals
+-- sign
 abbrev pub is_token_name : Text → Bool
 is_token_name [] = false
 is_token_name (b ∷ text) = not (b == 45) && not (has_byte (b ∷ text) 61)
@@ -21,7 +24,9 @@ is_token_name (b ∷ text) = not (b == 45) && not (has_byte (b ∷ text) 61)
 -- each token has such a name, and no two have the same
 abbrev pub AreTokens : List Token → Type 0
 AreTokens [] = ⊤
-AreTokens (t ∷ settings) = IsTrue (is_token_name t.0) × (list_any (λ (u : Token). bytes_eq t.0 u.0) settings ≡ false) × AreTokens settings
+AreTokens (t ∷ settings) =
+    IsTrue (is_token_name t.0) × (list_any (λ (u : Token). bytes_eq t.0 u.0) settings ≡ false) ×
+    AreTokens settings
 
 -- a token as it came: its name, and behind `=` its value, where it has one
 abbrev pub token_text : Token → Text
@@ -33,13 +38,17 @@ token_text (name, Some value) = name ++ 61 ∷ value
 abbrev pub is_sign : ℕ → Bool
 is_sign b = b == 43 || b == 45
 
--- a letter and its parameter: the letter is no sign, and it has a parameter exactly where its kind takes one
+-- a letter and its parameter: the letter is no sign, and it has a parameter exactly where its kind
+-- takes one
 abbrev pub IsWrittenMode : List Token → ℕ × Option Text → Type 0
-IsWrittenMode settings m = (is_sign m.0 ≡ false) × (is_some m.1 ≡ takes_parameter (kind_of settings m.0) true)
+IsWrittenMode settings m =
+    (is_sign m.0 ≡ false) × (is_some m.1 ≡ takes_parameter (kind_of settings m.0) true)
 
 -- the letters of modes behind a plus, and their parameters
 abbrev pub mode_params : List (ℕ × Option Text) → List Text
-mode_params modes = (43 ∷ map (λ (m : ℕ × Option Text). m.0) modes) ∷ filter_map (λ (m : ℕ × Option Text). m.1) modes
+mode_params modes =
+    (43 ∷ map (λ (m : ℕ × Option Text). m.0) modes)
+    ∷ filter_map (λ (m : ℕ × Option Text). m.1) modes
 
 -- the change that sets a mode
 abbrev pub set_change : ℕ × Option Text → ChangeParts
@@ -77,4 +86,5 @@ with_highest settings word = highest_text settings (split_word settings word)
 
 -- the words of a name list, each so, with one space between them
 abbrev pub names_with_highest : List Token → Text → Text
-names_with_highest settings text = join_with_byte 32 (map (with_highest settings) (words_between text))
+names_with_highest settings text =
+    join_with_byte 32 (map (with_highest settings) (words_between text))

@@ -11,8 +11,8 @@ pub fn place_of(byte: u8, text: &[u8]) -> Option<usize>
     text.iter().position(|c| *c == byte)
 }
 
-/// What stands before the first such byte, else the whole text; and, where there is one, what stands
-/// behind it.
+/// What stands before the first such byte, else the whole text; and, where there is one, what
+/// stands behind it.
 pub fn cut(byte: u8, text: &[u8]) -> (&[u8], Option<&[u8]>)
     ensures before { result.0.now ≡ (cut_at byte text.now).0 }
     ensures behind { option_map (λ rest. rest.now) result.1 ≡ (cut_at byte text.now).1 }

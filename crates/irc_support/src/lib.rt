@@ -1,4 +1,5 @@
-//! What a network says of itself by 005 RPL_ISUPPORT, and what it makes of mode changes and name lists.
+//! What a network says of itself by 005 RPL_ISUPPORT, and what it makes of mode changes and name
+//! lists.
 #![tactic(auto)]
 
 mod chan_modes;
@@ -13,13 +14,11 @@ mod ranks;
 mod support;
 mod tokens;
 
+pub use cuts::cut;
 pub use kind::Kind;
 pub use mode_changes::{Change, ModeChanges, changes};
-pub use name_list::{NameWords, Names};
+pub use name_list::{NameWords, Names, next_word};
 pub use names_reply::{name_words, names};
-pub use ranks::Ranks;
+pub use ranks::{RankIter, Ranks};
 pub use std::alloc::AllocError as OutOfMemory;
 pub use support::Support;
-
-#[cfg(test)]
-mod tests;

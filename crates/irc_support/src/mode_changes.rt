@@ -19,7 +19,8 @@ pub struct Change<'a> {
     pub plus: bool,
     /// The letter, as it came; it may be one that the network did not name.
     pub letter: u8,
-    /// What the letter took: the next parameter, word or not, where its kind takes one and one was left.
+    /// What the letter took: the next parameter, word or not, where its kind takes one and one was
+    /// left.
     pub param: Option<&'a [u8]>,
 }
 
@@ -102,13 +103,14 @@ fn changes_from<'a, A: Allocator, B: Allocator>(
     changes_of(support, letters, params)
 }
 
-/// The changes that a MODE or a 324 line lists, read by these settings: none for any other line. It takes
-/// no memory.
+/// The changes that a MODE or a 324 line lists, read by these settings: none for any other line. It
+/// takes no memory.
 ///
 /// MODE has its letters in parameter 1, 324 in parameter 2, and what they take behind it, as in
-/// `:s MODE #c +lo-v 5 bob eve` (where the letters stand in a 324 is our own choice). The sign is plus until
-/// the text says otherwise. Prefix letters and kinds A and B take a parameter always, C where it is set, D
-/// and unknown letters never. A letter that finds no parameter left comes without one.
+/// `:s MODE #c +lo-v 5 bob eve` (where the letters stand in a 324 is our own choice). The sign is
+/// plus until the text says otherwise. Prefix letters and kinds A and B take a parameter always, C
+/// where it is set, D and unknown letters never. A letter that finds no parameter left comes
+/// without one.
 pub fn changes<'a, A: Allocator, B: Allocator>(
     support: &'a Support<A>,
     line: &'a Line<B>,

@@ -94,9 +94,11 @@ impl<'a, A: Allocator> Iterator for Names<'a, A> {
     }
 }
 
-/// The first word of a text, and what stands behind it.
-fn next_word(text: &[u8]) -> Option<(&[u8], &[u8])>
-    ensures { MatchOption result (words_between text.now ≡ []) (λ w. words_between text.now ≡ w.0.now ∷ words_between w.1.now) }
+/// The first word of a text of words with spaces between, and what stands behind it; `None` where
+/// there is no word left.
+pub fn next_word(text: &[u8]) -> Option<(&[u8], &[u8])>
+    ensures { MatchOption result (words_between text.now ≡ [])
+        (λ w. words_between text.now ≡ w.0.now ∷ words_between w.1.now) }
 {
     let mut left = text;
     while !left.is_empty() {

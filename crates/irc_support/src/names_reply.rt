@@ -8,12 +8,13 @@ use crate::name_list::{NameWords, Names};
 use irc_line::Line;
 use std::alloc::Allocator;
 
-/// The words of a 353 line, taken apart by these settings: none for any other line. It takes no memory.
+/// The words of a 353 line, taken apart by these settings: none for any other line. It takes no
+/// memory.
 ///
-/// The words stand in parameter 3 with spaces between, as in `:s 353 Me = #c :Me @+bob +eve!e@h` (that they
-/// stand in this place is our own choice). A word is the symbols of `PREFIX` at its front, all of which are
-/// read (IRCv3 multi-prefix), and what follows them as it stands: a nick, or with userhost-in-names
-/// `nick!user@host`. A word of symbols alone comes with an empty rest.
+/// The words stand in parameter 3 with spaces between, as in `:s 353 Me = #c :Me @+bob +eve!e@h`
+/// (that they stand in this place is our own choice). A word is the symbols of `PREFIX` at its
+/// front, all of which are read (IRCv3 multi-prefix), and what follows them as it stands: a nick,
+/// or with userhost-in-names `nick!user@host`. A word of symbols alone comes with an empty rest.
 #[tactic(auto, unfolding(crate::specs::NamesReply::split_words))]
 pub fn name_words<'a, A: Allocator, B: Allocator>(
     support: &'a Support<A>,
@@ -28,10 +29,11 @@ pub fn name_words<'a, A: Allocator, B: Allocator>(
     }
 }
 
-/// The members that a 353 line names, read by these settings: none for any other line. It takes no memory.
+/// The members that a 353 line names, read by these settings: none for any other line. It takes no
+/// memory.
 ///
-/// They are those of [`name_words`], each with its nick alone, which ends before the first `!`. A word of
-/// symbols alone comes with an empty nick.
+/// They are those of [`name_words`], each with its nick alone, which ends before the first `!`. A
+/// word of symbols alone comes with an empty nick.
 #[tactic(auto, unfolding(crate::specs::NamesReply::words))]
 pub fn names<'a, A: Allocator, B: Allocator>(
     support: &'a Support<A>,

@@ -1,6 +1,7 @@
 //! The ranks that `PREFIX` names (isupport draft, section 3.14).
 
-ghost use Rattle.std.specs.Prelude.{◌≡◌, ◌<◌, ◌≤◌, ◌==◌, ℕ, List, ◌∷◌, IfNone, IfSome, length, option_map, position, slice_get, take};
+ghost use Rattle.std.specs.Prelude.{◌≡◌, ◌<◌, ◌≤◌, ◌==◌, ℕ, List, ◌∷◌, IfNone, IfSome, length};
+ghost use Rattle.std.specs.Prelude.{option_map, position, slice_get, take};
 ghost use Rattle.std.specs.List.{list_all};
 ghost use Rattle.std.specs.Char.{is_ascii_alphabetic};
 ghost use Rattle.irc_support.specs.Text.{is_distinct};
@@ -26,7 +27,8 @@ impl Model for Prefix {
 
     ghost Value = { Ranking };
 
-    ghost view = { λ p. record { letters = take p.count p.letters; symbols = take p.count p.symbols } };
+    ghost view = { λ p.
+        record { letters = take p.count p.letters; symbols = take p.count p.symbols } };
 
     ghost invariant = { λ p. p.count ≤ 16 };
 }
@@ -73,7 +75,8 @@ fn is_a_ranking(letters: &[u8], symbols: &[u8]) -> bool
         && are_distinct(symbols)
 }
 
-/// What stands behind the byte that a text begins with; `None` where it does not begin with this byte.
+/// What stands behind the byte that a text begins with; `None` where it does not begin with this
+/// byte.
 fn behind(byte: u8, text: &[u8]) -> Option<&[u8]>
     ensures found { IfSome result (λ rest. text.now ≡ byte ∷ rest.now) }
     ensures none { IfNone result ((rest : List ℕ) → text.now ≡ byte ∷ rest → ⊥) }
@@ -86,7 +89,8 @@ fn behind(byte: u8, text: &[u8]) -> Option<&[u8]>
 
 /// The letters and the symbols of a value of the form `(letters)symbols`, where it spells ranks.
 fn halves(value: &[u8]) -> Option<(&[u8], &[u8])>
-    ensures value { option_map (λ h. record { letters = h.0.now; symbols = h.1.now }) result ≡ spelled_by value.now }
+    ensures value { option_map (λ h. record { letters = h.0.now; symbols = h.1.now }) result
+        ≡ spelled_by value.now }
     ensures fits { IfSome result (λ h. (length h.0.now ≤ 16) × (length h.1.now ≡ length h.0.now)) }
 {
     let rest = behind(b'(', value)?;
@@ -121,8 +125,8 @@ impl Prefix {
         }
     }
 
-    /// The ranks that a value of `PREFIX` names: none where it is empty, and `(ov)@+` where it has another
-    /// form or names more than 16.
+    /// The ranks that a value of `PREFIX` names: none where it is empty, and `(ov)@+` where it has
+    /// another form or names more than 16.
     pub fn read(value: &[u8]) -> Prefix
         ensures { result ≡ ranking_in value.now }
     {

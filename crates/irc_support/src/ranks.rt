@@ -1,12 +1,14 @@
 //! Sets of ranks.
 
-ghost use Rattle.std.specs.Prelude.{◌≡◌, ◌<◌, ◌≤◌, ◌||◌, ◌&&◌, ◌==◌, not, [], ◌↔◌, ℕ, IsNone, IfSome, IsTrue, All, slice_get};
+ghost use Rattle.std.specs.Prelude.{◌≡◌, ◌<◌, ◌≤◌, ◌||◌, ◌&&◌, ◌==◌, not, [], ◌↔◌, ℕ, IsNone};
+ghost use Rattle.std.specs.Prelude.{IfSome, IsTrue, MatchOption, All, ◌∷◌, slice_get};
+ghost use Rattle.std.specs.Iterator.{YieldsFirst, item_count};
 ghost use Rattle.irc_support.specs.Ranks.{ranks_that, has_rank};
 
 use std::marker::Model;
 
-/// A set of ranks, from 0, the highest, to 15. A rank is what a letter of `PREFIX` gives to a member of a
-/// channel, as `o` to an operator.
+/// A set of ranks, from 0, the highest, to 15. A rank is what a letter of `PREFIX` gives to a
+/// member of a channel, as `o` to an operator.
 #[derive(Clone, Copy, Debug, PartialEq, Eq)]
 pub struct Ranks {
     // bit r stands for rank r
@@ -77,5 +79,51 @@ impl Ranks {
         Ranks {
             bits: self.bits & !(1 << rank),
         }
+    }
+
+    /// The ranks of the set, one after another, highest first.
+    pub fn iter(self) -> RankIter
+        ensures { result ≡ self }
+    {
+        RankIter { left: self }
+    }
+
+    /// The highest rank, and the set without it; `None` where the set is empty.
+    fn split_top(self) -> Option<(u8, Ranks)>
+        ensures { MatchOption result (self ≡ []) (λ s. self ≡ s.0 ∷ s.1) }
+    {
+        if self.bits == 0 {
+            return None;
+        }
+        let top = self.bits.trailing_zeros() as u8;
+        Some((top, self.without(top)))
+    }
+}
+
+/// The ranks of a set that are left, highest first. See [`Ranks::iter`].
+#[derive(Clone, Drop)]
+pub struct RankIter {
+    left: Ranks,
+}
+
+impl Model for RankIter {
+    ghost use Rattle.std.specs.Prelude.{List, ℕ};
+
+    ghost Value = { List ℕ };
+
+    ghost view = { λ s. s.left };
+}
+
+impl Iterator for RankIter {
+    type Item = u8;
+
+    ghost next_gives = { YieldsFirst (λ left. left) };
+
+    ghost remaining = { item_count (λ left. left) };
+
+    fn next(&mut self) -> Option<u8> {
+        let (top, left) = self.left.split_top()?;
+        self.left = left;
+        Some(top)
     }
 }

@@ -1,6 +1,7 @@
 //! The settings of a network.
 
-ghost use Rattle.std.specs.Prelude.{◌≡◌, ◌<◌, ◌==◌, List, [], false, IfSome, IsNone, IsOk, IsOkAnd, OnErr, OnOk, codes, length, option_map, slice_get};
+ghost use Rattle.std.specs.Prelude.{◌≡◌, ◌<◌, ◌==◌, List, [], false, IfSome, IsNone, IsOk, IsOkAnd};
+ghost use Rattle.std.specs.Prelude.{OnErr, OnOk, codes, length, option_map, slice_get};
 ghost use Rattle.std.specs.List.{list_any};
 ghost use Rattle.irc_line.specs.Line.{has_command};
 ghost use Rattle.irc_support.specs.Text.{has_byte};
@@ -8,7 +9,8 @@ ghost use Rattle.irc_support.specs.Tokens.{Token};
 ghost use Rattle.irc_support.specs.Edits.{tokens_in};
 ghost use Rattle.irc_support.specs.Ranking.{ranking_of, rank_of_letter, rank_of_symbol, symbol_of};
 ghost use Rattle.irc_support.specs.ChanModes.{kind_of};
-ghost use Rattle.irc_support.specs.Settings.{mapping_named, mapping_of, is_channel, is_outside_channel};
+ghost use Rattle.irc_support.specs.Settings.{mapping_named, mapping_of, is_channel};
+ghost use Rattle.irc_support.specs.Settings.{is_outside_channel};
 ghost use Rattle.irc_support.specs.Ranks.{ranks_that};
 ghost use Rattle.irc_support.specs.NamesReply.{shows_rank, symbols_before, after_symbols};
 ghost use Rattle.irc_support.specs.Line.{settings_after};
@@ -48,7 +50,9 @@ impl<A: Allocator> Model for Support<A> {
 
     ghost view = { λ s. tokens_in s.tokens.entries };
 
-    ghost invariant = { λ s. (s.prefix ≡ ranking_of (tokens_in s.tokens.entries)) × (s.mapping ≡ mapping_of (tokens_in s.tokens.entries)) };
+    ghost invariant = { λ s.
+        (s.prefix ≡ ranking_of (tokens_in s.tokens.entries)) ×
+        (s.mapping ≡ mapping_of (tokens_in s.tokens.entries)) };
 }
 
 fn mapping_by_name(name: &[u8]) -> CaseMapping
@@ -99,8 +103,9 @@ impl<A: Allocator + Copy> Support<A> {
     }
 
     /// Takes a 005 line. Its tokens are the parameters between the first and the last: `NAME` and
-    /// `NAME=value` set, `-NAME` removes, and one without a name says nothing (our own choice). Any other
-    /// line changes nothing and takes no memory. Want of memory comes before the first change.
+    /// `NAME=value` set, `-NAME` removes, and one without a name says nothing (our own choice). Any
+    /// other line changes nothing and takes no memory. Want of memory comes before the first
+    /// change.
     pub fn take<B: Allocator>(&mut self, line: &Line<B>) -> Result<(), OutOfMemory>
         ensures taken { OnOk result (self.new ≡ settings_after self.old line.now) }
         ensures kept { OnErr result (self.new ≡ self.old) }
@@ -126,8 +131,9 @@ impl<A: Allocator> Support<A> {
         self.tokens.len()
     }
 
-    /// The name of the token at this place, counted from 0, and its value: `None` where no `=` stood behind
-    /// the name, which is read as an empty value and written as it came. `None` from `token_count` on.
+    /// The name of the token at this place, counted from 0, and its value: `None` where no `=`
+    /// stood behind the name, which is read as an empty value and written as it came. `None` from
+    /// `token_count` on.
     pub fn token(&self, place: usize) -> Option<(&[u8], Option<&[u8]>)>
         ensures { option_map shown_token result ≡ slice_get self.now place }
     {
@@ -138,17 +144,17 @@ impl<A: Allocator> Support<A> {
         }
     }
 
-    /// What `CASEMAPPING` says (isupport draft, section 3.1): without it `rfc1459`, and `ascii` for a
-    /// mapping that is not known (our own choice).
+    /// What `CASEMAPPING` says (isupport draft, section 3.1): without it `rfc1459`, and `ascii` for
+    /// a mapping that is not known (our own choice).
     pub fn mapping(&self) -> CaseMapping
         ensures { result ≡ mapping_of self.now }
     {
         self.mapping
     }
 
-    /// The rank that a letter of `PREFIX` gives, from 0, the highest, to 15 (isupport draft, section 3.14).
-    /// `PREFIX` names no rank where it is empty, and `(ov)@+` where it is not there, is of another form or
-    /// names more than 16 ranks (our own choice).
+    /// The rank that a letter of `PREFIX` gives, from 0, the highest, to 15 (isupport draft,
+    /// section 3.14). `PREFIX` names no rank where it is empty, and `(ov)@+` where it is not there,
+    /// is of another form or names more than 16 ranks (our own choice).
     pub fn rank_of_letter(&self, letter: u8) -> Option<u8>
         ensures value { result ≡ rank_of_letter self.now letter }
         ensures small { IfSome result (λ rank. rank < 16) }
@@ -171,10 +177,11 @@ impl<A: Allocator> Support<A> {
         self.prefix.symbol(rank)
     }
 
-    /// The ranks whose symbols stand at the front of a word of a name list, and what stands behind the
-    /// symbols: of `@+bob!b@h` with `PREFIX=(ov)@+` the ranks 0 and 1, and `bob!b@h`.
+    /// The ranks whose symbols stand at the front of a word of a name list, and what stands behind
+    /// the symbols: of `@+bob!b@h` with `PREFIX=(ov)@+` the ranks 0 and 1, and `bob!b@h`.
     pub fn split_symbols<'b>(&self, word: &'b [u8]) -> (Ranks, &'b [u8])
-        ensures ranks { result.0 ≡ ranks_that (shows_rank self.now (symbols_before self.now word.now)) }
+        ensures ranks { result.0
+            ≡ ranks_that (shows_rank self.now (symbols_before self.now word.now)) }
         ensures rest { result.1.now ≡ after_symbols self.now word.now }
     {
         let mut ranks = Ranks::none();
@@ -189,9 +196,9 @@ impl<A: Allocator> Support<A> {
         (ranks, rest)
     }
 
-    /// The kind of a mode letter: a letter of `PREFIX`, else the list of `CHANMODES` that it stands in
-    /// (isupport draft, section 3.3). Without `CHANMODES` the lists are `b,k,l,imnpst`; missing lists are
-    /// empty, and further ones say nothing (our own choices).
+    /// The kind of a mode letter: a letter of `PREFIX`, else the list of `CHANMODES` that it stands
+    /// in (isupport draft, section 3.3). Without `CHANMODES` the lists are `b,k,l,imnpst`; missing
+    /// lists are empty, and further ones say nothing (our own choices).
     pub fn kind(&self, letter: u8) -> Kind
         ensures { result ≡ kind_of self.now letter }
     {
@@ -202,9 +209,9 @@ impl<A: Allocator> Support<A> {
         kind_by_lists(lists, letter)
     }
 
-    /// Whether this is a channel's name: it begins with a byte of `CHANTYPES` (isupport draft, section 3.5),
-    /// `#` or `&` without it, not with a colon, and holds no space, no comma and no byte 7 (RFC 2812,
-    /// section 1.3).
+    /// Whether this is a channel's name: it begins with a byte of `CHANTYPES` (isupport draft,
+    /// section 3.5), `#` or `&` without it, not with a colon, and holds no space, no comma and no
+    /// byte 7 (RFC 2812, section 1.3).
     #[tactic(auto, unfolding(crate::specs::Settings::is_channel))]
     pub fn is_channel(&self, name: &[u8]) -> bool
         ensures { result ≡ is_channel self.now name.now }

@@ -1,6 +1,7 @@
 //! The tokens of 005 RPL_ISUPPORT in a table, in their order (isupport draft, section 2).
 
-ghost use Rattle.std.specs.Prelude.{◌≡◌, ◌+◌, ◌<◌, ◌≤◌, ℕ, List, IfOk, option_map, fold, unwrap_or, vec_len};
+ghost use Rattle.std.specs.Prelude.{◌≡◌, ◌+◌, ◌<◌, ◌≤◌, ℕ, List, IfOk, option_map, fold, unwrap_or};
+ghost use Rattle.std.specs.Prelude.{vec_len};
 ghost use Rattle.irc_support.specs.Tokens.{Token, after_param, token_params, value_of};
 ghost use Rattle.irc_support.specs.Edits.{tokens_in, edited, edited_if};
 ghost use Rattle.indexmap.specs.IndexMap.{spare};
@@ -27,7 +28,8 @@ pub enum Edit<A: Allocator> {
 fn copied<A: Allocator>(alloc: A, value: Option<&[u8]>) -> Result<Option<Vec<u8, A>>, OutOfMemory>
 where
     A: Drop,
-    ensures { IfOk result (λ copy. option_map (λ v. v.items) copy ≡ option_map (λ v. v.now) value.entry) }
+    ensures { IfOk result
+        (λ copy. option_map (λ v. v.items) copy ≡ option_map (λ v. v.now) value.entry) }
 {
     match value {
         Some(value) => Ok(Some(Vec::from_slice(alloc, value)?)),
@@ -37,7 +39,9 @@ where
 
 /// What one parameter does to the tokens; nothing where it has no name.
 fn edit_of<A: Allocator + Copy>(alloc: A, param: &[u8]) -> Result<Option<Edit<A>>, OutOfMemory>
-    ensures { IfOk result (λ edit. (settings : List Token) → edited_if settings edit ≡ after_param settings param.now) }
+    ensures { IfOk result
+        (λ edit. (settings : List Token) →
+        edited_if settings edit ≡ after_param settings param.now) }
 {
     if let [b'-', name @ ..] = param {
         return Ok(Some(Edit::Remove(Vec::from_slice(alloc, name)?)));
@@ -56,7 +60,10 @@ pub fn edits<A: Allocator + Copy, B: Allocator>(
     alloc: A,
     line: &Line<B>,
 ) -> Result<Vec<Edit<A>, A>, OutOfMemory>
-    ensures { IfOk result (λ edits. (settings : List Token) → fold edited settings edits.items ≡ fold after_param settings (token_params line.now.params)) }
+    ensures { IfOk result
+        (λ edits. (settings : List Token) →
+        fold edited settings edits.items
+        ≡ fold after_param settings (token_params line.now.params)) }
 {
     let mut edits = Vec::new(alloc);
     let count = line.param_count().saturating_sub(2);
@@ -87,16 +94,19 @@ fn apply<A: Allocator + Copy>(tokens: &mut Table<A>, edit: Edit<A>)
 /// Makes each change in turn. There is room for all of them.
 pub fn apply_all<A: Allocator + Copy>(tokens: &mut Table<A>, edits: Vec<Edit<A>, A>)
     requires { vec_len edits ≤ spare tokens.old }
-    ensures { tokens_in tokens.new.entries ≡ fold edited (tokens_in tokens.old.entries) edits.items }
+    ensures { tokens_in tokens.new.entries
+        ≡ fold edited (tokens_in tokens.old.entries) edits.items }
 {
     for edit in edits {
         apply(tokens, edit);
     }
 }
 
-/// The value of the token of this name, empty where there is no `=`; `None` where there is no such token.
+/// The value of the token of this name, empty where there is no `=`; `None` where there is no such
+/// token.
 fn value<'a, A: Allocator>(tokens: &'a Table<A>, name: &[u8]) -> Option<&'a [u8]>
-    ensures { option_map (λ value. value.now) result ≡ value_of (tokens_in tokens.now.entries) name.now }
+    ensures { option_map (λ value. value.now) result
+        ≡ value_of (tokens_in tokens.now.entries) name.now }
 {
     match tokens.get(name)? {
         Some(value) => Some(value.as_slice()),
@@ -106,7 +116,8 @@ fn value<'a, A: Allocator>(tokens: &'a Table<A>, name: &[u8]) -> Option<&'a [u8]
 
 /// The value of the token of this name, or the default where there is no such token.
 pub fn value_or<'a, A: Allocator>(tokens: &'a Table<A>, name: &[u8], default: &'a [u8]) -> &'a [u8]
-    ensures { result.now ≡ unwrap_or (value_of (tokens_in tokens.now.entries) name.now) default.now }
+    ensures { result.now
+        ≡ unwrap_or (value_of (tokens_in tokens.now.entries) name.now) default.now }
 {
     match value(tokens, name) {
         Some(value) => value,

@@ -1,7 +1,9 @@
 -- Which state line a line is: a line has one of the commands only.
-use Rattle.std.specs.Prelude.{◌≡◌, true, false, cond, List, [], ◌∷◌}
+use Rattle.std.specs.Prelude.{◌≡◌, Bool, true, false, cond, ◌||◌, List, [], ◌∷◌, is_some}
+use Rattle.std.specs.List.{find, list_any}
+use Rattle.std.specs.Option.{option_map_or}
 use Rattle.std.specs.Str.{bytes_eq, str_to_ascii_lowercase, str_eq_ignore_ascii_case}
-use Rattle.std.proofs.Common.{refl, ap, ◌∙◌, codes}
+use Rattle.std.proofs.Common.{Some, refl, ap, ◌∙◌, subst, codes}
 use Rattle.std.proofs.lemmas.Slice.Eq.{bytes_eq-Decides}
 use Rattle.irc_line.specs.Line.{Parts, has_command}
 use Rattle.irc_support.specs.Text.{Text}
@@ -9,11 +11,38 @@ use Rattle.irc_support.specs.Tokens.{Token}
 use Rattle.net_view.proofs.Tests.{or_false}
 use Rattle.net_view.specs.Told.{Told, Silent, Settles, Supports}
 use Rattle.net_view.specs.Arrival.{Received}
+use Rattle.net_view.specs.StateCommands.{command_text, state_commands, state_command}
+use Rattle.net_view.specs.declared.state_command.StateCommand.{StateCommand}
 use Rattle.net_view.specs.StateLines.{StateLine, state_lines, told_by, is_of, is_state_line, told, told_by_welcome, told_by_join, told_by_part, told_by_kick, told_by_quit, told_by_nick, told_by_mode, told_by_mode_reply, told_by_topic, told_by_topic_reply, told_by_no_topic, told_by_names, told_by_account, told_by_away}
 
 -- a line of a command has each other exactly where the two are one but for the case of letters
 pub has_command-named : (line : Parts) (name : Text) → has_command line name ≡ true → (other : Text) → has_command line other ≡ str_eq_ignore_ascii_case name other
 has_command-named line name e other = ap (λ x. bytes_eq x (str_to_ascii_lowercase other)) ((bytes_eq-Decides (str_to_ascii_lowercase line.command) (str_to_ascii_lowercase name)).0 e)
+
+-- ---- the command that a line was read to have
+
+found_meets : {X : Type 0} (p : X → Bool) (it : X) (xs : List X) → find p xs ≡ Some it → p it ≡ true
+found_meets p it [] e = cc
+found_meets p it (x ∷ xs) e =
+    elim (p x) as (λ b. p x ≡ b → cond b (Some x) (find p xs) ≡ Some it → p it ≡ true) [
+      | true ↦ λ is same. subst (λ o. option_map_or p o false ≡ true) same is
+      | false ↦ λ _ rest. found_meets p it xs rest
+    ] refl e
+
+-- a line has the command that it was read to have
+pub has_found : (line : Parts) (it : StateCommand) → state_command line ≡ Some it → has_command line (command_text it) ≡ true
+has_found line it e = found_meets (λ x. has_command line (command_text x)) it state_commands e
+
+some_found : {X : Type 0} (p : X → Bool) (xs : List X) → is_some (find p xs) ≡ list_any p xs
+some_found p [] = refl
+some_found p (x ∷ xs) = elim (p x) as (λ b. is_some (cond b (Some x) (find p xs)) ≡ (b || list_any p xs)) [ true ↦ refl | false ↦ some_found p xs ]
+
+-- a state line is one that has such a command
+pub is_read : (line : Parts) → is_some (state_command line) ≡ is_state_line line
+unfolding state_commands state_lines
+is_read line = some_found (λ x. has_command line (command_text x)) state_commands
+
+-- ---- what the rows of a list tell
 
 -- what a line of this command tells
 abbrev told_as : List StateLine → Text → List Token → Parts → Told

@@ -18,11 +18,13 @@ pub mod PeopleSound
 pub mod MembersSpelled
 pub mod OnSound
 pub mod SoundStep
+pub mod WrittenViews
 pub mod LastWord
 pub mod Worth
 pub mod NameLists
 pub mod WordsApart
 pub mod SeenWhole
+mod LikelyCommand
 pub mod Commands
 mod Transcripts
 mod MemberRows

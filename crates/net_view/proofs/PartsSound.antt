@@ -1,6 +1,6 @@
 -- What the parts of a line give is well formed.
 use Rattle.std.specs.Prelude.{◌≡◌, ℕ, ◌<◌, Bool, true, false, cond, ◌&&◌, ◌||◌, ◌==◌, IfSome, List, [], ◌∷◌, length, ⊤}
-use Rattle.std.specs.List.{filter_map, cons_option, range_with_len}
+use Rattle.std.specs.List.{AllByRecursion, filter_map, cons_option, range_with_len}
 use Rattle.std.specs.Option.{option_and_then, option_map, option_map_or, unwrap_or}
 use Rattle.std.proofs.Common.{Option, Some, None, refl, sym, ap, ◌∙◌, subst, codes}
 use Rattle.std.proofs.lemmas.Bool.{eqb-true}
@@ -42,8 +42,7 @@ pub record IsSoundJoin (settings : List Token) (channel : Name) (valid : Bool) (
 
 -- each of a list
 abbrev pub Each : {X : Type 0} → (X → Type 0) → List X → Type 0
-Each P [] = ⊤
-Each P (x ∷ xs) = P x × Each P xs
+Each P xs = AllByRecursion P xs
 
 abbrev pub IsSoundMode : List Token → ModeChange → Type 0
 IsSoundMode settings m = IfSome m.setting (IsKept (kind_of settings m.letter))

@@ -26,6 +26,8 @@ pub mod Step
 pub mod Readers
 pub mod Seen
 pub mod Sound
+pub mod Written
 pub mod Found
+pub mod StateCommands
 pub mod Tells
 pub mod Least

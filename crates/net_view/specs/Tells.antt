@@ -1,7 +1,8 @@
--- What a line tells, with names as they are spelled, and what it means; and the marks of who is us.
+-- What a line tells, with names as they are spelled, and what it means.
 use Rattle.std.specs.Prelude.{List}
 use Rattle.std.specs.List.{filter_map}
-use Rattle.std.specs.Option.{option_map}
+use Rattle.std.specs.Option.{option_map, unwrap_or}
+use Rattle.std.proofs.Common.{Option}
 use Rattle.irc_support.specs.Tokens.{Token}
 use Rattle.irc_support.specs.Settings.{is_channel, key_by}
 use Rattle.irc_support.specs.Line.{changes_in, words_in}
@@ -28,3 +29,7 @@ meant settings (Present channel line) = spec.Present (key_by settings channel.no
 meant settings (HasAccount who account) = spec.HasAccount (key_by settings who.now) (option_map (λ name. name.now) account)
 meant settings (IsAway who text) = spec.IsAway (key_by settings who.now) (option_map (λ t. t.now) text)
 meant settings (Titled channel text) = spec.Titled (key_by settings channel.now) (option_map (λ t. t.now) text)
+
+-- the same of what may not be told: then the settings are fixed
+abbrev pub meant_or_settles : {A : Type 0} → List Token → Option (Telling A) → spec.Told
+meant_or_settles settings found = unwrap_or (option_map (meant settings) found) spec.Settles

@@ -18,7 +18,8 @@ pub struct Member<'a> {
     pub nick: &'a [u8],
     /// The ranks held on this channel, as that of an operator.
     pub ranks: Ranks,
-    /// The account, where one is known; never empty, and not `*` (IRCv3 extended-join, account-notify).
+    /// The account, where one is known; never empty, and not `*` (IRCv3 extended-join,
+    /// account-notify).
     pub account: Option<&'a [u8]>,
     /// The away text, where the person is known to be away; never empty (IRCv3 away-notify).
     pub away: Option<&'a [u8]>,

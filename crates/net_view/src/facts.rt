@@ -20,8 +20,9 @@ ghost use Rattle.net_view.specs.Readers.{account_shown};
 ghost use Rattle.net_view.specs.Seen.{all_caps, seen_since};
 ghost use Rattle.net_view.specs.Sound.{IsSound};
 
-/// What is found by looking back, in a reader's words: the last item that speaks of a matter or of a person
-/// says it, and all since are silent; of what is known of a person, who was in sight ever since.
+/// What is found by looking back, in a reader's words: the last item that speaks of a matter or of
+/// a person says it, and all since are silent; of what is known of a person, who was in sight ever
+/// since.
 pub fn the_last_word<A>()
     ensures matter { (says : (Text → Bool) → Told → Option A) (items : List Reading) (answer : A) →
         (last says items ≡ Some answer) ↔ IsSaidLast says items answer }
@@ -31,8 +32,8 @@ pub fn the_last_word<A>()
         (known says items n ≡ Some answer) ↔ IsKnown says items n answer }
 {}
 
-/// What every network view is like. A channel that we are on has the name of our own JOIN, and nothing since
-/// took us off it.
+/// What every network view is like. A channel that we are on has the name of our own JOIN, and
+/// nothing since took us off it.
 pub fn views_are_sound()
     ensures sound { (items : List Arrival) → IsSound (view_of items) }
     ensures joined { (items : List Arrival) (c : Text) (channel : Channel) →
@@ -50,9 +51,10 @@ pub fn settings_stay()
         (view_of (items ++ x ∷ [])).settings ≡ (view_of items).settings }
 {}
 
-/// What a name is worth. Two names with one key are one person, at every boundary. A NICK that counts and its
-/// way back are inverse, but for who held the new name. After a QUIT nobody of that name is there, and after
-/// a welcome nobody at all (after a loss neither: `a_loss_empties_the_view`).
+/// What a name is worth. Two names with one key are one person, at every boundary. A NICK that
+/// counts and its way back are inverse, but for who held the new name. After a QUIT nobody of that
+/// name is there, and after a welcome nobody at all (after a loss neither:
+/// `a_loss_empties_the_view`).
 pub fn a_name_is_a_person()
     ensures known { (v : View) (a b : Text) → key_by v.settings a ≡ key_by v.settings b →
         account_shown v a ≡ account_shown v b }
@@ -76,8 +78,8 @@ pub fn all_capabilities_see_all()
     ensures { (items : List Arrival) (a : ℕ) → seen_since items a all_caps ≡ view_of items }
 {}
 
-/// Name lists add up: a list tells what two tell that have its words, one list after the other. So it can be
-/// cut into lines between any words.
+/// Name lists add up: a list tells what two tell that have its words, one list after the other. So
+/// it can be cut into lines between any words.
 pub fn name_lists_add_up()
     ensures lists { (items : List Arrival) (whole first second : Arrival) (c : Text) (a b : List Listing) →
         told (view_of items).settings whole ≡ Present c (a ++ b) →

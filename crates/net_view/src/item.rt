@@ -8,6 +8,7 @@ use std::alloc::{Allocator, Global};
 pub enum Item<A: Allocator = Global> {
     /// A line, as `:bob!b@h JOIN #c`.
     Line(Line<A>),
-    /// The connection is lost. Own nick and settings stay; we are on no channel until the next JOIN.
+    /// The connection is lost. Own nick and settings stay; we are on no channel until the next
+    /// JOIN.
     Lost,
 }

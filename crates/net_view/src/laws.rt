@@ -12,8 +12,8 @@ pub fn a_view_is_a_state()
         view_of (items ++ x ∷ []) ≡ view_of (others ++ x ∷ []) }
 {}
 
-/// The view goes step by step: it begins empty, and the view after an item is a function of the view before
-/// it and that item.
+/// The view goes step by step: it begins empty, and the view after an item is a function of the
+/// view before it and that item.
 pub fn views_go_by_steps()
     ensures start { view_of [] ≡ empty_view }
     ensures step { (items : List Arrival) (x : Arrival) → view_of (items ++ x ∷ []) ≡ after (view_of items) x }

@@ -6,6 +6,7 @@ mod facts;
 mod item;
 mod laws;
 mod network_view;
+mod state_command;
 mod state_line;
 
 pub use channel::{Channel, Member};
@@ -18,5 +19,6 @@ pub use laws::{
     a_loss_empties_the_view, a_view_is_a_state, only_state_items_count, views_go_by_steps,
 };
 pub use network_view::NetworkView;
+pub use state_command::StateCommand;
+pub use state_line::{Telling, is_state_line, is_word, told, told_as};
 pub use std::alloc::AllocError as OutOfMemory;
-pub use state_line::{Telling, is_state_line, is_word, told};

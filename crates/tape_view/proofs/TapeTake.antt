@@ -1,10 +1,12 @@
 -- A tape after one more item.
 use Rattle.std.specs.Option.{option_map, unwrap_or}
 use Rattle.irc_support.specs.Tokens.{Token, set_tokens}
-use Rattle.std.specs.Prelude.{◌≡◌, ◌&&◌, is_some, ℕ, zero, suc, Bool, true, false, List, [], ◌∷◌, ◌++◌, length, set, get_or}
+use Rattle.std.specs.Prelude.{◌≡◌, ◌&&◌, is_some, ℕ, zero, suc, Bool, true, false, List, [], ◌∷◌, ◌++◌, length, reverse, set, get_or}
 use Rattle.std.proofs.Common.{Option, Bor, codes, cond, not, refl, sym, ap, ◌∙◌, arith, subst}
-use Rattle.std.proofs.lemmas.List.{reverse-append, get_or_default}
+use Rattle.std.proofs.lemmas.List.{reverse-append, reverse-reverse, get_or_default}
 use Rattle.irc_line.specs.Line.{Parts, has_command}
+use Rattle.irc_line.specs.Writing.{is_writable}
+use Rattle.net_view.specs.Written.{AreWritten}
 use Rattle.tape_view.specs.declared.tape.Kept.{Kept}
 use Rattle.net_view.specs.Arrival.{Arrival, Received, Lost}
 use Rattle.net_view.specs.View.{view_back, view_of, lost_view}
@@ -218,3 +220,39 @@ none_marked A = tt
 pub no_settings_yet : (A : Type 0) → settings_of (tape_of {A = A} []) ≡ []
 unfolding tape_of
 no_settings_yet A = refl
+
+-- ---- what is kept can be written
+
+kept_written : (lost : Bool) (items : List Arrival) → AreWritten (with_lost lost items) → AreWritten items
+kept_written true items h = h.1
+kept_written false items h = h
+
+-- after one more line
+pub written_push : {A : Type 0} (ks ls : List (Kept A)) (k : Kept A) → ls ≡ ks ++ k ∷ [] → k.lost ≡ false → is_writable k.line ≡ true → AreWritten (tape_of ks) → AreWritten (tape_of ls)
+written_push ks ls k pushed lost line h =
+    subst AreWritten (sym (ap tape_of pushed ∙ tape_push ks k ∙ ap (λ b. with_lost b (Received k.line ∷ tape_of ks)) lost)) (line, h)
+
+-- after a loss
+pub loss_written : {A : Type 0} (ks : List (Kept A)) (i : ℕ) (k : Kept A) → suc i ≡ length ks → k ≡ get_or ks i k → AreWritten (tape_of ks) →
+    AreWritten (tape_of (set ks i (record { line = k.line; marks = k.marks; fixed = k.fixed; lost = true })))
+loss_written {A} ks i k last at h =
+    let x : Kept A = record { line = k.line; marks = k.marks; fixed = k.fixed; lost = true } in
+    let r = split_last ks i x last in
+    let same_k : k ≡ r.last = at ∙ get_or_default ks i k x (omega arith) ∙ r.is in
+    let old : AreWritten (Received r.last.line ∷ tape_of r.front) =
+    kept_written r.last.lost (Received r.last.line ∷ tape_of r.front) (subst AreWritten (ap tape_of r.whole ∙ tape_push r.front r.last) h) in
+    subst AreWritten (sym (ap tape_of r.marked ∙ tape_push r.front x)) (tt, subst (λ (j : Kept A). AreWritten (Received j.line ∷ tape_of r.front)) (sym same_k) old)
+
+-- in the order in which they came
+written_end : (items : List Arrival) (x : Arrival) → AreWritten items → AreWritten (x ∷ []) → AreWritten (items ++ x ∷ [])
+written_end [] x h k = k
+written_end (y ∷ items) x h k = (h.0, written_end items x (h.1) k)
+
+pub written_reversed : (items : List Arrival) → AreWritten items → AreWritten (reverse items)
+written_reversed [] h = tt
+written_reversed (x ∷ items) h = subst AreWritten (sym (reverse-append (x ∷ []) items)) (written_end (reverse items) x (written_reversed items (h.1)) (h.0, tt))
+
+-- a tape's view comes from its items
+pub from_lines : (tape : List Arrival) → AreWritten tape → (items : List Arrival) × AreWritten items × (view_back tape ≡ view_of items)
+unfolding view_of
+from_lines tape h = (reverse tape, written_reversed tape h, ap view_back (sym (reverse-reverse tape)))

@@ -12,10 +12,10 @@ ghost use Rattle.tape_view.specs.Marked.{IsMarked};
 ghost use Rattle.tape_view.specs.Tape.{tape_of, IsReadable};
 
 use crate::listed::{is_same, rank_changed, rank_listed};
-use crate::tape::{Kept, name_before};
 use crate::marks::Marks;
-use net_view::{Telling, told};
+use crate::tape::{Kept, name_before};
 use irc_support::{Ranks, Support};
+use net_view::{Telling, told};
 use std::alloc::Allocator;
 
 /// What a line says of a person's holding a rank on a channel.
@@ -32,7 +32,11 @@ fn says_rank<S: Allocator, A: Allocator>(
         (key_by support.now nick.now) }
 {
     match telling {
-        Telling::Joined(name, who, _) => {
+        Telling::Joined {
+            channel: name,
+            who,
+            ..
+        } => {
             if !is_same(support, channel, name) {
                 return None;
             }
@@ -49,14 +53,20 @@ fn says_rank<S: Allocator, A: Allocator>(
                 None
             }
         }
-        Telling::Present(name, line) => {
+        Telling::Present {
+            channel: name,
+            line,
+        } => {
             if is_same(support, channel, name) {
                 rank_listed(support, line, nick, rank)
             } else {
                 None
             }
         }
-        Telling::Changed(name, line) => {
+        Telling::Changed {
+            channel: name,
+            line,
+        } => {
             if is_same(support, channel, name) {
                 rank_changed(support, line, nick, rank)
             } else {

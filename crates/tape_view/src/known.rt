@@ -11,10 +11,10 @@ ghost use Rattle.net_view.specs.Tells.{meant};
 ghost use Rattle.tape_view.specs.Tape.{tape_of, IsReadable};
 
 use crate::listed::is_same;
-use crate::tape::{Kept, is_member, name_before, name_on, spelled_by};
 use crate::marks::Marks;
-use net_view::{Telling, told};
+use crate::tape::{Kept, is_member, name_before, name_on, spelled_by};
 use irc_support::Support;
+use net_view::{Telling, told};
 use std::alloc::Allocator;
 
 /// What may be known of a person in sight.
@@ -29,7 +29,7 @@ fn joined_by_us<'a, A: Allocator>(telling: &Telling<'a, A>, marks: Marks) -> Opt
     ensures { option_map (λ name. name.now) result ≡ joined_said marks telling.now }
 {
     match telling {
-        Telling::Joined(channel, _, _) if marks.by_us => Some(*channel),
+        Telling::Joined { channel, .. } if marks.by_us => Some(*channel),
         _ => None,
     }
 }
@@ -74,14 +74,18 @@ fn says_account<'a, A: Allocator>(
         (key_by support.now nick.now) }
 {
     match telling {
-        Telling::Joined(channel, who, account) => {
+        Telling::Joined {
+            channel,
+            who,
+            account,
+        } => {
             if is_same(support, nick, who) && name_on(support, kept, channel).is_some() {
                 *account
             } else {
                 None
             }
         }
-        Telling::HasAccount(who, account) => {
+        Telling::HasAccount { who, account } => {
             if is_same(support, nick, who) {
                 Some(*account)
             } else {
@@ -102,7 +106,7 @@ fn says_away<'a, A: Allocator>(
         ≡ says_away us on (meant support.now telling.now) (key_by support.now nick.now) }
 {
     match telling {
-        Telling::IsAway(who, text) if is_same(support, nick, who) => Some(*text),
+        Telling::IsAway { who, text } if is_same(support, nick, who) => Some(*text),
         _ => None,
     }
 }

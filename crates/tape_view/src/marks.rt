@@ -21,8 +21,8 @@ pub(crate) fn own_told<'a, A: Allocator>(telling: &Telling<'a, A>, marks: Marks)
     ensures { option_map (λ nick. nick.now) result ≡ own_said marks telling.now }
 {
     match telling {
-        Telling::Welcomed(nick) => Some(*nick),
-        Telling::Renamed(_, new) if marks.by_us => Some(*new),
+        Telling::Welcomed { nick } => Some(*nick),
+        Telling::Renamed { new, .. } if marks.by_us => Some(*new),
         _ => None,
     }
 }
@@ -37,8 +37,8 @@ pub(crate) fn fixed_after<A: Allocator>(
         ≡ unwrap_or (option_map (λ settles. settles && welcomed) (settles_said telling.now)) ready }
 {
     match telling {
-        Telling::Welcomed(_) => false,
-        Telling::Joined(_, _, _) | Telling::Settles => welcomed,
+        Telling::Welcomed { .. } => false,
+        Telling::Joined { .. } | Telling::Settles => welcomed,
         _ => ready,
     }
 }
@@ -49,10 +49,10 @@ pub(crate) fn doer<'a, A: Allocator>(telling: &Telling<'a, A>) -> Option<&'a [u8
         option_map (λ nick. key_by settings nick.now) result ≡ doer (meant settings telling.now) }
 {
     match telling {
-        Telling::Joined(_, who, _)
-        | Telling::Parted(_, who)
-        | Telling::Quits(who)
-        | Telling::Renamed(who, _) => Some(*who),
+        Telling::Joined { who, .. }
+        | Telling::Parted { who, .. }
+        | Telling::Quits { who }
+        | Telling::Renamed { old: who, .. } => Some(*who),
         _ => None,
     }
 }
@@ -64,7 +64,7 @@ pub(crate) fn person_named<'a, A: Allocator>(telling: &Telling<'a, A>) -> Option
         ≡ person_named (meant settings telling.now) }
 {
     match telling {
-        Telling::Kicked(_, who) | Telling::Renamed(_, who) => Some(*who),
+        Telling::Kicked { who, .. } | Telling::Renamed { new: who, .. } => Some(*who),
         _ => None,
     }
 }

@@ -19,11 +19,11 @@ ghost use Rattle.net_view.specs.Least.{above_by, considered_by, improves_by, IsN
 ghost use Rattle.tape_view.specs.Letters.{is_set, letter_shown, letters_listed, letters_told};
 
 use crate::listed::is_same;
-use crate::tape::{Kept, says_on};
 use crate::marks::Marks;
-use net_view::{Telling, is_word, told};
+use crate::tape::{Kept, says_on};
 use irc_line::Line;
 use irc_support::{Kind, Support, changes};
+use net_view::{Telling, is_word, told};
 use std::alloc::Allocator;
 
 /// A mode: `None` where it is off, else on, with its parameter, where it has one.
@@ -78,21 +78,27 @@ fn says_mode<'a, S: Allocator, A: Allocator>(
         ≡ says_mode (key_by support.now channel.now) letter us (meant support.now telling.now) }
 {
     match telling {
-        Telling::Joined(name, _, _) => {
+        Telling::Joined { channel: name, .. } => {
             if marks.by_us && support.is_channel(name) && is_same(support, channel, name) {
                 Some(None)
             } else {
                 None
             }
         }
-        Telling::Changed(name, line) => {
+        Telling::Changed {
+            channel: name,
+            line,
+        } => {
             if is_same(support, channel, name) {
                 last_setting(support, line, letter)
             } else {
                 None
             }
         }
-        Telling::Listed(name, line) => {
+        Telling::Listed {
+            channel: name,
+            line,
+        } => {
             if is_same(support, channel, name) {
                 Some(last_setting(support, line, letter).unwrap_or(None))
             } else {
@@ -190,7 +196,7 @@ fn consider<A: Allocator>(
         (key_by support.now channel.now)) after best (letters_told support.now telling.now) }
 {
     match telling {
-        Telling::Changed(_, line) | Telling::Listed(_, line) => {
+        Telling::Changed { line, .. } | Telling::Listed { line, .. } => {
             best_listed(support, kept, channel, after, best, line)
         }
         _ => best,

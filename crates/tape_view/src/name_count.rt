@@ -7,10 +7,10 @@ ghost use Rattle.tape_view.specs.NameCount.{name_count};
 ghost use Rattle.net_view.specs.StateLines.{listing};
 ghost use Rattle.net_view.specs.Tells.{meant};
 
-use net_view::Telling;
 use irc_line::Line;
 use irc_names::is_nameable;
 use irc_support::{Support, names};
+use net_view::Telling;
 use std::alloc::Allocator;
 
 /// The number of names with those of a 353; `None` where a `usize` can't hold it.
@@ -42,8 +42,8 @@ pub(crate) fn with_named<S: Allocator, A: Allocator>(
         (count + name_count (meant support.now telling.now)) }
 {
     match telling {
-        Telling::Joined(_, _, _) | Telling::Renamed(_, _) => count.checked_add(1),
-        Telling::Present(_, line) => with_listed(support, line, count),
+        Telling::Joined { .. } | Telling::Renamed { .. } => count.checked_add(1),
+        Telling::Present { line, .. } => with_listed(support, line, count),
         _ => Some(count),
     }
 }

@@ -13,10 +13,10 @@ ghost use Rattle.net_view.specs.Least.{above, better, considered, improves, key_
 ghost use Rattle.tape_view.specs.Shown.{keys_listed, names_in, is_shown, shown_key, shown_len};
 
 use crate::tape::{Kept, is_member, name_on};
-use net_view::{Telling, told};
 use irc_line::Line;
 use irc_names::is_nameable;
 use irc_support::{Support, names};
+use net_view::{Telling, told};
 use std::alloc::Allocator;
 
 /// What is looked for by place: the channels that we are on, or the members of the channel of this name.
@@ -139,13 +139,13 @@ fn consider<'a, A: Allocator>(
         (λ b. b.now) best.entry)) (names_in shown.entry (meant support.now telling.now)) }
 {
     match (shown, telling) {
-        (Shown::Channels, Telling::Joined(name, _, _)) => {
+        (Shown::Channels, Telling::Joined { channel: name, .. }) => {
             better(support, kept, shown, after, best, name)
         }
-        (Shown::Members(_), Telling::Joined(_, who, _) | Telling::Renamed(_, who)) => {
+        (Shown::Members(_), Telling::Joined { who, .. } | Telling::Renamed { new: who, .. }) => {
             better(support, kept, shown, after, best, who)
         }
-        (Shown::Members(_), Telling::Present(_, line)) => {
+        (Shown::Members(_), Telling::Present { line, .. }) => {
             best_listed(support, kept, shown, after, best, line)
         }
         _ => best,

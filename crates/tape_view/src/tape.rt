@@ -17,9 +17,9 @@ ghost use Rattle.tape_view.specs.Tape.{tape_of, IsMarkedTape, IsReadable};
 
 use crate::listed::{is_same, lists, spelled_in};
 use crate::marks::{Marks, doer, own_told, person_named};
-use net_view::{Telling, told};
 use irc_line::Line;
 use irc_support::Support;
+use net_view::{Telling, told};
 use std::alloc::Allocator;
 
 /// A state line, whether it comes from us or names us, whether the settings are fixed after it, and whether
@@ -71,29 +71,29 @@ pub(crate) fn says_on<'a, S: Allocator, A: Allocator>(
         ≡ says_on (key_by support.now channel.now) us (meant support.now telling.now) }
 {
     match telling {
-        Telling::Welcomed(_) => Some(None),
-        Telling::Joined(name, _, _) => {
+        Telling::Welcomed { .. } => Some(None),
+        Telling::Joined { channel: name, .. } => {
             if marks.by_us && support.is_channel(name) && is_same(support, channel, name) {
                 Some(Some(*name))
             } else {
                 None
             }
         }
-        Telling::Parted(name, _) => {
+        Telling::Parted { channel: name, .. } => {
             if marks.by_us && is_same(support, channel, name) {
                 Some(None)
             } else {
                 None
             }
         }
-        Telling::Kicked(name, _) => {
+        Telling::Kicked { channel: name, .. } => {
             if marks.names_us && is_same(support, channel, name) {
                 Some(None)
             } else {
                 None
             }
         }
-        Telling::Quits(_) => { if marks.by_us { Some(None) } else { None } }
+        Telling::Quits { .. } => { if marks.by_us { Some(None) } else { None } }
         _ => None,
     }
 }
@@ -110,16 +110,19 @@ fn says_topic<'a, S: Allocator, A: Allocator>(
         ≡ says_topic (key_by support.now channel.now) us (meant support.now telling.now) }
 {
     match telling {
-        Telling::Joined(name, _, _) => {
+        Telling::Joined { channel: name, .. } => {
             if marks.by_us && support.is_channel(name) && is_same(support, channel, name) {
                 Some(None)
             } else {
                 None
             }
         }
-        Telling::Titled(name, text) => {
-            if is_same(support, channel, name) {
-                Some(*text)
+        Telling::Titled {
+            channel: titled,
+            topic,
+        } => {
+            if is_same(support, channel, titled) {
+                Some(*topic)
             } else {
                 None
             }
@@ -141,7 +144,11 @@ fn says_member<S: Allocator, A: Allocator>(
         (key_by support.now nick.now) }
 {
     match telling {
-        Telling::Joined(name, who, _) => {
+        Telling::Joined {
+            channel: name,
+            who,
+            ..
+        } => {
             if !is_same(support, channel, name) {
                 return None;
             }
@@ -158,14 +165,17 @@ fn says_member<S: Allocator, A: Allocator>(
                 None
             }
         }
-        Telling::Present(name, line) => {
+        Telling::Present {
+            channel: name,
+            line,
+        } => {
             if is_same(support, channel, name) && lists(support, line, nick) {
                 Some(true)
             } else {
                 None
             }
         }
-        Telling::Parted(name, who) | Telling::Kicked(name, who) => {
+        Telling::Parted { channel: name, who } | Telling::Kicked { channel: name, who } => {
             if is_same(support, channel, name) && is_same(support, nick, who) {
                 Some(false)
             } else {
@@ -188,7 +198,7 @@ pub(crate) fn name_before<'a, S: Allocator, A: Allocator>(
         ≡ name_before us (meant support.now telling.now) (key_by support.now nick.now) }
 {
     match telling {
-        Telling::Renamed(old, new) => {
+        Telling::Renamed { old, new } => {
             if marks.names_us && !marks.by_us {
                 return Some(nick);
             }
@@ -201,14 +211,14 @@ pub(crate) fn name_before<'a, S: Allocator, A: Allocator>(
                 Some(nick)
             }
         }
-        Telling::Quits(gone) => {
+        Telling::Quits { who: gone } => {
             if is_same(support, nick, gone) {
                 None
             } else {
                 Some(nick)
             }
         }
-        Telling::Welcomed(_) => None,
+        Telling::Welcomed { .. } => None,
         _ => Some(nick),
     }
 }
@@ -350,21 +360,21 @@ pub(crate) fn spelled_by<'a, A: Allocator>(
         (key_by support.now nick.now) }
 {
     match telling {
-        Telling::Joined(channel, who, _) => {
+        Telling::Joined { channel, who, .. } => {
             if is_same(support, nick, who) && name_on(support, kept, channel).is_some() {
                 Some(*who)
             } else {
                 None
             }
         }
-        Telling::Present(channel, line) => {
+        Telling::Present { channel, line } => {
             if name_on(support, kept, channel).is_some() {
                 spelled_in(support, line, nick)
             } else {
                 None
             }
         }
-        Telling::Renamed(_, new) => {
+        Telling::Renamed { new, .. } => {
             if is_same(support, nick, new) && (marks.by_us || !marks.names_us) {
                 Some(*new)
             } else {

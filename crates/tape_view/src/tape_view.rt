@@ -2,20 +2,16 @@
 
 ghost use Rattle.std.specs.Prelude.{◌≡◌, [], IfOk};
 
-use net_view::OutOfMemory;
-use net_view::{Channel, Member};
 use crate::held::ranks_in;
-use net_view::Item;
 use crate::known::{Fact, fact_in};
 use crate::marks::fixed_after;
 use crate::modes::{letter_at, mode_in};
 use crate::name_count::with_named;
-use net_view::NetworkView;
 use crate::shown::{Shown, shown_at, shown_count};
 use crate::tape::{Kept, marks_of, name_on, own_in, ready_in, spelling_in, topic_in};
-use net_view::{Telling, is_state_line, told};
 use irc_line::Line;
 use irc_support::Support;
+use net_view::{Channel, Item, Member, NetworkView, OutOfMemory, StateCommand, Telling, told};
 use std::alloc::{Allocator, Global};
 use std::marker::Model;
 
@@ -39,13 +35,14 @@ impl<A: Allocator> Model for TapeView<A> {
     ghost use Rattle.net_view.specs.Transcript.{settings_of};
     ghost use Rattle.net_view.specs.Arrival.{Arrival};
     ghost use Rattle.tape_view.specs.NameCount.{IsCounted};
+    ghost use Rattle.net_view.specs.Written.{AreWritten};
     ghost use Rattle.tape_view.specs.Tape.{tape_of, IsMarkedTape};
 
     ghost Value = { List Arrival };
 
     ghost view = { λ v. tape_of v.kept.items };
 
-    ghost invariant = { λ v. IsMarkedTape v.kept.items × (settings_of (tape_of v.kept.items) ≡ v.support) × IsCounted v.kept.items v.names };
+    ghost invariant = { λ v. IsMarkedTape v.kept.items × (settings_of (tape_of v.kept.items) ≡ v.support) × IsCounted v.kept.items v.names × AreWritten (tape_of v.kept.items) };
 }
 
 impl<A: Allocator + Copy> TapeView<A> {
@@ -63,11 +60,13 @@ impl<A: Allocator + Copy> TapeView<A> {
 }
 
 impl<A: Allocator + Copy> TapeView<A> {
-    ghost use Rattle.std.specs.Prelude.{◌≡◌, ◌∷◌, OnOk, OnErr};
+    ghost use Rattle.std.specs.Prelude.{◌≡◌, ◌∷◌, OnOk, OnErr, IsTrue};
+    ghost use Rattle.irc_line.specs.Writing.{is_writable};
     ghost use Rattle.net_view.specs.Arrival.{Received};
 
-    /// Keeps a state line.
+    /// Keeps a state line, which can be written.
     fn keep<B: Allocator>(&mut self, line: &Line<B>) -> Result<(), OutOfMemory>
+        requires { IsTrue (is_writable line.now) }
         ensures taken { OnOk result (self.new ≡ Received line.now ∷ self.old) }
         ensures kept { OnErr result (self.new ≡ self.old) }
     {
@@ -86,13 +85,13 @@ impl<A: Allocator + Copy> TapeView<A> {
             lost: false,
         };
         match telling {
-            Telling::Welcomed(_) => {
+            Telling::Welcomed { .. } => {
                 let support = Support::new(*self.kept.allocator())?;
                 self.kept.push(kept)?;
                 self.support = support;
                 self.names = names;
             }
-            Telling::Supports(_) if welcomed && !ready => {
+            Telling::Supports { .. } if welcomed && !ready => {
                 self.kept.push(kept)?;
                 if let Err(refused) = self.support.take(line) {
                     let _ = self.kept.pop();
@@ -119,7 +118,7 @@ impl<A: Allocator + Copy> NetworkView for TapeView<A> {
     fn take<B: Allocator>(&mut self, item: &Item<B>) -> Result<(), OutOfMemory> {
         match item {
             Item::Line(line) => {
-                if is_state_line(line) {
+                if StateCommand::of(line).is_some() {
                     self.keep(line)?;
                 }
             }
@@ -131,6 +130,10 @@ impl<A: Allocator + Copy> NetworkView for TapeView<A> {
             }
         }
         Ok(())
+    }
+
+    fn comes_from_lines(&self) {
+        let _kept = &self.kept;
     }
 
     fn welcomed(&self) -> bool {

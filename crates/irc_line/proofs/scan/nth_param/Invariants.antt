@@ -4,4 +4,6 @@ use Rattle.irc_line.specs.Reading.{params_at}
 use Rattle.irc_line.proofs.scan.nth_param.Given as goal
 
 abbrev pub invariant-loop : goal.invariant-loop
-invariant-loop l = slice_get (params_at false l.rest) (l.place - l.counter) ≡ slice_get (params_at false l.fn.text) l.place
+invariant-loop l =
+    slice_get (params_at false l.rest) (l.place - l.counter)
+    ≡ slice_get (params_at false l.fn.text) l.place

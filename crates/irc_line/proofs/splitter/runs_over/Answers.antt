@@ -6,7 +6,8 @@ use Rattle.irc_line.proofs.splitter.runs_over.Goals as goal
 
 pub loop-room-init : goal.loop-room-init
 loop-room-init c =
-    let held : line_limit - (16384 - length c.args.rest.now) ≡ length c.args.rest.now = omega (arith, c.requires.short) in
+    let held : line_limit - (16384 - length c.args.rest.now) ≡ length c.args.rest.now =
+    omega (arith, c.requires.short) in
     record {
       reach = omega arith;
       same = rw held (sym (is_too_long-behind c.args.rest.now c.args.piece.now c.requires.no_lf));
@@ -14,18 +15,30 @@ loop-room-init c =
 
 pub returns : goal.returns
 returns c =
-    sym (sym c.loop-room.invariant.same ∙ over-short (line_limit - c.loop-room.room) c.loop-room.left.now (omega (arith, c.loop-room.invariant.reach, c.loop-room-test.false)))
+    sym (sym c.loop-room.invariant.same
+    ∙ over-short (line_limit - c.loop-room.room) c.loop-room.left.now
+    (omega (arith, c.loop-room.invariant.reach, c.loop-room-test.false)))
 
 pub returns-in_default : goal.returns-in_default
 returns-in_default c =
-    sym (sym c.loop-room.invariant.same ∙ over-none c.loop-room.room c.loop-room.left.now c.loop-room.invariant.reach c.loop-room-test.true c.in_default.ensures)
+    sym (sym c.loop-room.invariant.same
+    ∙ over-none c.loop-room.room c.loop-room.left.now c.loop-room.invariant.reach
+    c.loop-room-test.true c.in_default.ensures)
 
 pub loop-room-preserved : goal.loop-room-preserved
 loop-room-preserved c =
-    let near : c.in-Some.last ≤ c.loop-room.room = omega (arith, c.in-Some.ensures.0.high, length-take-le (c.loop-room.room + 1) c.loop-room.left.now (omega (arith, c.loop-room-test.true))) in
+    let near : c.in-Some.last ≤ c.loop-room.room =
+    omega (
+      arith,
+      c.in-Some.ensures.0.high,
+      length-take-le (c.loop-room.room + 1) c.loop-room.left.now
+          (omega (arith, c.loop-room-test.true)),
+    ) in
     record {
       reach = omega arith;
       same =
           rw (take_rest c.loop-room.left.now (c.in-Some.last + 1))
-          (over-last c.loop-room.room c.in-Some.last c.loop-room.left.now c.loop-room.invariant.reach near c.loop-room-test.true c.in-Some.ensures.1 ∙ c.loop-room.invariant.same);
+          (over-last c.loop-room.room c.in-Some.last c.loop-room.left.now
+          c.loop-room.invariant.reach near c.loop-room-test.true c.in-Some.ensures.1
+          ∙ c.loop-room.invariant.same);
     }

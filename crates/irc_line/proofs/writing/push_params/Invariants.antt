@@ -7,7 +7,8 @@ use Rattle.irc_line.proofs.writing.push_params.Given as goal
 abbrev pub invariant-loop-param : goal.invariant-loop-param
 invariant-loop-param g l = (done : List ℕ) × record {
   added : l.out.items ≡ l.fn.out.items ++ done;
-  all : done ++ flat_map param_text (params_at false l.rest) ≡ flat_map param_text (params_at false l.fn.text);
+  all : done ++ flat_map param_text (params_at false l.rest)
+      ≡ flat_map param_text (params_at false l.fn.text);
 }
 
 abbrev pub decreases-loop-param : goal.decreases-loop-param

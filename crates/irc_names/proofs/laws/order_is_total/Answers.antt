@@ -10,5 +10,11 @@ use Rattle.irc_names.proofs.laws.order_is_total.Goals as goal
 pub returns : goal.returns
 returns c = record {
   total = λ m. on_total (key_of m) nat_list_cmp_total;
-  ties = λ m a b. (slice_cmp-IsAntisymmetric nat_cmp-IsAntisymmetric (key_of m a) (key_of m b), λ e. ap (slice_cmp nat_cmp (key_of m a)) (sym e) ∙ tied_itself nat_list_cmp_total (key_of m a));
+  ties =
+      λ m a b. (
+        slice_cmp-IsAntisymmetric nat_cmp-IsAntisymmetric (key_of m a) (key_of m b),
+        λ e.
+            ap (slice_cmp nat_cmp (key_of m a)) (sym e)
+            ∙ tied_itself nat_list_cmp_total (key_of m a),
+      );
 }

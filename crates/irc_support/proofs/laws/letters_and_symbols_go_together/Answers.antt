@@ -16,11 +16,14 @@ pub returns-clause-letter : goal.returns-clause-letter
 returns-clause-letter c settings letter rank found =
     let within = (position-Some _ (ranking_of settings).letters rank 0 found).0 in
     let same = paired (ranking_of settings) (ranking_of-is settings) in
-    let there : rank < length (ranking_of settings).symbols = omega arith in
-    (get_or (ranking_of settings).symbols rank 0, slice_get-get_or (ranking_of settings).symbols rank 0 there)
+    let there : rank < length (ranking_of settings).symbols = omega arith in (
+      get_or (ranking_of settings).symbols rank 0,
+      slice_get-get_or (ranking_of settings).symbols rank 0 there,
+    )
 
 pub returns-clause-symbol : goal.returns-clause-symbol
 returns-clause-symbol c settings symbol rank = (
-  position-at (ranking_of settings).symbols rank symbol (few (ranking_of settings) (ranking_of-is settings)).1,
+  position-at (ranking_of settings).symbols rank symbol
+      (few (ranking_of settings) (ranking_of-is settings)).1,
   at-position (ranking_of settings).symbols rank symbol,
 )

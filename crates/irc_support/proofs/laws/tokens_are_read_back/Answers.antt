@@ -5,9 +5,12 @@ use Rattle.irc_support.specs.Written.{AreTokens}
 use Rattle.irc_support.proofs.TokensRead.{tokens_set, tokens_read}
 use Rattle.irc_support.proofs.laws.tokens_are_read_back.Goals as goal
 
-after_lines : (lines : List (List Text)) (settings : List Token) → AreTokens settings → AreTokens (fold set_tokens settings lines)
+after_lines : (lines : List (List Text)) (settings : List Token) → AreTokens settings →
+    AreTokens (fold set_tokens settings lines)
 after_lines [] settings all = all
-after_lines (params ∷ lines) settings all = after_lines lines (set_tokens settings params) (tokens_set settings params all)
+after_lines (params ∷ lines) settings all =
+    after_lines lines (set_tokens settings params) (tokens_set settings params all)
 
 pub returns : goal.returns
-returns c = record { in_force = λ lines. after_lines lines [] tt; kept = tokens_set; read = tokens_read }
+returns c =
+    record { in_force = λ lines. after_lines lines [] tt; kept = tokens_set; read = tokens_read }

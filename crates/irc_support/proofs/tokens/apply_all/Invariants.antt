@@ -4,4 +4,6 @@ use Rattle.indexmap.specs.IndexMap.{spare}
 use Rattle.irc_support.proofs.tokens.apply_all.Given as goal
 
 abbrev pub invariant-loop-edit : goal.invariant-loop-edit
-invariant-loop-edit g l = (tokens_in l.tokens.entries ≡ fold edited (tokens_in l.initial.tokens.entries) l.yielded) × (length l.fn.edits.items ≤ spare l.tokens + length l.yielded)
+invariant-loop-edit g l =
+    (tokens_in l.tokens.entries ≡ fold edited (tokens_in l.initial.tokens.entries) l.yielded) ×
+    (length l.fn.edits.items ≤ spare l.tokens + length l.yielded)

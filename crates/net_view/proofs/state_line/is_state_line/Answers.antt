@@ -1,11 +1,7 @@
-use Rattle.std.proofs.Common.{rules}
-use Rattle.net_view.specs.StateLines.{state_lines}
+use Rattle.std.proofs.Common.{◌∙◌, ap}
+use Rattle.std.specs.Prelude.{is_some}
+use Rattle.net_view.proofs.Commands.{is_read}
 use Rattle.net_view.proofs.state_line.is_state_line.Goals as goal
 
-pub returns-then-is_command-16 : goal.returns-then-is_command-16
-unfolding state_lines
-returns-then-is_command-16 g c = search rules
-
-pub returns-else-is_command-16 : goal.returns-else-is_command-16
-unfolding state_lines
-returns-else-is_command-16 g c = search rules
+pub returns : goal.returns
+returns g c = c.is_some.ensures ∙ ap is_some c.of.ensures.value ∙ is_read c.args.line.now

@@ -6,7 +6,8 @@ pub returns-then-self-eq0-clause-value : goal.returns-then-self-eq0-clause-value
 returns-then-self-eq0-clause-value c = rw (no_bits _ _ c.self.view_is c.if-self-eq0.true) refl
 
 pub returns-then-self-eq0-clause-empty : goal.returns-then-self-eq0-clause-empty
-returns-then-self-eq0-clause-empty c = (λ _. no_bits _ _ c.self.view_is c.if-self-eq0.true, λ _. refl)
+returns-then-self-eq0-clause-empty c =
+    (λ _. no_bits _ _ c.self.view_is c.if-self-eq0.true, λ _. refl)
 
 pub returns-clause-value : goal.returns-clause-value
 returns-clause-value c =

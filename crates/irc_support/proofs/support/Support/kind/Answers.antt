@@ -15,4 +15,6 @@ unfolding kind_of
 returns g c =
     let none : is_some (rank_of_letter c.args.self.now c.args.letter) ≡ false = cc in
     rw none (c.kind_by_lists.ensures ∙ ap (λ value. kind_in (lists_in value) c.args.letter)
-    (c.value_or-lists.ensures ∙ ap (λ settings. unwrap_or (value_of settings (codes "CHANMODES")) (codes "b,k,l,imnpst")) c.self.view_is))
+    (c.value_or-lists.ensures
+    ∙ ap (λ settings. unwrap_or (value_of settings (codes "CHANMODES")) (codes "b,k,l,imnpst"))
+    c.self.view_is))

@@ -8,5 +8,7 @@ pub returns-clause-taken : goal.returns-clause-taken
 unfolding set_tokens
 returns-clause-taken g c =
     let yes : has_command c.args.line.now (codes "005") ≡ true = cc in
-    rw yes (c.apply_all.ensures ∙ ap (λ settings. fold edited settings c.in_ok-edits.edits.items) (ap tokens_in c.in_ok-reserve.ensures.entries ∙ c.self.view_is)
+    rw yes (c.apply_all.ensures
+    ∙ ap (λ settings. fold edited settings c.in_ok-edits.edits.items)
+    (ap tokens_in c.in_ok-reserve.ensures.entries ∙ c.self.view_is)
     ∙ c.in_ok-edits.ensures c.args.self.now)

@@ -1,4 +1,5 @@
-use Rattle.std.proofs.Common.{◌≡◌, true, false, refl, sym, ap, ◌∙◌}
+use Rattle.std.proofs.Common.{◌≡◌, true, false, refl, sym, ap, ◌∙◌, subst}
+use Rattle.irc_line.specs.Writing.{is_writable}
 use Rattle.std.specs.Prelude.{◌&&◌, is_some, not}
 use Rattle.net_view.proofs.Tests.{and_false}
 use Rattle.std.specs.Option.{option_map, unwrap_or}
@@ -11,7 +12,7 @@ use Rattle.tape_view.specs.Marked.{settles_said}
 use Rattle.tape_view.specs.Tape.{tape_of}
 use Rattle.net_view.proofs.Tests.{is_some_map}
 use Rattle.tape_view.proofs.Counted.{counted_push, counted_so}
-use Rattle.tape_view.proofs.TapeTake.{IsNewLine, line_marked, line_settings, pushed_tape, supports_settings, late_settings, idle_settings}
+use Rattle.tape_view.proofs.TapeTake.{IsNewLine, line_marked, line_settings, pushed_tape, written_push, supports_settings, late_settings, idle_settings}
 use Rattle.tape_view.proofs.tape_view.TapeView.keep.Goals as goal
 use Rattle.tape_view.proofs.tape_view.TapeView.keep.Goals.{in_default-via-in-Supports+then-welcomed+else-not-ready, in_default-via-in-Supports+else-welcomed, in_default-via-in_default}
 
@@ -32,7 +33,8 @@ invariant_of-self-in-Welcomed-1 g c =
       line_marked c.self.inside.support c.self.inside.kept.items c.push.new.self.items kept c.told-telling.result own c.in_ok-push-in-Welcomed.ensures.items (c.self.invariant.0) new_line,
       line_settings c.self.inside.support c.in_ok-support-in-Welcomed.support c.self.inside.kept.items c.push.new.self.items kept c.told-telling.result own c.in_ok-push-in-Welcomed.ensures.items refl new_line
           (ap (λ r. settings_after (meant c.self.inside.support r) (record { own = own; ready = is_ready (tape_of c.self.inside.kept.items); settings = c.self.inside.support })) c.in-Welcomed.is ∙ sym c.in_ok-support-in-Welcomed.ensures),
-      counted_push c.self.inside.support c.self.inside.kept.items c.push.new.self.items kept c.told-telling.result own c.self.inside.names c.in_ok-names.names c.in_ok-push-in-Welcomed.ensures.items new_line c.self.invariant.2 (counted_so _ c.with_named.result _ c.in_ok-names.names c.with_named.ensures c.in_ok-names.ensures.value),
+      counted_push c.self.inside.support c.self.inside.kept.items c.push.new.self.items kept c.told-telling.result own c.self.inside.names c.in_ok-names.names c.in_ok-push-in-Welcomed.ensures.items new_line (c.self.invariant.2) (counted_so _ c.with_named.result _ c.in_ok-names.names c.with_named.ensures c.in_ok-names.ensures.value),
+      written_push c.self.inside.kept.items c.push.new.self.items kept c.in_ok-push-in-Welcomed.ensures.items refl (subst (λ l. is_writable l ≡ true) (sym line_is) c.requires) (c.self.invariant.3),
     )
 
 pub invariant_of-self-then-not-ready : goal.invariant_of-self-then-not-ready
@@ -53,8 +55,9 @@ invariant_of-self-then-not-ready g c =
     let unready : is_ready (tape_of c.self.inside.kept.items) ≡ false = sym (c.ready_in-ready.ensures ∙ ap (λ ks. is_ready (tape_of ks)) c.deref-2.ensures.value) ∙ c.if-not-ready.true in (
       line_marked c.self.inside.support c.self.inside.kept.items c.push-in-Supports.new.self.items kept c.told-telling.result own c.in_ok-push-in-Supports.ensures.items (c.self.invariant.0) new_line,
       line_settings c.self.inside.support c.take.new.self c.self.inside.kept.items c.push-in-Supports.new.self.items kept c.told-telling.result own c.in_ok-push-in-Supports.ensures.items refl new_line
-          (supports_settings c.self.inside.support c.take.new.self c.args.line.now c.told-telling.result c.in-Supports.field-0 own (is_ready (tape_of c.self.inside.kept.items)) c.told-telling.ensures c.in-Supports.is welcomed unready c.in_default-take.ensures.taken),
-      counted_push c.self.inside.support c.self.inside.kept.items c.push-in-Supports.new.self.items kept c.told-telling.result own c.self.inside.names c.in_ok-names.names c.in_ok-push-in-Supports.ensures.items new_line c.self.invariant.2 (counted_so _ c.with_named.result _ c.in_ok-names.names c.with_named.ensures c.in_ok-names.ensures.value),
+          (supports_settings c.self.inside.support c.take.new.self c.args.line.now c.told-telling.result c.in-Supports.line own (is_ready (tape_of c.self.inside.kept.items)) c.told-telling.ensures c.in-Supports.is welcomed unready c.in_default-take.ensures.taken),
+      counted_push c.self.inside.support c.self.inside.kept.items c.push-in-Supports.new.self.items kept c.told-telling.result own c.self.inside.names c.in_ok-names.names c.in_ok-push-in-Supports.ensures.items new_line (c.self.invariant.2) (counted_so _ c.with_named.result _ c.in_ok-names.names c.with_named.ensures c.in_ok-names.ensures.value),
+      written_push c.self.inside.kept.items c.push-in-Supports.new.self.items kept c.in_ok-push-in-Supports.ensures.items refl (subst (λ l. is_writable l ≡ true) (sym line_is) c.requires) (c.self.invariant.3),
     )
 
 pub returns-in_ok-push-in-Welcomed-clause-taken : goal.returns-in_ok-push-in-Welcomed-clause-taken
@@ -91,13 +94,14 @@ invariant_of-self-in_default g c =
     } in
     let keeps : settings_after (meant c.self.inside.support c.told-telling.result) (record { own = own; ready = is_ready (tape_of c.self.inside.kept.items); settings = c.self.inside.support }) ≡ c.self.inside.support =
     elim c.in_default.branch [
-      | in_default-via-in-Supports+then-welcomed+else-not-ready w ↦ late_settings c.self.inside.support c.told-telling.result w.in-Supports.field-0 own (is_ready (tape_of c.self.inside.kept.items)) w.in-Supports.is
+      | in_default-via-in-Supports+then-welcomed+else-not-ready w ↦ late_settings c.self.inside.support c.told-telling.result w.in-Supports.line own (is_ready (tape_of c.self.inside.kept.items)) w.in-Supports.is
           (and_false (is_some own) (not (is_ready (tape_of c.self.inside.kept.items))) (ap not (sym (c.ready_in-ready.ensures ∙ ap (λ ks. is_ready (tape_of ks)) c.deref-2.ensures.value) ∙ w.if-not-ready.false)))
-      | in_default-via-in-Supports+else-welcomed w ↦ late_settings c.self.inside.support c.told-telling.result w.in-Supports.field-0 own (is_ready (tape_of c.self.inside.kept.items)) w.in-Supports.is
+      | in_default-via-in-Supports+else-welcomed w ↦ late_settings c.self.inside.support c.told-telling.result w.in-Supports.line own (is_ready (tape_of c.self.inside.kept.items)) w.in-Supports.is
           (ap (λ b. b && not (is_ready (tape_of c.self.inside.kept.items))) (is_some_map (λ n. n.now) c.own_in-own.result ∙ sym c.is_some-welcomed.ensures ∙ w.if-welcomed.false))
       | in_default-via-in_default w ↦ idle_settings c.self.inside.support c.told-telling.result own (is_ready (tape_of c.self.inside.kept.items)) w.in_default.not-Welcomed w.in_default.not-Supports
     ] in (
       line_marked c.self.inside.support c.self.inside.kept.items c.push-in_default.new.self.items kept c.told-telling.result own c.in_ok-push-in_default.ensures.items (c.self.invariant.0) new_line,
       line_settings c.self.inside.support c.self.inside.support c.self.inside.kept.items c.push-in_default.new.self.items kept c.told-telling.result own c.in_ok-push-in_default.ensures.items refl new_line keeps,
-      counted_push c.self.inside.support c.self.inside.kept.items c.push-in_default.new.self.items kept c.told-telling.result own c.self.inside.names c.in_ok-names.names c.in_ok-push-in_default.ensures.items new_line c.self.invariant.2 (counted_so _ c.with_named.result _ c.in_ok-names.names c.with_named.ensures c.in_ok-names.ensures.value),
+      counted_push c.self.inside.support c.self.inside.kept.items c.push-in_default.new.self.items kept c.told-telling.result own c.self.inside.names c.in_ok-names.names c.in_ok-push-in_default.ensures.items new_line (c.self.invariant.2) (counted_so _ c.with_named.result _ c.in_ok-names.names c.with_named.ensures c.in_ok-names.ensures.value),
+      written_push c.self.inside.kept.items c.push-in_default.new.self.items kept c.in_ok-push-in_default.ensures.items refl (subst (λ l. is_writable l ≡ true) (sym line_is) c.requires) (c.self.invariant.3),
     )

@@ -1,6 +1,7 @@
 use Rattle.std.proofs.Common.{ap, sym, subst, ◌∙◌}
 use Rattle.net_view.specs.Transcript.{settings_of}
 use Rattle.tape_view.specs.Tape.{tape_of, IsMarkedTape}
+use Rattle.net_view.specs.Written.{AreWritten}
 use Rattle.tape_view.specs.NameCount.{IsCounted}
 use Rattle.tape_view.proofs.Counted.{none_counted}
 use Rattle.tape_view.proofs.TapeTake.{tape_none, none_marked, no_settings_yet}
@@ -14,4 +15,5 @@ invariant_of-result g c = (
   subst IsMarkedTape (sym c.new-2.ensures.items) (none_marked _),
   ap (λ ks. settings_of (tape_of ks)) c.new-2.ensures.items ∙ no_settings_yet _ ∙ sym c.in_ok-support.ensures,
   subst (λ ks. IsCounted ks 0) (sym c.new-2.ensures.items) (none_counted _),
+  subst (λ ks. AreWritten (tape_of ks)) (sym c.new-2.ensures.items) (subst AreWritten (sym (tape_none _)) tt),
 )

@@ -1,0 +1,32 @@
+-- What a client asks for by CAP REQ (IRCv3 capability negotiation): words with spaces between, each the name of
+-- a capability, with a minus before it where the client gives it up.
+use Rattle.std.specs.Prelude.{ℕ, Bool, true, false, ◌==◌, List, [], ◌∷◌, is_some, position, cond, if◌then◌else◌}
+use Rattle.std.specs.List.{list_all, filter_map}
+use Rattle.std.specs.Option.{option_map, unwrap_or}
+use Rattle.std.specs.Str.{bytes_eq}
+use Rattle.std.proofs.Common.{Option, Some, None}
+use Rattle.irc_support.specs.Text.{Text}
+use Rattle.irc_support.specs.NamesReply.{words_between}
+use Rattle.net_view.specs.LookBack.{last_in}
+use Rattle.client_caps.specs.Caps.{Caps, cap_names, caps_that, holds}
+
+-- the place of the capability of this name
+abbrev pub cap_place : Text → Option ℕ
+cap_place name = position (λ cap. bytes_eq name cap) cap_names
+
+-- what a word asks for: which capability, and whether it is to be held
+abbrev pub wish_of : Text → Option (ℕ × Bool)
+wish_of [] = None
+wish_of (b ∷ name) = if b == 45 then option_map (λ place. (place, false)) (cap_place name) else option_map (λ place. (place, true)) (cap_place (b ∷ name))
+
+-- what a wish says of the capability at this place
+abbrev pub says_held : ℕ → ℕ × Bool → Option Bool
+says_held place wish = cond (wish.0 == place) (Some wish.1) None
+
+-- the capabilities after these wishes: each is held as the last wish for it says, else as before
+abbrev pub caps_after : Caps → List (ℕ × Bool) → Caps
+caps_after caps wishes = caps_that (λ place. unwrap_or (last_in (says_held place) wishes) (holds caps place))
+
+-- the capabilities after a request, which is taken whole; none where a word asks for nothing that is known
+unfoldable pub request_of : Caps → Text → Option Caps
+request_of caps text = if list_all (λ word. is_some (wish_of word)) (words_between text) then Some (caps_after caps (filter_map wish_of (words_between text))) else None

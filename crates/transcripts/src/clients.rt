@@ -1,0 +1,183 @@
+//! What clients ask for and are sent.
+
+use client_caps::{Caps, Moment, image, part_lines, read_request};
+use irc_line::Line;
+use net_view::{Item, NetworkView};
+use std::alloc::Global;
+use std::test::Fail;
+use tape_view::TapeView;
+use welcome::Packet;
+
+fn line(alloc: Global, text: &[u8]) -> Result<Line, Fail> {
+    let line = Line::<Global>::read(alloc, text)?;
+    Ok(line.ok_or("the text is a line")?)
+}
+
+/// The view of these lines, behind a welcome and a JOIN of ours.
+fn view_of(alloc: Global, texts: &[&[u8]]) -> Result<TapeView, Fail> {
+    let mut view = TapeView::new(alloc)?;
+    let welcome: [&[u8]; 4] = [
+        b":s 001 Me :hi",
+        b":s 005 Me PREFIX=(ov)@+ CHANTYPES=# :are supported",
+        b":s 376 Me :end",
+        b":Me!m@h JOIN #c",
+    ];
+    for text in welcome.iter().chain(texts.iter()) {
+        view.take(&Item::Line(line(alloc, text)?))?;
+    }
+    Ok(view)
+}
+
+/// The capabilities that a request asks for, from none.
+fn asked(text: &[u8]) -> Result<Caps, Fail> {
+    Ok(read_request(Caps::none(), text).ok_or("the request is taken")?)
+}
+
+/// The text of the image of a line; `-` where there is none.
+fn image_text(alloc: Global, view: &TapeView, caps: Caps, text: &[u8]) -> Result<Vec<u8>, Fail> {
+    let mut out = Vec::new(alloc);
+    if caps.server_time {
+        return Ok(out);
+    }
+    match image(alloc, view, caps, &line(alloc, text)?, Moment(0))? {
+        Some(image) => image.write(&mut out)?,
+        None => out.push(b'-')?,
+    }
+    Ok(out)
+}
+
+/// Requests, and the names held after them.
+#[test]
+fn capabilities_asked_for(rt: HostRuntime) -> Result<(), Fail> {
+    let rows: [(&[u8], &[u8]); 8] = [
+        (b"", b"multi-prefix "),
+        (b"  ", b"multi-prefix "),
+        (b"batch", b"multi-prefix batch "),
+        (b"-multi-prefix", b""),
+        (b"-batch  batch -multi-prefix", b"batch "),
+        (b"batch -batch", b"multi-prefix "),
+        (b"batch sasl", b"-"),
+        (
+            b"away-notify server-time extended-join account-notify batch",
+            b"multi-prefix extended-join account-notify away-notify server-time batch ",
+        ),
+    ];
+    let before = asked(b"multi-prefix")?;
+    for (text, wanted) in &rows {
+        let mut held = Vec::new(rt.alloc());
+        match read_request(before, text) {
+            Some(caps) => {
+                for place in 0..6 {
+                    if caps.holds(place) {
+                        held.extend_from_slice(Caps::name(place).ok_or("six names")?)?;
+                        held.push(b' ')?;
+                    }
+                }
+            }
+            None => held.push(b'-')?,
+        }
+        assert!(&rt; held.as_slice() == *wanted);
+    }
+    assert!(&rt; Caps::name(6).is_none());
+    Ok(())
+}
+
+/// Images of lines: capabilities, the line, what is sent.
+#[test]
+fn lines_as_clients_are_sent_them(rt: HostRuntime) -> Result<(), Fail> {
+    let view = view_of(rt.alloc(), &[b":bob!b@h JOIN #c bobacc :Bob"])?;
+    let rows: [(&[u8], &[u8], &[u8]); 17] = [
+        (
+            b"",
+            b"@a=1 :bob!b@h PRIVMSG #c :hi all",
+            b":bob!b@h PRIVMSG #c :hi all\r\n",
+        ),
+        (b"", b"PING x", b"-"),
+        (b"", b"batch +a", b"-"),
+        (b"", b":bob!b@h ACCOUNT x", b"-"),
+        (
+            b"account-notify",
+            b":bob!b@h ACCOUNT x",
+            b":bob!b@h ACCOUNT x\r\n",
+        ),
+        (b"account-notify", b":bob!b@h AWAY :x y", b"-"),
+        (
+            b"away-notify",
+            b":bob!b@h AWAY :x y",
+            b":bob!b@h AWAY :x y\r\n",
+        ),
+        (
+            b"",
+            b":eve!e@h JOIN #d eveacc :Eve",
+            b":eve!e@h JOIN #d\r\n",
+        ),
+        (
+            b"",
+            b":eve!e@h JOIN d eveacc :Eve",
+            b":eve!e@h JOIN d eveacc Eve\r\n",
+        ),
+        (
+            b"extended-join",
+            b":eve!e@h JOIN #d eveacc :Eve E",
+            b":eve!e@h JOIN #d eveacc :Eve E\r\n",
+        ),
+        (
+            b"extended-join",
+            b":eve!e@h JOIN #d eveacc",
+            b":eve!e@h JOIN #d eveacc :\r\n",
+        ),
+        (
+            b"extended-join",
+            b":eve!e@h JOIN #d",
+            b":eve!e@h JOIN #d * :\r\n",
+        ),
+        (
+            b"extended-join",
+            b":BOB!b@h JOIN #d",
+            b":BOB!b@h JOIN #d bobacc :\r\n",
+        ),
+        (
+            b"",
+            b":s 353 Me = #c :Me  @+bob!b@h +eve @",
+            b":s 353 Me = #c :Me @bob!b@h +eve @\r\n",
+        ),
+        (
+            b"multi-prefix",
+            b":s 353 Me = #c :Me  @+bob",
+            b":s 353 Me = #c :Me  @+bob\r\n",
+        ),
+        (b"", b":bob!b@h NICK Me", b":bob!b@h NICK Me\r\n"),
+        (b"", b":@x!u@h JOIN #c", b":@x!u@h JOIN #c\r\n"),
+    ];
+    for (caps, text, wanted) in &rows {
+        let sent = image_text(rt.alloc(), &view, asked(caps)?, text)?;
+        assert!(&rt; sent.as_slice() == *wanted);
+    }
+    Ok(())
+}
+
+/// What is sent for a loss.
+#[test]
+fn channels_left_for_a_loss(rt: HostRuntime) -> Result<(), Fail> {
+    let view = view_of(rt.alloc(), &[b":Me!m@h JOIN #b", b":Me!m@h JOIN #a"])?;
+    let mut text = Vec::new(rt.alloc());
+    for line in part_lines(rt.alloc(), &view)? {
+        line.write(&mut text)?;
+    }
+    assert!(&rt; text.as_slice() == b":Me PART #a\r\n:Me PART #b\r\n:Me PART #c\r\n".as_slice());
+    Ok(())
+}
+
+/// A packet, and one that shares its bytes.
+#[test]
+fn a_packet_and_its_share(rt: HostRuntime) -> Result<(), Fail> {
+    let packet = Packet::one(rt.alloc(), &line(rt.alloc(), b"PRIVMSG #c :m 1")?)?;
+    let share = packet.share()?;
+    assert!(&rt; share.bytes() == b"PRIVMSG #c :m 1\r\n".as_slice());
+    assert!(&rt; share.line_count() == 1);
+    if share.line_count() > 0 {
+        let line: Line = share.line(rt.alloc(), 0)?;
+        assert!(&rt; line.param(1) == Some(b"m 1".as_slice()));
+    }
+    Ok(())
+}

@@ -1,0 +1,14 @@
+//! Tests alone: tables of lines, names, settings and transcripts as servers send them, with what is
+//! expected of each, and what clients are sent.
+#![tactic(auto)]
+
+#[cfg(test)]
+mod clients;
+#[cfg(test)]
+mod lines;
+#[cfg(test)]
+mod names;
+#[cfg(test)]
+mod settings;
+#[cfg(test)]
+mod views;

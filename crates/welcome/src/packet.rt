@@ -1,0 +1,101 @@
+//! What a session is sent in one go.
+
+ghost use Rattle.std.specs.Prelude.{◌≡◌, ◌∷◌, ◌<◌, [], IfOk, length, Some, slice_get};
+ghost use Rattle.std.specs.List.{flat_map};
+ghost use Rattle.irc_line.specs.Lines.{lines_of};
+ghost use Rattle.irc_line.specs.Writing.{written};
+ghost use Rattle.welcome.specs.Packets.{IsPacket};
+
+use bytes::Bytes;
+use irc_line::Line;
+use irc_support::cut;
+use net_view::OutOfMemory;
+use std::alloc::{Allocator, Global};
+use std::marker::Model;
+
+/// Lines that a session is sent in one go. Their bytes, each line with CR LF, are written once and
+/// shared by all sessions that are sent them.
+#[derive(Drop)]
+pub struct Packet<A: Allocator = Global> {
+    text: Bytes<A>,
+    // how many lines there are
+    count: usize,
+}
+
+impl<A: Allocator> Model for Packet<A> {
+    ghost use Rattle.std.specs.Prelude.{List};
+    ghost use Rattle.irc_line.specs.Line.{Parts};
+    ghost use Rattle.irc_line.specs.Lines.{lines_of};
+    ghost use Rattle.welcome.specs.Packets.{IsPacket};
+
+    ghost Value = { List Parts };
+
+    ghost view = { λ p. lines_of p.text };
+
+    ghost invariant = { λ p. IsPacket p.text p.count };
+}
+
+impl<A: Allocator + Clone> Packet<A> {
+    /// The packet of bytes that were written.
+    pub(crate) fn of_text(text: Vec<u8, A>, count: usize) -> Result<Packet<A>, OutOfMemory>
+        requires { IsPacket text.items count }
+        ensures { IfOk result (λ packet. packet ≡ lines_of text.items) }
+    {
+        let text = Bytes::from_vec(text)?;
+        Ok(Packet { text, count })
+    }
+
+    /// The packet of one line. One allocation for the bytes, and one for the count of their owners.
+    pub fn one<B: Allocator>(alloc: A, line: &Line<B>) -> Result<Packet<A>, OutOfMemory>
+        ensures { IfOk result (λ packet. packet ≡ line.now ∷ []) }
+    {
+        let mut text = Vec::new(alloc);
+        line.write(&mut text)?;
+        Packet::of_text(text, 1)
+    }
+}
+
+impl<A: Allocator> Packet<A> {
+    /// An equal packet, over the same bytes. It fails only where the count of owners is full.
+    pub fn share(&self) -> Result<Packet<A>, OutOfMemory>
+        ensures { IfOk result (λ packet. packet ≡ self.now) }
+    {
+        Ok(Packet {
+            text: self.text.clone()?,
+            count: self.count,
+        })
+    }
+
+    /// The bytes to write: the lines in order, each with CR LF.
+    pub fn bytes(&self) -> &[u8]
+        ensures { result.now ≡ flat_map written self.now }
+    {
+        &self.text
+    }
+
+    /// How many lines there are.
+    pub fn line_count(&self) -> usize
+        ensures { result ≡ length self.now }
+    {
+        self.count
+    }
+
+    /// The line at this place, counted from 0. It goes over the bytes of the lines before it.
+    pub fn line<B: Allocator + Drop>(
+        &self,
+        alloc: B,
+        place: usize,
+    ) -> Result<Line<B>, OutOfMemory>
+        requires { place < length self.now }
+        ensures { IfOk result (λ line. slice_get self.now place ≡ Some line) }
+    {
+        let mut rest = self.text.as_slice();
+        for _ in 0..place {
+            rest = cut(b'\n', rest).1.unwrap_or(&[]);
+        }
+        match Line::read(alloc, cut(b'\r', rest).0)? {
+            Some(line) => Ok(line),
+            None => unreachable!(),
+        }
+    }
+}
