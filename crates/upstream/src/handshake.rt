@@ -83,7 +83,8 @@ pub struct Welcomed {
 
 /// Sends lines, in one write.
 fn send<W: Write>(alloc: Global, lines: &[Line], writer: &mut W) -> Result<(), DialFault>
-    ensures sent { OnOk result (Appends (W.contents writer.old) (W.contents writer.new) (bytes_of lines.now)) }
+    ensures sent { OnOk result
+        (Appends (W.contents writer.old) (W.contents writer.new) (bytes_of lines.now)) }
     ensures err { IfErr result IsSendCause }
 {
     let mut bytes = Vec::new(alloc);
