@@ -1,9 +1,7 @@
 -- How many names kept lines bring up.
-use Rattle.std.specs.Prelude.{◌≡◌, ℕ, suc, ◌+◌, ◌^◌, ◌<◌, ◌≤◌, List, [], ◌∷◌, ◌++◌, true, map, length, set, get_or, Bool, false, cond}
+use Rattle.std.specs.Prelude.{◌≡◌, ℕ, suc, ◌+◌, ◌^◌, ◌<◌, ◌≤◌, List, [], ◌∷◌, ◌++◌, true, map, length, Bool, false, cond}
 use Rattle.std.proofs.Common.{Option, Some, None, Result, Ok, Err, refl, sym, ap, ◌∙◌, arith, length-append, subst}
 use Rattle.std.specs.Option.{SomeIff, ok_or}
-use Rattle.std.proofs.lemmas.List.{get_or_default}
-use Rattle.net_view.specs.Text.{Text}
 use Rattle.tape_view.specs.declared.places.Table.{Table}
 use Rattle.tape_view.specs.declared.places.Table.TheVariants.{Channels, Members}
 use Rattle.tape_view.specs.declared.kept.Kept.{Kept}
@@ -15,11 +13,9 @@ use Rattle.net_view.specs.Named.{named}
 use Rattle.tape_view.specs.Kept.{with_lost, tape_of}
 use Rattle.tape_view.specs.Places.{names_in}
 use Rattle.tape_view.specs.NameCount.{name_count, IsCounted}
-use Rattle.tape_view.proofs.TapeLast.{tape_push, split_last}
+use Rattle.tape_view.proofs.TapeLast.{tape_push}
 use Rattle.irc_line.specs.Line.{Parts}
 use Rattle.net_view.specs.Names.{same}
-use Rattle.net_view.specs.LookBack.{last}
-use Rattle.irc_support.specs.Text.{Text}
 
 readings_line : (b : Bool) (l : Parts) (older : List Arrival) → readings_of (with_lost b (Received l ∷ older)) ≡
     cond b (record { before = standing (Received l ∷ older); told = Disconnected } ∷ record { before = standing older; told = told (settings_of older) (Received l) } ∷ readings_of older) (record { before = standing older; told = told (settings_of older) (Received l) } ∷ readings_of older)
@@ -58,7 +54,7 @@ unfolding tape_of
 none_counted A = record { small = omega arith; enough = λ table. omega arith }
 
 -- one more line
-line_counted : {A : Type 0} (table : Table) (ks : List (Kept A)) (k : Kept A) → named (names_in table) (readings_of (tape_of (ks ++ k ∷ []))) ≡ names_in table (told (settings_of (tape_of ks)) (Received k.line)) ++ named (names_in table) (readings_of (tape_of ks))
+pub line_counted : {A : Type 0} (table : Table) (ks : List (Kept A)) (k : Kept A) → named (names_in table) (readings_of (tape_of (ks ++ k ∷ []))) ≡ names_in table (told (settings_of (tape_of ks)) (Received k.line)) ++ named (names_in table) (readings_of (tape_of ks))
 line_counted table ks k = ap (λ items. named (names_in table) (readings_of items)) (tape_push ks k) ∙ named_line table k.lost k.line (tape_of ks)
 
 pub counted_push : {A : Type 0} (ks ls : List (Kept A)) (k : Kept A) (t : Told) (count sum : ℕ) → ls ≡ ks ++ k ∷ [] → t ≡ told (settings_of (tape_of ks)) (Received k.line) → IsCounted ks count → (sum ≡ count + name_count t) × (sum < 2 ^ 64) → IsCounted ls sum
@@ -70,24 +66,6 @@ counted_push ks ls k t count sum pushed tell counted more = record {
       ap (λ l. length (named (names_in table) (readings_of (tape_of l)))) pushed ∙ ap length (line_counted table ks k ∙ ap (λ u. names_in table u ++ rest) (sym tell)) ∙ length-append (names_in table t) rest in
       let few = names_few table t in
       omega (arith, e, few, counted.enough table, more.0);
-}
-
--- a loss brings up nothing
-pub loss_counted : {A : Type 0} (ks : List (Kept A)) (i : ℕ) (k : Kept A) (count : ℕ) → suc i ≡ length ks → k ≡ get_or ks i k → IsCounted ks count → IsCounted (set ks i (record { line = k.line; marks = k.marks; fixed = k.fixed; lost = true })) count
-loss_counted {A} ks i k count last at counted = record {
-  small = counted.small;
-  enough = λ table.
-      let x : Kept A = record { line = k.line; marks = k.marks; fixed = k.fixed; lost = true } in
-      let r = split_last ks i x last in
-      let same_k : k ≡ r.last = at ∙ get_or_default ks i k x (omega arith) ∙ r.is in
-      let names : List (Kept A) → List Text = λ s. named (names_in table) (readings_of (tape_of s)) in
-      let e : names (set ks i x) ≡ names ks =
-      ap names r.marked
-      ∙ line_counted table r.front x
-      ∙ ap (λ (j : Kept A). names_in table (told (settings_of (tape_of r.front)) (Received j.line)) ++ names r.front) same_k
-      ∙ sym (line_counted table r.front r.last)
-      ∙ ap names (sym r.whole) in
-      subst (λ n. length n ≤ count) (sym e) (counted.enough table);
 }
 
 ok_value : {E : Type 0} → Result ℕ E → ℕ

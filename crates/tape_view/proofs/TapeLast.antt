@@ -10,6 +10,7 @@ use Rattle.tape_view.specs.declared.tape.Said.{Said}
 use Rattle.net_view.specs.declared.state_line.Telling.{Telling}
 use Rattle.net_view.specs.Told.{Told, Welcomed, Supports, Renamed}
 use Rattle.net_view.specs.Arrival.{Arrival, Received}
+use Rattle.net_view.specs.StateCommands.{state_command}
 use Rattle.net_view.specs.StateLines.{told}
 use Rattle.net_view.specs.Transcript.{Standing, standing, standing_after, settings_after, settings_of, ready_after, is_ready, own_after, own_nick, is_us, Reading, readings_of, ours}
 use Rattle.net_view.specs.Presence.{name_on, is_on}
@@ -163,6 +164,9 @@ module _ {A : Type 0} (ks : List (Kept A)) (k : Kept A) (some : 1 ≤ length ks)
       ∙ ap (λ t. own_after t (standing items)) (sym tell)
       ∙ own_by (meant (settings_of items) r) (standing items)
       ∙ ap (λ o. option_or o (own_nick items)) (sym (read (settings_of items) (is_us (standing items)) (subst (λ t. IsMarked (is_us (standing items)) t k.marks) (sym tell) marks.marks)))
+
+  pub command_last : IsMarkedTape ks → state_command k.line ≡ Some k.command
+  command_last m = ((marked_split older k (subst IsMarkedTape (ends_with ks k some last) m)).0).command
 
   pub ready_last : IsMarkedTape ks → is_ready (tape_of ks) ≡ k.fixed
   ready_last m =

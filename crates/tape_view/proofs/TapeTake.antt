@@ -1,7 +1,7 @@
 -- A tape after one more item.
 use Rattle.irc_support.specs.Tokens.{Token, set_tokens}
-use Rattle.std.specs.Prelude.{◌≡◌, ◌&&◌, is_some, ℕ, ◌+◌, ◌<◌, ◌^◌, suc, Bool, true, false, List, [], ◌∷◌, ◌++◌, length, set, get_or, reverse}
-use Rattle.std.proofs.Common.{Option, Bor, codes, cond, not, refl, sym, ap, ◌∙◌, arith, subst}
+use Rattle.std.specs.Prelude.{◌≡◌, ◌&&◌, is_some, ℕ, ◌+◌, ◌<◌, ◌^◌, suc, Bool, true, false, List, [], ◌∷◌, ◌++◌, length, set, get_or, reverse, ◌≤◌}
+use Rattle.std.proofs.Common.{Option, Bor, codes, cond, not, refl, sym, ap, ◌∙◌, arith, subst, Some}
 use Rattle.std.proofs.lemmas.List.{reverse-append, reverse-reverse, get_or_default}
 use Rattle.irc_line.specs.Line.{Parts, has_command}
 use Rattle.irc_line.specs.Writing.{is_writable}
@@ -24,7 +24,9 @@ use Rattle.net_view.proofs.StepLaw.{view_step, view_back_step}
 use Rattle.net_view.specs.Table.{table}
 use Rattle.net_view.specs.Told.{Disconnected}
 use Rattle.net_view.specs.StateLines.{told}
-use Rattle.tape_view.proofs.Counted.{counted_push}
+use Rattle.tape_view.proofs.Counted.{counted_push, line_counted}
+use Rattle.net_view.specs.StateCommands.{state_command}
+use Rattle.tape_view.specs.Whole.{IsWhole}
 use Rattle.tape_view.specs.NameCount.{name_count, IsCounted}
 use Rattle.tape_view.proofs.TapeLast.{split_last, tape_push, marked_split}
 use Rattle.net_view.proofs.Emptied.{view_lost, emptied}
@@ -48,20 +50,6 @@ back_lost older = view_back_step Lost older ∙ emptied (view_back older) Discon
 lost_again : (b : Bool) (items : List Arrival) → view_back (Lost ∷ items) ≡ lost_view (view_back (with_lost b items))
 lost_again true items = back_lost items ∙ sym (ap lost_view (back_lost items))
 lost_again false items = back_lost items
-
-pub loss_taken : {A : Type 0} (items : List Arrival) (ks : List (Kept A)) (i : ℕ) (k : Kept A) → suc i ≡ length ks → k ≡ get_or ks i k → view_back (tape_of ks) ≡ view_of items →
-    view_back (tape_of (set ks i (record { line = k.line; marks = k.marks; fixed = k.fixed; lost = true }))) ≡ view_of (items ++ Lost ∷ [])
-loss_taken {A} items ks i k last at e =
-    let x : Kept A = record { line = k.line; marks = k.marks; fixed = k.fixed; lost = true } in
-    let r = split_last ks i x last in
-    let same_k : k ≡ r.last = at ∙ get_or_default ks i k x (omega arith) ∙ r.is in
-    ap (λ s. view_back (tape_of s)) r.marked
-    ∙ ap view_back (tape_push r.front x)
-    ∙ ap (λ (j : Kept A). view_back (Lost ∷ Received j.line ∷ tape_of r.front)) same_k
-    ∙ lost_again r.last.lost (Received r.last.line ∷ tape_of r.front)
-    ∙ ap (λ t. lost_view (view_back t)) (sym (tape_push r.front r.last) ∙ ap tape_of (sym r.whole))
-    ∙ ap lost_view e
-    ∙ sym (view_lost items)
 
 no_length : {A : Type 0} (ks : List A) → length ks ≡ 0 → ks ≡ []
 no_length [] e = refl
@@ -119,12 +107,13 @@ told_there : {B : Type 0} (settings : List Token) (items : List Arrival) (r : Te
 told_there settings items r l in_force tells = tells settings ∙ ap (λ s. told s (Received l)) (sym in_force)
 
 -- a line is marked by what was before it
-pub marked_line : {A B : Type 0} (items : List Arrival) (k : Kept A) (r : Telling B) (settings : List Token) (own : Option Text) (ready : Bool) → settings_of items ≡ settings → ((s : List Token) → meant s r ≡ told s (Received k.line)) → own ≡ own_nick items → ready ≡ is_ready items →
+pub marked_line : {A B : Type 0} (items : List Arrival) (k : Kept A) (r : Telling B) (settings : List Token) (own : Option Text) (ready : Bool) → settings_of items ≡ settings → ((s : List Token) → meant s r ≡ told s (Received k.line)) → own ≡ own_nick items → ready ≡ is_ready items → state_command k.line ≡ Some k.command →
     IsMarked (us_of settings own) (meant settings r) k.marks → ((s : List Token) → k.fixed ≡ ready_after (meant s r) (record { own = own; ready = ready; settings = s })) → IsMarkedLine items k
 unfolding told
-marked_line items k r settings own ready in_force tells ours is marks fixed =
+marked_line items k r settings own ready in_force tells ours is command marks fixed =
     let us : us_of settings own ≡ is_us (standing items) = ap (λ s. us_of s own) (sym in_force) ∙ ap (us_of (settings_of items)) ours in
     record {
+      command = command;
       marks = subst (λ (u : Text → Bool). IsMarked u (told (settings_of items) (Received k.line)) k.marks) us (subst (λ t. IsMarked (us_of settings own) t k.marks) (told_there settings items r k.line in_force tells) marks);
       fixed = fixed (settings_of items)
           ∙ ap (λ o. ready_after (meant (settings_of items) r) (record { own = o; ready = ready; settings = settings_of items })) ours
@@ -144,46 +133,23 @@ written_push ks ls k pushed lost line h =
 -- what holds of the kept lines with one more
 pub line_kept : {A B : Type 0} (settings new : List Token) (ks ls : List (Kept A)) (k : Kept A) (r : Telling B) (l : Parts) (count sum : ℕ) → ls ≡ ks ++ k ∷ [] → (k.line ≡ l) × (k.lost ≡ false) → IsMarkedLine (tape_of ks) k →
     ((s : List Token) → meant s r ≡ told s (Received l)) → settings_of (tape_of ks) ≡ settings → settings_after (meant settings r) (standing (tape_of ks)) ≡ new → IsMarkedTape ks → IsCounted ks count → (sum ≡ count + name_count (meant settings r)) × (sum < 2 ^ 64) → AreWritten (tape_of ks) → is_writable l ≡ true →
-    IsMarkedTape ls × (settings_of (tape_of ls) ≡ new) × IsCounted ls sum × AreWritten (tape_of ls)
+    IsWhole ls new sum
 unfolding told
 line_kept settings new ks ls k r l count sum pushed line marked tells in_force is before counted more written writable =
-    let tell = told_there settings (tape_of ks) r l in_force tells in (
-      subst IsMarkedTape (sym pushed) (marked_push ks k marked before),
-      ap settings_of (pushed_tape ks ls k l (tape_of ks) pushed line refl) ∙ ap (λ t. settings_after t (standing (tape_of ks))) (sym tell) ∙ is,
-      counted_push ks ls k (meant settings r) count sum pushed (tell ∙ ap (λ m. told (settings_of (tape_of ks)) (Received m)) (sym (line.0))) counted more,
-      written_push ks ls k pushed (line.1) (subst (λ m. is_writable m ≡ true) (sym (line.0)) writable) written,
-    )
+    let tell = told_there settings (tape_of ks) r l in_force tells in
+    record {
+      marked = subst IsMarkedTape (sym pushed) (marked_push ks k marked before);
+      in_force = ap settings_of (pushed_tape ks ls k l (tape_of ks) pushed line refl) ∙ ap (λ t. settings_after t (standing (tape_of ks))) (sym tell) ∙ is;
+      counted = counted_push ks ls k (meant settings r) count sum pushed (tell ∙ ap (λ m. told (settings_of (tape_of ks)) (Received m)) (sym (line.0))) counted more;
+      written = written_push ks ls k pushed (line.1) (subst (λ m. is_writable m ≡ true) (sym (line.0)) writable) written;
+    }
 
 -- ---- a loss
-
-pub loss_marked : {A : Type 0} (ks : List (Kept A)) (i : ℕ) (k : Kept A) → suc i ≡ length ks → k ≡ get_or ks i k → IsMarkedTape ks → IsMarkedTape (set ks i (record { line = k.line; marks = k.marks; fixed = k.fixed; lost = true }))
-loss_marked {A} ks i k last at marked =
-    let x : Kept A = record { line = k.line; marks = k.marks; fixed = k.fixed; lost = true } in
-    let r = split_last ks i x last in
-    let same_k : k ≡ r.last = at ∙ get_or_default ks i k x (omega arith) ∙ r.is in
-    let parts = marked_split r.front r.last (subst IsMarkedTape r.whole marked) in
-    let here = parts.0 in
-    subst IsMarkedTape (sym r.marked) (marked_push r.front x (record {
-      marks = subst (λ (j : Kept A). IsMarked (is_us (standing (tape_of r.front))) (told (settings_of (tape_of r.front)) (Received j.line)) j.marks) (sym same_k) here.marks;
-      fixed = subst (λ (j : Kept A). j.fixed ≡ is_ready (Received j.line ∷ tape_of r.front)) (sym same_k) here.fixed;
-    }) (parts.1))
 
 lost_settings : (b : Bool) (items : List Arrival) → settings_of (Lost ∷ items) ≡ settings_of (with_lost b items)
 unfolding told
 lost_settings true items = refl
 lost_settings false items = refl
-
-pub loss_settings : {A : Type 0} (ks : List (Kept A)) (i : ℕ) (k : Kept A) → suc i ≡ length ks → k ≡ get_or ks i k → settings_of (tape_of (set ks i (record { line = k.line; marks = k.marks; fixed = k.fixed; lost = true }))) ≡ settings_of (tape_of ks)
-loss_settings {A} ks i k last at =
-    let x : Kept A = record { line = k.line; marks = k.marks; fixed = k.fixed; lost = true } in
-    let r = split_last ks i x last in
-    let same_k : k ≡ r.last = at ∙ get_or_default ks i k x (omega arith) ∙ r.is in
-    ap (λ s. settings_of (tape_of s)) r.marked
-    ∙ ap settings_of (tape_push r.front x)
-    ∙ ap (λ (j : Kept A). settings_of (Lost ∷ Received j.line ∷ tape_of r.front)) same_k
-    ∙ lost_settings r.last.lost (Received r.last.line ∷ tape_of r.front)
-    ∙ ap settings_of (sym (tape_push r.front r.last))
-    ∙ ap (λ s. settings_of (tape_of s)) (sym r.whole)
 
 pub none_marked : (A : Type 0) → IsMarkedTape {A = A} []
 unfolding IsMarkedTape
@@ -192,17 +158,6 @@ none_marked A = tt
 pub no_settings_yet : (A : Type 0) → settings_of (tape_of {A = A} []) ≡ []
 unfolding tape_of
 no_settings_yet A = refl
-
--- after a loss
-pub loss_written : {A : Type 0} (ks : List (Kept A)) (i : ℕ) (k : Kept A) → suc i ≡ length ks → k ≡ get_or ks i k → AreWritten (tape_of ks) →
-    AreWritten (tape_of (set ks i (record { line = k.line; marks = k.marks; fixed = k.fixed; lost = true })))
-loss_written {A} ks i k last at h =
-    let x : Kept A = record { line = k.line; marks = k.marks; fixed = k.fixed; lost = true } in
-    let r = split_last ks i x last in
-    let same_k : k ≡ r.last = at ∙ get_or_default ks i k x (omega arith) ∙ r.is in
-    let old : AreWritten (Received r.last.line ∷ tape_of r.front) =
-    kept_written r.last.lost (Received r.last.line ∷ tape_of r.front) (subst AreWritten (ap tape_of r.whole ∙ tape_push r.front r.last) h) in
-    subst AreWritten (sym (ap tape_of r.marked ∙ tape_push r.front x)) (tt, subst (λ (j : Kept A). AreWritten (Received j.line ∷ tape_of r.front)) (sym same_k) old)
 
 -- in the order in which they came
 written_end : (items : List Arrival) (x : Arrival) → AreWritten items → AreWritten (x ∷ []) → AreWritten (items ++ x ∷ [])
@@ -217,3 +172,39 @@ written_reversed (x ∷ items) h = subst AreWritten (sym (reverse-append (x ∷ 
 pub from_lines : (tape : List Arrival) → AreWritten tape → (items : List Arrival) × AreWritten items × (view_back tape ≡ view_of items)
 unfolding view_of
 from_lines tape h = (reverse tape, written_reversed tape h, ap view_back (sym (reverse-reverse tape)))
+
+-- ---- a loss after the last line
+
+abbrev lost_one : {A : Type 0} → Kept A → Kept A
+lost_one k = record { command = k.command; line = k.line; marks = k.marks; fixed = k.fixed; lost = true }
+
+lost_last : {A : Type 0} (front : List (Kept A)) (k : Kept A) (settings : List Token) (names : ℕ) → IsWhole (front ++ k ∷ []) settings names → IsWhole (front ++ lost_one k ∷ []) settings names
+lost_last front k settings names h =
+    let parts = marked_split front k h.marked in
+    let here = parts.0 in
+    record {
+      marked = marked_push front (lost_one k) (record { command = here.command; marks = here.marks; fixed = here.fixed }) (parts.1);
+      in_force = ap settings_of (tape_push front (lost_one k)) ∙ lost_settings k.lost (Received k.line ∷ tape_of front) ∙ ap settings_of (sym (tape_push front k)) ∙ h.in_force;
+      counted = record {
+        small = h.counted.small;
+        enough = λ table. subst (λ (keys : List Text). length keys ≤ names) (line_counted table front k ∙ sym (line_counted table front (lost_one k))) (h.counted.enough table);
+      };
+      written = subst AreWritten (sym (tape_push front (lost_one k))) (tt, kept_written k.lost (Received k.line ∷ tape_of front) (subst AreWritten (tape_push front k) h.written));
+    }
+
+pub loss_kept : {A : Type 0} (ks : List (Kept A)) (i : ℕ) (k : Kept A) (settings : List Token) (names : ℕ) → suc i ≡ length ks → k ≡ get_or ks i k → IsWhole ks settings names → IsWhole (set ks i (lost_one k)) settings names
+loss_kept ks i k settings names last at h =
+    let r = split_last ks i (lost_one k) last in
+    let same_k : k ≡ r.last = at ∙ get_or_default ks i k (lost_one k) (omega arith) ∙ r.is in
+    subst (λ l. IsWhole l settings names) (ap (λ j. r.front ++ lost_one j ∷ []) (sym same_k) ∙ sym r.marked) (lost_last r.front r.last settings names (subst (λ l. IsWhole l settings names) r.whole h))
+
+pub loss_taken : {A : Type 0} (items : List Arrival) (ks : List (Kept A)) (i : ℕ) (k : Kept A) → suc i ≡ length ks → k ≡ get_or ks i k → view_back (tape_of ks) ≡ view_of items → view_back (tape_of (set ks i (lost_one k))) ≡ view_of (items ++ Lost ∷ [])
+loss_taken items ks i k last at e =
+    let r = split_last ks i (lost_one k) last in
+    let same_k : k ≡ r.last = at ∙ get_or_default ks i k (lost_one k) (omega arith) ∙ r.is in
+    ap (λ s. view_back (tape_of s)) (r.marked ∙ ap (λ j. r.front ++ lost_one j ∷ []) same_k)
+    ∙ ap view_back (tape_push r.front (lost_one r.last))
+    ∙ lost_again r.last.lost (Received r.last.line ∷ tape_of r.front)
+    ∙ ap (λ t. lost_view (view_back t)) (sym (tape_push r.front r.last) ∙ ap tape_of (sym r.whole))
+    ∙ ap lost_view e
+    ∙ sym (view_lost items)

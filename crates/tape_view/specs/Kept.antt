@@ -2,6 +2,8 @@
 use Rattle.std.specs.Prelude.{◌≡◌, Bool, true, List, [], ◌∷◌, reverse, if◌then◌else◌}
 use Rattle.irc_support.specs.Tokens.{Token}
 use Rattle.net_view.specs.Arrival.{Arrival, Received, Lost}
+use Rattle.std.proofs.Common.{Some}
+use Rattle.net_view.specs.StateCommands.{state_command}
 use Rattle.net_view.specs.StateLines.{told}
 use Rattle.net_view.specs.Transcript.{standing, is_us, is_ready, settings_of}
 use Rattle.tape_view.specs.Marks.{IsMarked}
@@ -19,8 +21,9 @@ played_back (k ∷ older) = with_lost k.lost (Received k.line ∷ played_back ol
 unfoldable pub tape_of : {A : Type 0} → List (Kept A) → List Arrival
 tape_of kept = played_back (reverse kept)
 
--- A kept line is marked by who we were before it, and by whether the settings are fixed after it.
+-- A kept line is marked by its command, by who we were before it, and by whether the settings are fixed after it.
 pub record IsMarkedLine {A : Type 0} (older : List Arrival) (k : Kept A) : Type 0 where
+  pub command : state_command k.line ≡ Some k.command
   pub marks : IsMarked (is_us (standing older)) (told (settings_of older) (Received k.line)) k.marks
   pub fixed : k.fixed ≡ is_ready (Received k.line ∷ older)
 

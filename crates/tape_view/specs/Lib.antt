@@ -5,3 +5,4 @@ pub mod FactKinds
 pub mod Letters
 pub mod Places
 pub mod NameCount
+pub mod Whole

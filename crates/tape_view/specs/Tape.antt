@@ -15,9 +15,13 @@ pub record Heard : Type 0 where
   pub settings : List Token
   pub readings : List Reading
 
--- what a transcript reads as, the newest item first
+-- what a transcript, the newest item first, reads as by these settings
+abbrev pub read_by : List Token → List Arrival → Heard
+read_by settings items = record { settings = settings; readings = readings_of items }
+
+-- and by those in force after it
 abbrev pub heard : List Arrival → Heard
-heard items = record { settings = settings_of items; readings = readings_of items }
+heard items = read_by (settings_of items) items
 
 -- the key of a name, by the settings in force
 abbrev pub key : Heard → Text → Text

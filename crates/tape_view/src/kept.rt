@@ -13,7 +13,7 @@ ghost use Rattle.tape_view.specs.Kept.{tape_of, IsMarkedTape};
 
 use irc_line::Line;
 use irc_support::Support;
-use net_view::{Telling, told};
+use net_view::{StateCommand, Telling, told_as};
 use std::alloc::Allocator;
 
 /// Whether a line comes from us, and whether it names us, by our nick before it.
@@ -23,10 +23,11 @@ pub(crate) struct Marks {
     pub(crate) names_us: bool,
 }
 
-/// A state line, whether it comes from us or names us, whether the settings are fixed after it, and whether
-/// the connection was lost before the next one.
+/// A state line with its command, whether it comes from us or names us, whether the settings are fixed
+/// after it, and whether the connection was lost before the next one.
 #[derive(Drop)]
 pub(crate) struct Kept<A: Allocator> {
+    pub(crate) command: StateCommand,
     pub(crate) line: Line<A>,
     pub(crate) marks: Marks,
     pub(crate) fixed: bool,
@@ -78,7 +79,8 @@ fn person_named<'a, A: Allocator>(telling: &Telling<'a, A>) -> Option<&'a [u8]>
     }
 }
 
-/// Whether what a line tells comes from us, and whether it names us, where this was our nick before it.
+/// Whether what a line tells comes from us, and whether it names us, where this was our nick before
+/// it.
 pub(crate) fn marks_of<S: Allocator, A: Allocator>(
     support: &Support<S>,
     telling: &Telling<'_, A>,
@@ -112,7 +114,8 @@ pub(crate) fn fixed_after<A: Allocator>(
 
 /// The nick that is ours from here on, where the line says one.
 fn own_told<'a, A: Allocator>(telling: &Telling<'a, A>, marks: Marks) -> Option<&'a [u8]>
-    ensures { (settings : List Token) (us : Text → Bool) → IsMarked us (meant settings telling.now) marks →
+    ensures { (settings : List Token) (us : Text → Bool) →
+        IsMarked us (meant settings telling.now) marks →
         option_map (λ nick. nick.now) result ≡ own_said us (meant settings telling.now) }
 {
     match telling {
@@ -129,7 +132,7 @@ pub(crate) fn own_in<A: Allocator>(kept: &[Kept<A>]) -> Option<&[u8]>
 {
     let mut left = kept;
     while let [older @ .., last] = left {
-        if let Some(nick) = own_told(&told(&last.line), last.marks) {
+        if let Some(nick) = own_told(&told_as(last.command, &last.line), last.marks) {
             return Some(nick);
         }
         left = older;

@@ -1,6 +1,7 @@
 //! Who is a member of a channel on which we are.
 
-ghost use Rattle.std.specs.Prelude.{◌≡◌, ◌&&◌, ℕ, Bool, true, false, is_some, option_map, unwrap_or};
+ghost use Rattle.std.specs.Prelude.{◌≡◌, ◌&&◌, ℕ, Bool, true, false};
+ghost use Rattle.std.specs.Prelude.{is_some, option_map, unwrap_or};
 ghost use Rattle.std.specs.List.{filter_map};
 ghost use Rattle.irc_names.specs.Nick.{is_nameable};
 ghost use Rattle.irc_support.specs.Line.{words_in};
@@ -26,7 +27,8 @@ use std::alloc::Allocator;
 /// Whether this nick, of a name list or of a MODE, is this person's.
 pub(crate) fn names_person<A: Allocator>(support: &Support<A>, word: &[u8], nick: &[u8]) -> bool
     ensures { result
-        ≡ (is_nameable word.now && same (key_by support.now nick.now) (key_by support.now word.now)) }
+        ≡ (is_nameable word.now
+        && same (key_by support.now nick.now) (key_by support.now word.now)) }
 {
     is_nameable(word) && is_same(support, nick, word)
 }
@@ -117,8 +119,8 @@ impl<'a, A: Allocator> Said<'a, A> {
 }
 
 impl<'a, A: Allocator> Tape<'a, A> {
-    /// Whether the last line that speaks of the channel, on which we are, and of the person makes the person
-    /// a member. The person is followed back under earlier names.
+    /// Whether the last line that speaks of the channel, on which we are, and of the person makes the
+    /// person a member. The person is followed back under earlier names.
     fn was_made_member(&self, channel: &[u8], nick: &[u8]) -> bool
         requires { is_on self.now.readings (key self.now channel.now) ≡ true }
         ensures { result

@@ -1,5 +1,5 @@
-//! The modes of a channel on which we are: what the kept lines say of a letter, and the letters that are on,
-//! in the order of their bytes.
+//! The modes of a channel on which we are: what the kept lines say of a letter, and the letters that
+//! are on, in the order of their bytes.
 
 ghost use Rattle.std.specs.Prelude.{◌≡◌, Bool, true, option_map};
 ghost use Rattle.std.specs.List.{filter_map};
@@ -127,8 +127,8 @@ impl<'a, A: Allocator> Tape<'a, A> {
         None
     }
 
-    /// The best so far, or the best of the letters that a line lists: on, above the given one and before the
-    /// best.
+    /// The best so far, or the best of the letters that a line lists: on, above the given one and before
+    /// the best.
     fn best_listed(
         &self,
         channel: &[u8],
@@ -174,10 +174,12 @@ impl<'a, A: Allocator> Tape<'a, A> {
         }
     }
 
-    /// The least letter above the given one, among those that are on. Before our own JOIN nothing counts.
+    /// The least letter above the given one, among those that are on. Before our own JOIN nothing
+    /// counts.
     fn next_letter(&self, channel: &[u8], after: Option<u8>) -> Option<u8>
         requires { is_on self.now.readings (key self.now channel.now) ≡ true }
-        ensures { IsNextBy nat_cmp (is_set self.now.readings (key self.now channel.now)) after result }
+        ensures { IsNextBy nat_cmp (is_set self.now.readings (key self.now channel.now)) after
+            result }
     {
         let mut best = None;
         let mut tape = self.copy();

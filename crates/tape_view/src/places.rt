@@ -1,4 +1,5 @@
-//! What stands at a place: the channels that we are on, and the members of one, in the order of their keys.
+//! What stands at a place: the channels that we are on, and the members of one, in the order of their
+//! keys.
 
 ghost use Rattle.std.specs.Prelude.{◌≡◌, ◌<◌, ◌^◌, length, option_map};
 ghost use Rattle.std.specs.Ordering.{is_lt};
@@ -76,7 +77,8 @@ impl<'a, A: Allocator> Tape<'a, A> {
         ensures { key_in self.now.settings (option_map (λ n. n.now) result)
             ≡ better (is_there self.now table.entry)
             (key_in self.now.settings (option_map (λ a. a.now) after.entry))
-            (key_in self.now.settings (option_map (λ b. b.now) best.entry)) (key self.now name.now) }
+            (key_in self.now.settings (option_map (λ b. b.now) best.entry))
+            (key self.now name.now) }
     {
         if self.is_above(after, name) && self.is_better(best, name) && self.is_there(table, name) {
             Some(name)

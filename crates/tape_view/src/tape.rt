@@ -6,18 +6,17 @@ ghost use Rattle.irc_support.specs.Text.{Text};
 ghost use Rattle.net_view.specs.LookBack.{name_before};
 ghost use Rattle.net_view.specs.Names.{same};
 ghost use Rattle.net_view.specs.Presence.{is_on};
-ghost use Rattle.net_view.specs.Transcript.{readings_of};
 ghost use Rattle.tape_view.specs.Kept.{tape_of, IsReadable};
-ghost use Rattle.tape_view.specs.Tape.{key, key_there, meaning, IsBy, IsLast};
+ghost use Rattle.tape_view.specs.Tape.{key, key_there, meaning, read_by, IsBy, IsLast};
 
 use crate::kept::{Kept, Marks, is_same};
 use irc_support::Support;
-use net_view::{Telling, told};
+use net_view::{Telling, told_as};
 use std::alloc::Allocator;
 use std::marker::Model;
 
-/// A line of a tape: the settings that it is read by, what it tells, and whether it comes from us or names
-/// us.
+/// A line of a tape: the settings that it is read by, what it tells, and whether it comes from us or
+/// names us.
 #[derive(Drop)]
 pub(crate) struct Said<'a, A: Allocator> {
     pub(crate) support: &'a Support<A>,
@@ -61,13 +60,12 @@ pub(crate) struct Tape<'a, A: Allocator> {
 }
 
 impl<'a, A: Allocator> Model for Tape<'a, A> {
-    ghost use Rattle.net_view.specs.Transcript.{readings_of};
     ghost use Rattle.tape_view.specs.Kept.{tape_of, IsReadable};
-    ghost use Rattle.tape_view.specs.Tape.{Heard};
+    ghost use Rattle.tape_view.specs.Tape.{Heard, read_by};
 
     ghost Value = { Heard };
 
-    ghost view = { λ t. record { settings = t.support.now; readings = readings_of (tape_of t.kept.now) } };
+    ghost view = { λ t. read_by t.support.now (tape_of t.kept.now) };
 
     ghost invariant = { λ t. IsReadable t.support.now t.kept.now };
 }
@@ -76,8 +74,7 @@ impl<'a, A: Allocator> Tape<'a, A> {
     /// These lines, by the settings in force after them.
     pub(crate) fn new(support: &'a Support<A>, kept: &'a [Kept<A>]) -> Tape<'a, A>
         requires { IsReadable support.now kept.now }
-        ensures settings { result.settings ≡ support.now }
-        ensures readings { result.readings ≡ readings_of (tape_of kept.now) }
+        ensures { result ≡ read_by support.now (tape_of kept.now) }
     {
         Tape { support, kept }
     }
@@ -106,8 +103,8 @@ impl<'a, A: Allocator> Tape<'a, A> {
         is_same(self.support, a, b)
     }
 
-    /// The last line, and the tape before it; `None` where nothing was told since the connection was lost, or
-    /// since the network took us in. Then we are on no channel.
+    /// The last line, and the tape before it; `None` where nothing was told since the connection was
+    /// lost, or since the network took us in. Then we are on no channel.
     pub(crate) fn split_last(&self) -> Option<(Said<'a, A>, Tape<'a, A>)>
         ensures last { IfSome result (λ r. IsLast self.now r.0 r.1) }
         ensures shorter { IfSome result (λ r. length r.1.readings < length self.now.readings) }
@@ -121,7 +118,7 @@ impl<'a, A: Allocator> Tape<'a, A> {
         }
         let said = Said {
             support: self.support,
-            telling: told(&last.line),
+            telling: told_as(last.command, &last.line),
             marks: last.marks,
         };
         let older = Tape {

@@ -10,16 +10,16 @@ use crate::tape::Tape;
 use irc_line::Line;
 use irc_names::is_nameable;
 use irc_support::Support;
-use net_view::{Channel, Item, Member, NetworkView, OutOfMemory, StateCommand, Telling, told};
+use net_view::{Channel, Item, Member, NetworkView, OutOfMemory, StateCommand, Telling, told_as};
 use std::alloc::{Allocator, Global};
 use std::marker::Model;
 
-/// A view that keeps the state lines in a list, and searches them backwards. A loss of the connection is a
-/// mark beside the last kept line.
+/// A view that keeps the state lines in a list, and searches them backwards. A loss of the connection
+/// is a mark beside the last kept line.
 ///
-/// Readers take no memory. They are slow: the time of one by place grows with a power of the number of the
-/// kept lines, and that of `take` of a state line with their number. All lines are kept, however long the
-/// network is connected.
+/// Readers take no memory. They are slow: the time of one by place grows with a power of the number of
+/// the kept lines, and that of `take` of a state line with their number. All lines are kept, however
+/// long the network is connected.
 #[derive(Drop)]
 pub struct TapeView<A: Allocator = Global> {
     kept: Vec<Kept<A>, A>,
@@ -30,18 +30,16 @@ pub struct TapeView<A: Allocator = Global> {
 }
 
 impl<A: Allocator> Model for TapeView<A> {
-    ghost use Rattle.std.specs.Prelude.{◌≡◌, List};
-    ghost use Rattle.net_view.specs.Transcript.{settings_of};
+    ghost use Rattle.std.specs.Prelude.{List};
     ghost use Rattle.net_view.specs.Arrival.{Arrival};
-    ghost use Rattle.net_view.specs.Written.{AreWritten};
-    ghost use Rattle.tape_view.specs.NameCount.{IsCounted};
-    ghost use Rattle.tape_view.specs.Kept.{tape_of, IsMarkedTape};
+    ghost use Rattle.tape_view.specs.Kept.{tape_of};
+    ghost use Rattle.tape_view.specs.Whole.{IsWhole};
 
     ghost Value = { List Arrival };
 
     ghost view = { λ v. tape_of v.kept.items };
 
-    ghost invariant = { λ v. IsMarkedTape v.kept.items × (settings_of (tape_of v.kept.items) ≡ v.support) × IsCounted v.kept.items v.names × AreWritten (tape_of v.kept.items) };
+    ghost invariant = { λ v. IsWhole v.kept.items v.support v.names };
 }
 
 impl<A: Allocator + Copy> TapeView<A> {
@@ -59,7 +57,9 @@ impl<A: Allocator + Copy> TapeView<A> {
 }
 
 impl<A: Allocator + Copy> TapeView<A> {
-    ghost use Rattle.std.specs.Prelude.{◌≡◌, ◌<◌, ◌^◌, List, ◌∷◌, false, length, IfOk, OnOk, OnErr, IsTrue};
+    ghost use Rattle.std.specs.Prelude.{◌≡◌, ◌<◌, ◌^◌, List, ◌∷◌, Some, false, length};
+    ghost use Rattle.std.specs.Prelude.{IfOk, OnOk, OnErr, IsTrue};
+    ghost use Rattle.net_view.specs.StateCommands.{state_command};
     ghost use Rattle.irc_line.specs.Writing.{is_writable};
     ghost use Rattle.irc_support.specs.Tokens.{Token};
     ghost use Rattle.net_view.specs.StateLines.{told};
@@ -78,13 +78,15 @@ impl<A: Allocator + Copy> TapeView<A> {
         Tape::new(&self.support, &self.kept)
     }
 
-    /// A state line, which tells this, as it is to be kept.
+    /// A state line of this command, which tells this, as it is to be kept.
     fn to_keep<B: Allocator>(
         &self,
+        command: StateCommand,
         line: &Line<B>,
         telling: &Telling<'_, B>,
     ) -> Result<Kept<A>, OutOfMemory>
-        requires { (settings : List Token) →
+        requires command { state_command line.now ≡ Some command }
+        requires told { (settings : List Token) →
             meant settings telling.now ≡ told settings (Received line.now) }
         ensures line { IfOk result (λ kept. (kept.line ≡ line.now) × (kept.lost ≡ false)) }
         ensures marked { IfOk result (λ kept. IsMarkedLine self.now kept) }
@@ -94,6 +96,7 @@ impl<A: Allocator + Copy> TapeView<A> {
         let fixed = fixed_after(telling, own, ready_in(&self.kept));
         let line = line.copy_in(*self.kept.allocator())?;
         Ok(Kept {
+            command,
             line,
             marks,
             fixed,
@@ -101,14 +104,19 @@ impl<A: Allocator + Copy> TapeView<A> {
         })
     }
 
-    /// Keeps a state line, which can be written.
-    fn keep<B: Allocator>(&mut self, line: &Line<B>) -> Result<(), OutOfMemory>
-        requires { IsTrue (is_writable line.now) }
+    /// Keeps a line of this command, which can be written.
+    fn keep<B: Allocator>(
+        &mut self,
+        command: StateCommand,
+        line: &Line<B>,
+    ) -> Result<(), OutOfMemory>
+        requires command { state_command line.now ≡ Some command }
+        requires writable { IsTrue (is_writable line.now) }
         ensures taken { OnOk result (self.new ≡ Received line.now ∷ self.old) }
         ensures kept { OnErr result (self.new ≡ self.old) }
     {
-        let telling = told(line);
-        let kept = self.to_keep(line, &telling)?;
+        let telling = told_as(command, line);
+        let kept = self.to_keep(command, line, &telling)?;
         let names = with_named(&self.support, &telling, self.names).ok_or(OutOfMemory)?;
         match telling {
             Telling::Welcomed { .. } => {
@@ -140,8 +148,8 @@ impl<A: Allocator + Copy> NetworkView for TapeView<A> {
     fn take<B: Allocator>(&mut self, item: &Item<B>) -> Result<(), OutOfMemory> {
         match item {
             Item::Line(line) => {
-                if StateCommand::of(line).is_some() {
-                    self.keep(line)?;
+                if let Some(command) = StateCommand::of(line) {
+                    self.keep(command, line)?;
                 }
             }
             Item::Lost => {
