@@ -40,12 +40,8 @@ fn says_rank<S: Allocator, A: Allocator>(
             if !is_same(support, channel, name) {
                 return None;
             }
-            if marks.by_us {
-                return if support.is_channel(name) {
-                    Some(false)
-                } else {
-                    None
-                };
+            if marks.by_us && support.is_channel(name) {
+                return Some(false);
             }
             if is_same(support, nick, who) {
                 Some(false)
