@@ -14,11 +14,11 @@ use Rattle.irc_line.specs.Writing.{is_clean, is_word}
 use Rattle.irc_names.specs.Nick.{is_nameable, is_outside_nick, begins_nick}
 use Rattle.bnc_config.specs.Text as text
 
-or_false_left : (x y : Bool) → (x || y) ≡ false → x ≡ false
+pub or_false_left : (x y : Bool) → (x || y) ≡ false → x ≡ false
 or_false_left true y h = cc
 or_false_left false y h = refl
 
-or_false_right : (x y : Bool) → (x || y) ≡ false → y ≡ false
+pub or_false_right : (x y : Bool) → (x || y) ≡ false → y ≡ false
 or_false_right true y h = cc
 or_false_right false y h = h
 
