@@ -8,7 +8,7 @@ use Rattle.std.specs.List.{list_any}
 use Rattle.std.proofs.lemmas.Bool.Decides.{nat_tests}
 use Rattle.std.proofs.lemmas.List.Folds.{list_any-append}
 use Rattle.std.proofs.lemmas.List.Sums.{sum_by_push}
-use Rattle.irc_line.proofs.ParamScan.{sure}
+use Rattle.upstream.proofs.Writable.{sure}
 use Rattle.irc_line.specs.Line.{Parts}
 use Rattle.bnc_config.specs.Settings.{NetworkSettings}
 use Rattle.upstream.proofs.Writable.{or_false_left, or_false_right}

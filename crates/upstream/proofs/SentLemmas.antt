@@ -5,7 +5,7 @@ use Rattle.std.proofs.Common.{take, drop, length, append_assoc, append-nil, Opti
 use Rattle.std.proofs.Common.{None, inl, inr}
 use Rattle.std.specs.Prelude.{if◌then◌else◌}
 use Rattle.std.specs.Io.KnownBytes.{Appends, Keeps}
-use Rattle.irc_line.proofs.ParamScan.{sure}
+use Rattle.upstream.proofs.Writable.{sure}
 use Rattle.irc_line.specs.Line.{Parts}
 use Rattle.irc_line.specs.Writing.{written}
 use Rattle.bnc_config.specs.Settings.{NetworkSettings}

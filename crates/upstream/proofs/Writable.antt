@@ -1,4 +1,5 @@
 -- What the settings hold can stand in a line.
+use Rattle.std.proofs.Common.{◌⊎◌, inl, inr}
 use Rattle.std.proofs.Common.{◌≡◌, ◌∙◌, refl, ℕ, zero, suc, ◌<◌, Bool, true, false, List, [], ◌∷◌}
 use Rattle.std.proofs.Common.{◌&&◌, ◌||◌, ◌==◌, not, arith, take, codes, length, get_or}
 use Rattle.std.specs.Prelude.{replicate}
@@ -13,6 +14,11 @@ use Rattle.irc_line.specs.Line.{is_line_byte, is_space}
 use Rattle.irc_line.specs.Writing.{is_clean, is_word}
 use Rattle.irc_names.specs.Nick.{is_nameable, is_outside_nick, begins_nick}
 use Rattle.bnc_config.specs.Text as text
+
+-- a test passes or not
+pub sure : (b : Bool) → (b ≡ true) ⊎ (b ≡ false)
+sure true = inl refl
+sure false = inr refl
 
 pub or_false_left : (x y : Bool) → (x || y) ≡ false → x ≡ false
 or_false_left true y h = cc
