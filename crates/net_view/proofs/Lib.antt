@@ -18,12 +18,17 @@ pub mod PeopleSound
 pub mod MembersSpelled
 pub mod OnSound
 pub mod SoundStep
+pub mod Accounts
+pub mod TokensWritten
 pub mod WrittenViews
+pub mod FormSound
 pub mod LastWord
 pub mod Worth
 pub mod NameLists
 pub mod WordsApart
+pub mod Thinned
 pub mod SeenWhole
+pub mod SeenStep
 mod LikelyCommand
 pub mod Commands
 mod Transcripts

@@ -25,6 +25,7 @@ pub mod View
 pub mod Step
 pub mod Readers
 pub mod Seen
+pub mod Agrees
 pub mod Sound
 pub mod Written
 pub mod Found

@@ -5,18 +5,15 @@ use Rattle.std.specs.Option.{option_map, unwrap_or}
 use Rattle.std.specs.FinMap as map
 use Rattle.std.proofs.Common.{Option, Some, None}
 use Rattle.irc_support.specs.Text.{Text}
-use Rattle.irc_support.specs.Ranks.{rank_count, ranks_that}
+use Rattle.irc_support.specs.Ranks.{rank_count, ranks_that, has_rank}
 use Rattle.net_view.specs.Names.{same, bytes_cmp}
 use Rattle.net_view.specs.Told.{Told, Changed, Present}
 use Rattle.net_view.specs.Arrival.{Arrival}
 use Rattle.net_view.specs.Transcript.{Reading, ours, readings_of}
 use Rattle.net_view.specs.LookBack.{last_in, name_before}
-use Rattle.net_view.specs.Presence.{name_on}
-use Rattle.net_view.specs.Topic.{topic_of}
-use Rattle.net_view.specs.Members.{lists, rank_in_change, is_member, holds_rank}
-use Rattle.net_view.specs.Named.{named, channels_in, people_in}
+use Rattle.net_view.specs.Members.{lists, rank_in_change, holds_rank}
 use Rattle.net_view.specs.Table.{table}
-use Rattle.net_view.specs.View.{Channel, Person, View, modes_of, view_of}
+use Rattle.net_view.specs.View.{Channel, Person, View, view_of}
 
 -- which capabilities a client holds, of those that bear on what it knows (IRCv3 multi-prefix, extended-join,
 -- account-notify, away-notify)
@@ -49,9 +46,13 @@ kept_by caps v = record {
   people = table bytes_cmp (map.keys v.people) (λ n. option_map (kept_person caps) (map.get v.people n));
 }
 
+-- whether this is the highest of the ranks that are held
+abbrev pub highest : (ℕ → Bool) → ℕ → Bool
+highest held rank = held rank && not (list_any (λ r. nat_lt r rank && held r) (range_with_len 0 rank_count))
+
 -- whether this is the highest rank that the person holds on the channel
 abbrev pub is_highest : List Reading → Text → Text → ℕ → Bool
-is_highest items c n rank = holds_rank items c n rank && not (list_any (λ r. nat_lt r rank && holds_rank items c n r) (range_with_len 0 rank_count))
+is_highest items c n rank = highest (holds_rank items c n) rank
 
 -- what an item shows of a rank without multi-prefix: a name list the highest, a MODE the one that it gives
 abbrev pub shows_rank : Reading → List Reading → Text → Text → ℕ → Told → Option Bool
@@ -68,35 +69,33 @@ was_shown (x ∷ older) k c n rank =
     else unwrap_or (shows_rank x older c n rank x.told)
     (unwrap_or (option_map (λ m. was_shown older (k - 1) c m rank) (name_before (ours x) x.told n)) false)
 
--- the ranks that a client sees of a member
-abbrev pub seen_ranks : HeldCaps → List Reading → ℕ → Text → Text → List ℕ
-seen_ranks caps items k c n = ranks_that (λ rank. holds_rank items c n rank && (caps.multi_prefix || was_shown items k c n rank))
+-- ---- a view with fewer ranks
 
--- a member as a client sees it
-abbrev pub seen_member : HeldCaps → List Reading → ℕ → Text → Text → Option (List ℕ)
-seen_member caps items k c n = if is_member items c n then Some (seen_ranks caps items k c n) else None
+-- which ranks of the members of the channels pass: channel, person and rank
+abbrev pub Shown : Type 0
+Shown = Text → Text → ℕ → Bool
 
--- a channel as a client sees it: the ranks of its members may be fewer
-abbrev pub seen_channel : HeldCaps → List Reading → ℕ → Text → Option Channel
-seen_channel caps items k c = option_map (λ name. record {
-  name = name;
-  topic = topic_of items c;
-  modes = modes_of items c;
-  members = table bytes_cmp (named people_in items) (seen_member caps items k c);
-}) (name_on items c)
+-- of ranks those that are shown; with multi-prefix all are
+abbrev pub thinned_ranks : HeldCaps → (ℕ → Bool) → List ℕ → List ℕ
+thinned_ranks caps shown ranks = ranks_that (λ rank. has_rank ranks rank && (caps.multi_prefix || shown rank))
 
--- the channels as a client sees them
-abbrev pub seen_channels : HeldCaps → List Reading → ℕ → map.FinMap bytes_cmp Channel
-seen_channels caps items k = table bytes_cmp (named channels_in items) (seen_channel caps items k)
+-- a channel whose members are left these ranks
+abbrev pub thinned_channel : HeldCaps → Shown → Text → Channel → Channel
+thinned_channel caps shown c ch = record {
+  name = ch.name;
+  topic = ch.topic;
+  modes = ch.modes;
+  members = table bytes_cmp (map.keys ch.members) (λ n. option_map (thinned_ranks caps (shown c n)) (map.get ch.members n));
+}
 
--- the view of a transcript as a client sees it that came after its first a items
+abbrev pub thinned_channels : HeldCaps → Shown → map.FinMap bytes_cmp Channel → map.FinMap bytes_cmp Channel
+thinned_channels caps shown cs = table bytes_cmp (map.keys cs) (λ c. option_map (thinned_channel caps shown c) (map.get cs c))
+
+-- a view whose members are left these ranks
+abbrev pub thinned : HeldCaps → Shown → View → View
+thinned caps shown v = record { own = v.own; ready = v.ready; settings = v.settings; channels = thinned_channels caps shown v.channels; people = v.people }
+
+-- The view of a transcript as a client sees it that came after its first a items: its capabilities keep what
+-- they keep, and of each member's ranks it sees those that it was shown.
 unfoldable pub seen_since : List Arrival → ℕ → HeldCaps → View
-seen_since items a caps =
-    let v = view_of items in
-    kept_by caps (record {
-      own = v.own;
-      ready = v.ready;
-      settings = v.settings;
-      channels = seen_channels caps (readings_of (reverse items)) (length items - a);
-      people = v.people;
-    })
+seen_since items a caps = kept_by caps (thinned caps (was_shown (readings_of (reverse items)) (length items - a)) (view_of items))

@@ -1,5 +1,5 @@
 -- What every network view is like.
-use Rattle.std.specs.Prelude.{◌≡◌, ◌≢◌, ℕ, ◌<◌, IsTrue, IsSomeAnd, [], length, codes}
+use Rattle.std.specs.Prelude.{◌≡◌, ◌≢◌, ℕ, ◌<◌, false, IsTrue, IsSomeAnd, [], length, codes}
 use Rattle.std.specs.Option.{ForSome}
 use Rattle.std.specs.FinMap as map
 use Rattle.std.proofs.Common.{Option, None, List}
@@ -7,9 +7,10 @@ use Rattle.irc_names.specs.Nick.{is_nameable}
 use Rattle.irc_support.specs.Text.{Text, is_word}
 use Rattle.irc_support.specs.Tokens.{Token}
 use Rattle.irc_support.specs.Ranking.{ranking_of}
-use Rattle.irc_support.specs.Ranks.{has_rank}
+use Rattle.irc_support.specs.Ranks.{ranks_that, has_rank}
 use Rattle.irc_support.specs.ChanModes.{kind_of}
 use Rattle.irc_support.specs.Settings.{key_by, is_channel}
+use Rattle.irc_support.specs.Written.{AreTokens, is_sign}
 use Rattle.irc_support.specs.declared.kind.Kind.{Kind}
 use Rattle.irc_support.specs.declared.kind.Kind.TheVariants.{Prefix, A, B, C, D, Unknown}
 use Rattle.net_view.specs.View.{Channel, Person, View, empty_view}
@@ -71,3 +72,10 @@ pub record IsSound (v : View) : Type 0 where
   pub people : (n : Text) → ForSome (map.get v.people n) (IsSoundPerson v n)
   -- who is known is a member of some channel, and the other way round
   pub known : (n : Text) → map.contains_key v.people n ≡ is_seen v.channels n
+
+-- What is written of a view is read back as it is: the tokens in force are of their form and stand once each,
+-- a mode's letter is no sign, and the ranks of a member are a set, the highest first.
+pub record IsWellFormed (v : View) : Type 0 where
+  pub tokens : AreTokens v.settings
+  pub letters : (c : Text) → ForSome (map.get v.channels c) (λ (ch : Channel). (letter : ℕ) → ForSome (map.get ch.modes letter) (λ _. is_sign letter ≡ false))
+  pub ranks : (c : Text) → ForSome (map.get v.channels c) (λ (ch : Channel). (n : Text) → ForSome (map.get ch.members n) (λ ranks. ranks_that (has_rank ranks) ≡ ranks))

@@ -2,6 +2,7 @@
 
 ghost use Rattle.std.specs.Prelude.{◌≡◌, ◌≢◌, ◌↔◌, IsTrue, ℕ, List, [], ◌∷◌, ◌++◌, Bool, true, false, Option, Some, reverse};
 ghost use Rattle.std.specs.FinMap.{get};
+ghost use Rattle.irc_names.specs.Nick.{is_nameable};
 ghost use Rattle.irc_support.specs.Text.{Text};
 ghost use Rattle.irc_support.specs.Tokens.{Token};
 ghost use Rattle.irc_support.specs.Settings.{key_by};
@@ -18,7 +19,8 @@ ghost use Rattle.net_view.specs.View.{View, Channel, welcomed_view, view_of};
 ghost use Rattle.net_view.specs.Step.{is_seen};
 ghost use Rattle.net_view.specs.Readers.{account_shown};
 ghost use Rattle.net_view.specs.Seen.{all_caps, seen_since};
-ghost use Rattle.net_view.specs.Sound.{IsSound};
+ghost use Rattle.net_view.specs.Sound.{IsSound, IsWellFormed};
+ghost use Rattle.net_view.specs.Written.{AreWritten, IsCleanView};
 
 /// What is found by looking back, in a reader's words: the last item that speaks of a matter or of
 /// a person says it, and all since are silent; of what is known of a person, who was in sight ever
@@ -32,10 +34,13 @@ pub fn the_last_word<A>()
         (known says items n ≡ Some answer) ↔ IsKnown says items n answer }
 {}
 
-/// What every network view is like. A channel that we are on has the name of our own JOIN, and
+/// What every network view is like; that what is written of it is read back as it is; and that all its texts can
+/// stand in lines, where those of the transcript can be written. A channel that we are on has the name of our own JOIN, and
 /// nothing since took us off it.
 pub fn views_are_sound()
     ensures sound { (items : List Arrival) → IsSound (view_of items) }
+    ensures formed { (items : List Arrival) → IsWellFormed (view_of items) }
+    ensures clean { (items : List Arrival) → AreWritten items → IsCleanView (view_of items) }
     ensures joined { (items : List Arrival) (c : Text) (channel : Channel) →
         get (view_of items).channels c ≡ Some channel →
         IsSaidLast (says_on c) (readings_of (reverse items)) (Some channel.name) }
@@ -51,16 +56,14 @@ pub fn settings_stay()
         (view_of (items ++ x ∷ [])).settings ≡ (view_of items).settings }
 {}
 
-/// What a name is worth. Two names with one key are one person, at every boundary. A NICK that
-/// counts and its way back are inverse, but for who held the new name. After a QUIT nobody of that
-/// name is there, and after a welcome nobody at all (after a loss neither:
+/// What a name is worth. An account is known under a nameable nick alone, of who is a member of a channel that
+/// we are on. A NICK that counts and its way back are inverse, but for who held the new name. After a QUIT
+/// nobody of that name is there, and after a welcome nobody at all (after a loss neither:
 /// `a_loss_empties_the_view`).
 pub fn a_name_is_a_person()
-    ensures known { (v : View) (a b : Text) → key_by v.settings a ≡ key_by v.settings b →
-        account_shown v a ≡ account_shown v b }
-    ensures traced { (settings : List Token) (items : List Reading) (a b : Text) →
-        key_by settings a ≡ key_by settings b →
-        name_traced items (key_by settings a) ≡ name_traced items (key_by settings b) }
+    ensures known { (items : List Arrival) (nick account : Text) →
+        account_shown (view_of items) nick ≡ Some account → IsTrue (is_nameable nick) ×
+        IsTrue (is_seen (view_of items).channels (key_by (view_of items).settings nick)) }
     ensures there_and_back { (s : Standing) (a : Text) (b c : Name) (n : Text) →
         key_by s.settings b.spelled ≡ b.key → c.key ≡ a → IsTrue (counts (is_us s) a b.key) → n ≢ b.key →
         name_traced (

@@ -1,7 +1,7 @@
 -- What the last of some parts says, found by going through them in order.
 use Rattle.std.specs.Prelude.{◌≡◌, List, [], ◌∷◌}
 use Rattle.std.specs.List.{cons_option, filter_map}
-use Rattle.std.specs.Option.{option_or, option_and_then}
+use Rattle.std.specs.Option.{option_or, option_and_then, option_map}
 use Rattle.std.proofs.Common.{Option, Some, None, refl, sym, ap, ◌∙◌}
 use Rattle.net_view.specs.LookBack.{last_in}
 
@@ -33,3 +33,7 @@ last_step says whole so_far new before left x h e f =
     h ∙ ap (λ xs. option_or (last_in says xs) so_far) e
     ∙ or_assoc (last_in says left) (says x) so_far
     ∙ ap (option_or (last_in says left)) f
+
+pub or_mapped : {X Y : Type 0} (f : X → Y) (a b : Option X) → option_map f (option_or a b) ≡ option_or (option_map f a) (option_map f b)
+or_mapped f None b = refl
+or_mapped f (Some x) b = refl

@@ -1,52 +1,25 @@
--- What a word of a name list says of one person.
-use Rattle.std.specs.Prelude.{◌≡◌, ℕ, suc, Bool, true, false, cond, ◌&&◌, ◌||◌, List, [], ◌∷◌, map, length}
+-- What the words of a name list say of one person, and how many there are.
+use Rattle.std.specs.Prelude.{◌≡◌, ℕ, suc, Bool, true, false, cond, ◌&&◌, ◌||◌, List, [], ◌∷◌, map, length, is_some}
 use Rattle.std.specs.List.{cons_option, filter_map, list_any}
-use Rattle.std.specs.Option.{option_and_then, option_map}
-use Rattle.std.proofs.Common.{Option, Some, None, refl, ap, ◌∙◌}
+use Rattle.std.specs.Option.{option_and_then, option_map, option_or}
+use Rattle.std.proofs.Common.{Option, Some, None, refl, ap, ◌∙◌, sym}
 use Rattle.irc_names.specs.Nick.{is_nameable}
 use Rattle.irc_support.specs.Text.{Text}
 use Rattle.irc_support.specs.Tokens.{Token}
-use Rattle.irc_support.specs.Ranks.{has_rank}
 use Rattle.irc_support.specs.Settings.{key_by}
 use Rattle.irc_support.specs.ModeChanges.{ChangeParts}
 use Rattle.irc_support.specs.NamesReply.{Word}
 use Rattle.net_view.specs.Names.{name_of, same}
 use Rattle.net_view.specs.Told.{Listing}
-use Rattle.net_view.specs.Members.{lists, rank_in_change, rank_in_listing}
-use Rattle.net_view.specs.Facts.{spelled_in}
+use Rattle.net_view.specs.Members.{lists, rank_in_change}
 use Rattle.net_view.specs.StateLines.{letter_change, listing}
 use Rattle.net_view.specs.Least.{better, considered}
+use Rattle.net_view.specs.LookBack.{last_in}
+use Rattle.tape_view.proofs.LastIn.{last_found, or_mapped}
 
 -- whether a word names the person of this key
 abbrev pub names_person : List Token → Text → Word → Bool
 names_person s n word = is_nameable word.nick && same n (key_by s word.nick)
-
--- the listing of a word whose nick is nameable
-abbrev listed : List Token → Word → Listing
-listed s word = record { person = name_of s word.nick; ranks = word.ranks }
-
--- what a listing says, found in a word
-of_word : {A : Type 0} (s : List Token) (says : Listing → Option A) (word : Word) → option_and_then says (listing s word) ≡ cond (is_nameable word.nick) (says (listed s word)) None
-of_word s says word =
-    elim (is_nameable word.nick) as (λ b. option_and_then says (option_map (λ nick. record { person = nick; ranks = word.ranks }) (cond b (Some (name_of s word.nick)) None)) ≡ cond b (says (listed s word)) None) [ true ↦ refl | false ↦ refl ]
-
-both : {A : Type 0} (a b : Bool) (x : A) → cond a (cond b (Some x) None) None ≡ cond (a && b) (Some x) None
-both true b x = refl
-both false b x = refl
-
--- what a word says of a rank of the person
-abbrev pub rank_said : List Token → Text → ℕ → Word → Option Bool
-rank_said s n rank word = option_and_then (rank_in_listing n rank) (listing s word)
-
-pub rank_of_word : (s : List Token) (n : Text) (rank : ℕ) (word : Word) → rank_said s n rank word ≡ cond (names_person s n word) (Some (has_rank word.ranks rank)) None
-rank_of_word s n rank word = of_word s (rank_in_listing n rank) word ∙ both (is_nameable word.nick) (same n (key_by s word.nick)) (has_rank word.ranks rank)
-
--- how a word spells the person
-abbrev pub spelling_said : List Token → Text → Word → Option Text
-spelling_said s n word = option_and_then (spelled_in n) (listing s word)
-
-pub spelled_word : (s : List Token) (n : Text) (word : Word) → spelling_said s n word ≡ cond (names_person s n word) (Some word.nick) None
-spelled_word s n word = of_word s (spelled_in n) word ∙ both (is_nameable word.nick) (same n (key_by s word.nick)) word.nick
 
 -- what a change of a mode says of a rank of the person
 abbrev pub rank_set : List Token → Text → ℕ → ChangeParts → Option Bool
@@ -76,3 +49,48 @@ listed_count s ws = length (filter_map (listing s) ws)
 pub count_word : (s : List Token) (w : Word) (ws : List Word) → listed_count s (w ∷ ws) ≡ cond (is_nameable w.nick) (suc (listed_count s ws)) (listed_count s ws)
 count_word s w ws =
     elim (is_nameable w.nick) as (λ b. length (cons_option (option_map (λ nick. record { person = nick; ranks = w.ranks }) (cond b (Some (name_of s w.nick)) None)) (filter_map (listing s) ws)) ≡ cond b (suc (listed_count s ws)) (listed_count s ws)) [ true ↦ refl | false ↦ refl ]
+
+-- the word, where it names the person of this key
+abbrev pub word_said : List Token → Text → Word → Option Word
+word_said s n word = cond (names_person s n word) (Some word) None
+
+listing_said : {X : Type 0} (f : Word → X) (word : Word) (nameable named : Bool) → (says : Option X) → says ≡ cond named (Some (f word)) None → cond nameable says None ≡ option_map f (cond (nameable && named) (Some word) None)
+listing_said f word true true says e = e
+listing_said f word true false says e = e
+listing_said f word false named says e = refl
+
+last_mapped : {B X Y : Type 0} (f : X → Y) (says : B → Option X) (bs : List B) → last_in (λ b. option_map f (says b)) bs ≡ option_map f (last_in says bs)
+last_mapped f says [] = refl
+last_mapped f says (b ∷ bs) = ap (λ o. option_or o (option_map f (says b))) (last_mapped f says bs) ∙ sym (or_mapped f (last_in says bs) (says b))
+
+module _ (s : List Token) (n : Text) where
+  -- what a listing says, where it is this person's, is read off the word
+  pub found_in_words : {X : Type 0} (says : Listing → Option X) (f : Word → X) →
+      ((word : Word) → says (record { person = name_of s word.nick; ranks = word.ranks }) ≡ cond (same n (key_by s word.nick)) (Some (f word)) None) →
+      (words : List Word) → last_in says (filter_map (listing s) words) ≡ option_map f (last_in (word_said s n) words)
+  found_in_words {X} says f read words =
+      last_found says (listing s) words
+      ∙ ap (λ (q : Word → Option X). last_in q words) (λ i word. at_word word i)
+      ∙ last_mapped f (word_said s n) words
+    where
+      at_word : (word : Word) → option_and_then says (listing s word) ≡ option_map f (word_said s n word)
+      at_word word =
+          elim (is_nameable word.nick) as (λ b. option_and_then says (option_map (λ nick. record { person = nick; ranks = word.ranks }) (cond b (Some (name_of s word.nick)) None)) ≡ option_map f (cond (b && same n (key_by s word.nick)) (Some word) None)) [
+            | true ↦ listing_said f word true (same n (key_by s word.nick)) (says (record { person = name_of s word.nick; ranks = word.ranks })) (read word)
+            | false ↦ refl
+          ]
+
+  any_last : (words : List Word) → list_any (names_person s n) words ≡ is_some (last_in (word_said s n) words)
+  any_last [] = refl
+  any_last (w ∷ words) =
+      ap (λ b. names_person s n w || b) (any_last words)
+      ∙ either (names_person s n w) (last_in (word_said s n) words)
+    where
+      either : (b : Bool) (o : Option Word) → (b || is_some o) ≡ is_some (option_or o (cond b (Some w) None))
+      either true None = refl
+      either true (Some v) = refl
+      either false None = refl
+      either false (Some v) = refl
+
+  pub listed_so : (words : List Word) → lists n (filter_map (listing s) words) ≡ is_some (last_in (word_said s n) words)
+  listed_so words = lists_words s n words ∙ any_last words

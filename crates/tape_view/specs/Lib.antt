@@ -1,6 +1,8 @@
-pub mod Marked
+pub mod Marks
+pub mod Kept
 pub mod Tape
+pub mod FactKinds
 pub mod Letters
-pub mod Shown
+pub mod Places
 pub mod NameCount
-pub mod KnownFacts
+pub mod Whole

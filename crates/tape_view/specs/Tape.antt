@@ -1,43 +1,53 @@
--- What a tape keeps, as a transcript.
-use Rattle.std.specs.Prelude.{◌≡◌, Bool, true, List, [], ◌∷◌, reverse, if◌then◌else◌}
+-- What a tape reads as, and its last line.
+use Rattle.std.specs.Prelude.{◌≡◌, Bool, List, ◌∷◌}
+use Rattle.irc_support.specs.Text.{Text}
 use Rattle.irc_support.specs.Tokens.{Token}
-use Rattle.net_view.specs.Arrival.{Arrival, Received, Lost}
-use Rattle.net_view.specs.StateLines.{told}
-use Rattle.net_view.specs.Transcript.{standing, is_us, is_ready, settings_of}
-use Rattle.tape_view.specs.Marked.{IsMarked}
-use Rattle.tape_view.specs.declared.tape.Kept.{Kept}
+use Rattle.irc_support.specs.Settings.{key_by}
+use Rattle.net_view.specs.Told.{Told}
+use Rattle.net_view.specs.Arrival.{Arrival}
+use Rattle.net_view.specs.Transcript.{Reading, readings_of, settings_of, ours}
+use Rattle.net_view.specs.Tells.{meant}
+use Rattle.tape_view.specs.Marks.{IsMarked}
+use Rattle.tape_view.specs.declared.tape.Said.{Said}
 
-abbrev pub with_lost : Bool → List Arrival → List Arrival
-with_lost lost items = if lost then Lost ∷ items else items
+-- the settings in force, and the readings, the newest first
+pub record Heard : Type 0 where
+  pub settings : List Token
+  pub readings : List Reading
 
--- the items that kept lines stand for, the newest first
-abbrev pub played_back : {A : Type 0} → List (Kept A) → List Arrival
-played_back [] = []
-played_back (k ∷ older) = with_lost k.lost (Received k.line ∷ played_back older)
+-- what a transcript, the newest item first, reads as by these settings
+abbrev pub read_by : List Token → List Arrival → Heard
+read_by settings items = record { settings = settings; readings = readings_of items }
 
--- the same of kept lines that stand in the order in which they came
-unfoldable pub tape_of : {A : Type 0} → List (Kept A) → List Arrival
-tape_of kept = played_back (reverse kept)
+-- and by those in force after it
+abbrev pub heard : List Arrival → Heard
+heard items = read_by (settings_of items) items
 
--- A kept line is marked by who we were before it, and by whether the settings are fixed after it.
-pub record IsMarkedLine {A : Type 0} (older : List Arrival) (k : Kept A) : Type 0 where
-  pub marks : IsMarked (is_us (standing older)) (told (settings_of older) (Received k.line)) k.marks
-  pub fixed : k.fixed ≡ is_ready (Received k.line ∷ older)
+-- the key of a name, by the settings in force
+abbrev pub key : Heard → Text → Text
+key tape name = key_by tape.settings name
 
--- each kept line is marked so; the newest comes first
-abbrev pub AreMarked : {A : Type 0} → List (Kept A) → Type 0
-AreMarked [] = Unit {0}
-AreMarked (k ∷ older) = IsMarkedLine (played_back older) k × AreMarked older
+-- what a line means by the settings that it is read by
+abbrev pub meaning : {A : Type 0} → Said A → Told
+meaning said = meant said.support.now said.telling
 
--- the same of kept lines that stand in the order in which they came
-unfoldable pub IsMarkedTape : {A : Type 0} → List (Kept A) → Type 0
-IsMarkedTape kept = AreMarked (reverse kept)
+-- and by those of a tape
+abbrev pub meaning_in : {A : Type 0} → Heard → Said A → Told
+meaning_in tape said = meant tape.settings said.telling
 
--- once the settings are fixed, they are these
-abbrev pub IsReadBy : {A : Type 0} → List Token → List (Kept A) → Type 0
-IsReadBy settings kept = is_ready (tape_of kept) ≡ true → settings_of (tape_of kept) ≡ settings
+-- the key of a name, by the settings of a line
+abbrev pub key_there : {A : Type 0} → Said A → Text → Text
+key_there said name = key_by said.support.now name
 
--- Kept lines that can be read: they are marked, and these are the settings in force.
-pub record IsReadable {A : Type 0} (settings : List Token) (kept : List (Kept A)) : Type 0 where
-  pub marked : IsMarkedTape kept
-  pub read : IsReadBy settings kept
+-- these persons are us, by the marks of a line
+abbrev pub IsBy : {A : Type 0} → (Text → Bool) → Said A → Type 0
+IsBy us said = IsMarked us (meaning said) said.marks
+
+-- A tape's last line, and the tape before it. The line is read by the settings in force.
+pub record IsLast {A : Type 0} (tape : Heard) (said : Said A) (older : Heard) : Type 0 where
+  pub reading : Reading
+  pub whole : tape.readings ≡ reading ∷ older.readings
+  pub told : meaning said ≡ reading.told
+  pub marks : IsBy (ours reading) said
+  pub settings : said.support.now ≡ tape.settings
+  pub same_settings : older.settings ≡ tape.settings

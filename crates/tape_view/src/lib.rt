@@ -1,14 +1,16 @@
 //! A view that keeps the state lines of a network, and answers by looking back through them.
 #![tactic(auto)]
 
-mod held;
-mod known;
-mod listed;
-mod marks;
+mod facts;
+mod kept;
+mod members;
 mod modes;
 mod name_count;
-mod shown;
+mod places;
+mod presence;
+mod ranks;
 mod tape;
 mod tape_view;
+mod topic;
 
 pub use tape_view::TapeView;

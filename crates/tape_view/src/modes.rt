@@ -1,5 +1,5 @@
-//! The modes of a channel on which we are: what the kept lines say of a letter, and the letters that are on,
-//! in the order of their bytes.
+//! The modes of a channel on which we are: what the kept lines say of a letter, and the letters that
+//! are on, in the order of their bytes.
 
 ghost use Rattle.std.specs.Prelude.{◌≡◌, Bool, true, option_map};
 ghost use Rattle.std.specs.List.{filter_map};
@@ -8,22 +8,18 @@ ghost use Rattle.irc_support.specs.Text.{Text};
 ghost use Rattle.irc_support.specs.Settings.{key_by};
 ghost use Rattle.irc_support.specs.Line.{changes_in};
 ghost use Rattle.net_view.specs.StateLines.{mode_change, setting_by};
-ghost use Rattle.net_view.specs.Transcript.{readings_of};
 ghost use Rattle.net_view.specs.LookBack.{last_in};
 ghost use Rattle.net_view.specs.Presence.{is_on};
 ghost use Rattle.net_view.specs.Modes.{setting_of, says_mode, mode_of};
-ghost use Rattle.net_view.specs.Tells.{meant};
-ghost use Rattle.tape_view.specs.Marked.{IsMarked};
-ghost use Rattle.tape_view.specs.Tape.{tape_of, IsReadable};
 ghost use Rattle.net_view.specs.Least.{above_by, considered_by, improves_by, IsNextBy};
+ghost use Rattle.tape_view.specs.Tape.{key, key_there, meaning, IsBy};
 ghost use Rattle.tape_view.specs.Letters.{is_set, letter_shown, letters_listed, letters_told};
 
-use crate::listed::is_same;
-use crate::marks::Marks;
-use crate::tape::{Kept, says_on};
+use crate::kept::is_same;
+use crate::tape::{Said, Tape};
 use irc_line::Line;
 use irc_support::{Kind, Support, changes};
-use net_view::{Telling, is_word, told};
+use net_view::{Telling, is_word};
 use std::alloc::Allocator;
 
 /// A mode: `None` where it is off, else on, with its parameter, where it has one.
@@ -65,73 +61,6 @@ fn last_setting<'a, A: Allocator, B: Allocator>(
     last
 }
 
-/// What a line says of the mode of a letter.
-fn says_mode<'a, S: Allocator, A: Allocator>(
-    support: &'a Support<S>,
-    telling: &Telling<'a, A>,
-    marks: Marks,
-    channel: &[u8],
-    letter: u8,
-) -> Option<Setting<'a>>
-    ensures { (us : Text → Bool) → IsMarked us (meant support.now telling.now) marks →
-        option_map (option_map (option_map (λ text. text.now))) result
-        ≡ says_mode (key_by support.now channel.now) letter us (meant support.now telling.now) }
-{
-    match telling {
-        Telling::Joined { channel: name, .. } => {
-            if marks.by_us && support.is_channel(name) && is_same(support, channel, name) {
-                Some(None)
-            } else {
-                None
-            }
-        }
-        Telling::Changed {
-            channel: name,
-            line,
-        } => {
-            if is_same(support, channel, name) {
-                last_setting(support, line, letter)
-            } else {
-                None
-            }
-        }
-        Telling::Listed {
-            channel: name,
-            line,
-        } => {
-            if is_same(support, channel, name) {
-                Some(last_setting(support, line, letter).unwrap_or(None))
-            } else {
-                None
-            }
-        }
-        _ => None,
-    }
-}
-
-/// The mode of a letter, of a channel on which we are, after these lines.
-pub(crate) fn mode_in<'a, A: Allocator>(
-    support: &'a Support<A>,
-    kept: &'a [Kept<A>],
-    channel: &[u8],
-    letter: u8,
-) -> Setting<'a>
-    requires readable { IsReadable support.now kept.now }
-    requires on { is_on (readings_of (tape_of kept.now)) (key_by support.now channel.now) ≡ true }
-    ensures { option_map (option_map (λ text. text.now)) result
-        ≡ mode_of (readings_of (tape_of kept.now)) (key_by support.now channel.now) letter }
-{
-    let mut i = kept.len();
-    while i > 0 {
-        i -= 1;
-        let entry = &kept[i];
-        if let Some(answer) = says_mode(support, &told(&entry.line), entry.marks, channel, letter) {
-            return answer;
-        }
-    }
-    None
-}
-
 /// Whether a letter stands above the one that was given, if any.
 fn is_above(after: Option<u8>, letter: u8) -> bool
     ensures { result ≡ above_by nat_cmp after letter }
@@ -152,101 +81,128 @@ fn is_better(best: Option<u8>, letter: u8) -> bool
     }
 }
 
-/// The best so far, or the best of the letters that a line lists: on, above the given one and before the
-/// best.
-fn best_listed<A: Allocator>(
-    support: &Support<A>,
-    kept: &[Kept<A>],
-    channel: &[u8],
-    after: Option<u8>,
-    best: Option<u8>,
-    line: &Line<A>,
-) -> Option<u8>
-    requires readable { IsReadable support.now kept.now }
-    requires on { is_on (readings_of (tape_of kept.now)) (key_by support.now channel.now) ≡ true }
-    ensures { result
-        ≡ considered_by nat_cmp (is_set (readings_of (tape_of kept.now))
-        (key_by support.now channel.now)) after best (letters_listed support.now line.now) }
-{
-    let mut best = best;
-    for change in changes(support, line) {
-        if is_above(after, change.letter)
-            && is_better(best, change.letter)
-            && mode_in(support, kept, channel, change.letter).is_some()
-        {
-            best = Some(change.letter);
+impl<'a, A: Allocator> Said<'a, A> {
+    /// What the line says of the mode of a letter.
+    fn says_mode(&self, channel: &[u8], letter: u8) -> Option<Setting<'a>>
+        ensures { (us : Text → Bool) → IsBy us self.now →
+            option_map (option_map (option_map (λ text. text.now))) result
+            ≡ says_mode (key_there self.now channel.now) letter us (meaning self.now) }
+    {
+        match &self.telling {
+            Telling::Joined { channel: name, .. }
+                if self.marks.by_us
+                    && self.support.is_channel(name)
+                    && is_same(self.support, channel, name) => { Some(None) }
+            Telling::Changed {
+                channel: name,
+                line,
+            } if is_same(self.support, channel, name) => {
+                last_setting(self.support, line, letter)
+            }
+            Telling::Listed {
+                channel: name,
+                line,
+            } if is_same(self.support, channel, name) => {
+                Some(last_setting(self.support, line, letter).unwrap_or(None))
+            }
+            _ => None,
         }
-    }
-    best
-}
-
-/// The best so far, or the best of the letters that a MODE or a 324 lists.
-fn consider<A: Allocator>(
-    support: &Support<A>,
-    kept: &[Kept<A>],
-    channel: &[u8],
-    after: Option<u8>,
-    best: Option<u8>,
-    telling: &Telling<'_, A>,
-) -> Option<u8>
-    requires readable { IsReadable support.now kept.now }
-    requires on { is_on (readings_of (tape_of kept.now)) (key_by support.now channel.now) ≡ true }
-    ensures { result
-        ≡ considered_by nat_cmp (is_set (readings_of (tape_of kept.now))
-        (key_by support.now channel.now)) after best (letters_told support.now telling.now) }
-{
-    match telling {
-        Telling::Changed { line, .. } | Telling::Listed { line, .. } => {
-            best_listed(support, kept, channel, after, best, line)
-        }
-        _ => best,
     }
 }
 
-/// The least letter above the given one, among those that are on. Before our own JOIN nothing counts.
-fn next_letter<A: Allocator>(
-    support: &Support<A>,
-    kept: &[Kept<A>],
-    channel: &[u8],
-    after: Option<u8>,
-) -> Option<u8>
-    requires readable { IsReadable support.now kept.now }
-    requires on { is_on (readings_of (tape_of kept.now)) (key_by support.now channel.now) ≡ true }
-    ensures { IsNextBy nat_cmp (is_set (readings_of (tape_of kept.now))
-        (key_by support.now channel.now)) after result }
-{
-    let mut best = None;
-    let mut i = kept.len();
-    while i > 0 {
-        i -= 1;
-        let entry = &kept[i];
-        let telling = told(&entry.line);
-        if says_on(support, &telling, entry.marks, channel).is_some() {
-            return best;
+impl<'a, A: Allocator> Tape<'a, A> {
+    /// The mode of a letter, of a channel on which we are.
+    pub(crate) fn mode(&self, channel: &[u8], letter: u8) -> Setting<'a>
+        requires { is_on self.now.readings (key self.now channel.now) ≡ true }
+        ensures { option_map (option_map (λ text. text.now)) result
+            ≡ mode_of self.now.readings (key self.now channel.now) letter }
+    {
+        let mut tape = self.copy();
+        while let Some((said, older)) = tape.split_last() {
+            if let Some(answer) = said.says_mode(channel, letter) {
+                return answer;
+            }
+            tape = older;
         }
-        best = consider(support, kept, channel, after, best, &telling);
+        None
     }
-    best
-}
 
-/// The letter at a place, counted from 0, of those that are on.
-pub(crate) fn letter_at<A: Allocator>(
-    support: &Support<A>,
-    kept: &[Kept<A>],
-    channel: &[u8],
-    place: usize,
-) -> Option<u8>
-    requires readable { IsReadable support.now kept.now }
-    requires on { is_on (readings_of (tape_of kept.now)) (key_by support.now channel.now) ≡ true }
-    ensures { result
-        ≡ letter_shown (readings_of (tape_of kept.now)) (key_by support.now channel.now) place }
-{
-    let mut at = next_letter(support, kept, channel, None);
-    for _place in 0..place {
-        match at {
-            Some(letter) => at = next_letter(support, kept, channel, Some(letter)),
-            None => return None,
+    /// The best so far, or the best of the letters that a line lists: on, above the given one and before
+    /// the best.
+    fn best_listed(
+        &self,
+        channel: &[u8],
+        after: Option<u8>,
+        best: Option<u8>,
+        line: &Line<A>,
+    ) -> Option<u8>
+        requires { is_on self.now.readings (key self.now channel.now) ≡ true }
+        ensures { result
+            ≡ considered_by nat_cmp (is_set self.now.readings (key self.now channel.now)) after best
+            (letters_listed self.now.settings line.now) }
+    {
+        let mut best = best;
+        for change in changes(self.support(), line) {
+            if is_above(after, change.letter)
+                && is_better(best, change.letter)
+                && self.mode(channel, change.letter).is_some()
+            {
+                best = Some(change.letter);
+            }
+        }
+        best
+    }
+
+    /// The best so far, or the best of the letters that a MODE or a 324 lists.
+    fn better_letter(
+        &self,
+        channel: &[u8],
+        after: Option<u8>,
+        best: Option<u8>,
+        telling: &Telling<'_, A>,
+    ) -> Option<u8>
+        requires { is_on self.now.readings (key self.now channel.now) ≡ true }
+        ensures { result
+            ≡ considered_by nat_cmp (is_set self.now.readings (key self.now channel.now)) after best
+            (letters_told self.now.settings telling.now) }
+    {
+        match telling {
+            Telling::Changed { line, .. } | Telling::Listed { line, .. } => {
+                self.best_listed(channel, after, best, line)
+            }
+            _ => best,
         }
     }
-    at
+
+    /// The least letter above the given one, among those that are on. Before our own JOIN nothing
+    /// counts.
+    fn next_letter(&self, channel: &[u8], after: Option<u8>) -> Option<u8>
+        requires { is_on self.now.readings (key self.now channel.now) ≡ true }
+        ensures { IsNextBy nat_cmp (is_set self.now.readings (key self.now channel.now)) after
+            result }
+    {
+        let mut best = None;
+        let mut tape = self.copy();
+        while let Some((said, older)) = tape.split_last() {
+            if said.says_on(channel).is_some() {
+                return best;
+            }
+            best = self.better_letter(channel, after, best, &said.telling);
+            tape = older;
+        }
+        best
+    }
+
+    /// The letter at a place, counted from 0, of those that are on.
+    pub(crate) fn letter_at(&self, channel: &[u8], place: usize) -> Option<u8>
+        requires { is_on self.now.readings (key self.now channel.now) ≡ true }
+        ensures { result ≡ letter_shown self.now.readings (key self.now channel.now) place }
+    {
+        let mut at = self.next_letter(channel, None);
+        for _place in 0..place {
+            let letter = at?;
+            at = self.next_letter(channel, Some(letter));
+        }
+        at
+    }
 }

@@ -2,25 +2,24 @@
 
 ghost use Rattle.std.specs.Prelude.{◌≡◌, [], IfOk};
 
-use crate::held::ranks_in;
-use crate::known::{Fact, fact_in};
-use crate::marks::fixed_after;
-use crate::modes::{letter_at, mode_in};
+use crate::facts::Fact;
+use crate::kept::{Kept, fixed_after, marks_of, own_in, ready_in};
 use crate::name_count::with_named;
-use crate::shown::{Shown, shown_at, shown_count};
-use crate::tape::{Kept, marks_of, name_on, own_in, ready_in, spelling_in, topic_in};
+use crate::places::Table;
+use crate::tape::Tape;
 use irc_line::Line;
+use irc_names::is_nameable;
 use irc_support::Support;
-use net_view::{Channel, Item, Member, NetworkView, OutOfMemory, StateCommand, Telling, told};
+use net_view::{Channel, Item, Member, NetworkView, OutOfMemory, StateCommand, Telling, told_as};
 use std::alloc::{Allocator, Global};
 use std::marker::Model;
 
-/// A view that keeps the state lines in a list, and searches them backwards. A loss of the connection is a
-/// mark beside the last kept line.
+/// A view that keeps the state lines in a list, and searches them backwards. A loss of the connection
+/// is a mark beside the last kept line.
 ///
-/// Readers take no memory. They are slow: the time of one by place grows with a power of the number of the
-/// kept lines, and that of `take` of a state line with their number. All lines are kept, however long the
-/// network is connected.
+/// Readers take no memory. They are slow: the time of one by place grows with a power of the number of
+/// the kept lines, and that of `take` of a state line with their number. All lines are kept, however
+/// long the network is connected.
 #[derive(Drop)]
 pub struct TapeView<A: Allocator = Global> {
     kept: Vec<Kept<A>, A>,
@@ -31,18 +30,16 @@ pub struct TapeView<A: Allocator = Global> {
 }
 
 impl<A: Allocator> Model for TapeView<A> {
-    ghost use Rattle.std.specs.Prelude.{◌≡◌, List};
-    ghost use Rattle.net_view.specs.Transcript.{settings_of};
+    ghost use Rattle.std.specs.Prelude.{List};
     ghost use Rattle.net_view.specs.Arrival.{Arrival};
-    ghost use Rattle.tape_view.specs.NameCount.{IsCounted};
-    ghost use Rattle.net_view.specs.Written.{AreWritten};
-    ghost use Rattle.tape_view.specs.Tape.{tape_of, IsMarkedTape};
+    ghost use Rattle.tape_view.specs.Kept.{tape_of};
+    ghost use Rattle.tape_view.specs.Whole.{IsWhole};
 
     ghost Value = { List Arrival };
 
     ghost view = { λ v. tape_of v.kept.items };
 
-    ghost invariant = { λ v. IsMarkedTape v.kept.items × (settings_of (tape_of v.kept.items) ≡ v.support) × IsCounted v.kept.items v.names × AreWritten (tape_of v.kept.items) };
+    ghost invariant = { λ v. IsWhole v.kept.items v.support v.names };
 }
 
 impl<A: Allocator + Copy> TapeView<A> {
@@ -60,50 +57,83 @@ impl<A: Allocator + Copy> TapeView<A> {
 }
 
 impl<A: Allocator + Copy> TapeView<A> {
-    ghost use Rattle.std.specs.Prelude.{◌≡◌, ◌∷◌, OnOk, OnErr, IsTrue};
+    ghost use Rattle.std.specs.Prelude.{◌≡◌, ◌<◌, ◌^◌, List, ◌∷◌, Some, false, length};
+    ghost use Rattle.std.specs.Prelude.{IfOk, OnOk, OnErr, IsTrue};
+    ghost use Rattle.net_view.specs.StateCommands.{state_command};
     ghost use Rattle.irc_line.specs.Writing.{is_writable};
+    ghost use Rattle.irc_support.specs.Tokens.{Token};
+    ghost use Rattle.net_view.specs.StateLines.{told};
+    ghost use Rattle.net_view.specs.Tells.{meant};
+    ghost use Rattle.tape_view.specs.Kept.{IsMarkedLine};
     ghost use Rattle.net_view.specs.Arrival.{Received};
+    ghost use Rattle.net_view.specs.Named.{named};
+    ghost use Rattle.tape_view.specs.Tape.{heard};
+    ghost use Rattle.tape_view.specs.Places.{names_in};
 
-    /// Keeps a state line, which can be written.
-    fn keep<B: Allocator>(&mut self, line: &Line<B>) -> Result<(), OutOfMemory>
-        requires { IsTrue (is_writable line.now) }
-        ensures taken { OnOk result (self.new ≡ Received line.now ∷ self.old) }
-        ensures kept { OnErr result (self.new ≡ self.old) }
+    /// The kept lines, as the settings in force read them.
+    fn tape(&self) -> Tape<'_, A>
+        ensures value { result ≡ heard self.now }
+        ensures few { (table : Table) → length (named (names_in table) result.readings) < 2 ^ 64 }
     {
-        let telling = told(line);
+        Tape::new(&self.support, &self.kept)
+    }
+
+    /// A state line of this command, which tells this, as it is to be kept.
+    fn to_keep<B: Allocator>(
+        &self,
+        command: StateCommand,
+        line: &Line<B>,
+        telling: &Telling<'_, B>,
+    ) -> Result<Kept<A>, OutOfMemory>
+        requires command { state_command line.now ≡ Some command }
+        requires told { (settings : List Token) →
+            meant settings telling.now ≡ told settings (Received line.now) }
+        ensures line { IfOk result (λ kept. (kept.line ≡ line.now) × (kept.lost ≡ false)) }
+        ensures marked { IfOk result (λ kept. IsMarkedLine self.now kept) }
+    {
         let own = own_in(&self.kept);
-        let marks = marks_of(&self.support, &telling, own);
-        let welcomed = own.is_some();
-        let ready = ready_in(&self.kept);
-        let fixed = fixed_after(&telling, welcomed, ready);
-        let names = with_named(&self.support, &telling, self.names).ok_or(OutOfMemory)?;
-        let line_kept = line.copy_in(*self.kept.allocator())?;
-        let kept = Kept {
-            line: line_kept,
+        let marks = marks_of(&self.support, telling, own);
+        let fixed = fixed_after(telling, own, ready_in(&self.kept));
+        let line = line.copy_in(*self.kept.allocator())?;
+        Ok(Kept {
+            command,
+            line,
             marks,
             fixed,
             lost: false,
-        };
+        })
+    }
+
+    /// Keeps a line of this command, which can be written.
+    fn keep<B: Allocator>(
+        &mut self,
+        command: StateCommand,
+        line: &Line<B>,
+    ) -> Result<(), OutOfMemory>
+        requires command { state_command line.now ≡ Some command }
+        requires writable { IsTrue (is_writable line.now) }
+        ensures taken { OnOk result (self.new ≡ Received line.now ∷ self.old) }
+        ensures kept { OnErr result (self.new ≡ self.old) }
+    {
+        let telling = told_as(command, line);
+        let kept = self.to_keep(command, line, &telling)?;
+        let names = with_named(&self.support, &telling, self.names).ok_or(OutOfMemory)?;
         match telling {
             Telling::Welcomed { .. } => {
                 let support = Support::new(*self.kept.allocator())?;
                 self.kept.push(kept)?;
                 self.support = support;
-                self.names = names;
             }
-            Telling::Supports { .. } if welcomed && !ready => {
+            Telling::Supports { .. } if own_in(&self.kept).is_some() && !ready_in(&self.kept) => {
                 self.kept.push(kept)?;
                 if let Err(refused) = self.support.take(line) {
                     let _ = self.kept.pop();
                     return Err(refused);
                 }
-                self.names = names;
             }
-            _ => {
-                self.kept.push(kept)?;
-                self.names = names;
-            }
+            _ => self.kept.push(kept)?,
         }
+        self.names = names;
         Ok(())
     }
 }
@@ -118,8 +148,8 @@ impl<A: Allocator + Copy> NetworkView for TapeView<A> {
     fn take<B: Allocator>(&mut self, item: &Item<B>) -> Result<(), OutOfMemory> {
         match item {
             Item::Line(line) => {
-                if StateCommand::of(line).is_some() {
-                    self.keep(line)?;
+                if let Some(command) = StateCommand::of(line) {
+                    self.keep(command, line)?;
                 }
             }
             Item::Lost => {
@@ -153,37 +183,41 @@ impl<A: Allocator + Copy> NetworkView for TapeView<A> {
     }
 
     fn channel_count(&self) -> usize {
-        shown_count(&self.support, &self.kept, Shown::Channels)
+        self.tape().count(Table::Channels)
     }
 
     fn channel_at(&self, i: usize) -> Option<Channel<'_>> {
-        let channel = shown_at(&self.support, &self.kept, Shown::Channels, i)?;
-        let name = name_on(&self.support, &self.kept, channel)?;
-        let topic = topic_in(&self.support, &self.kept, channel);
+        let tape = self.tape();
+        let channel = tape.at(Table::Channels, i)?;
+        let name = tape.name_on(channel)?;
+        let topic = tape.topic(channel);
         Some(Channel { name, topic })
     }
 
     fn mode_at(&self, i: usize, j: usize) -> Option<(u8, Option<&[u8]>)> {
-        let channel = shown_at(&self.support, &self.kept, Shown::Channels, i)?;
-        let letter = letter_at(&self.support, &self.kept, channel, j)?;
-        let param = mode_in(&self.support, &self.kept, channel, letter)?;
+        let tape = self.tape();
+        let channel = tape.at(Table::Channels, i)?;
+        let letter = tape.letter_at(channel, j)?;
+        let param = tape.mode(channel, letter)?;
         Some((letter, param))
     }
 
     fn member_count(&self, i: usize) -> usize {
-        match shown_at(&self.support, &self.kept, Shown::Channels, i) {
-            Some(channel) => shown_count(&self.support, &self.kept, Shown::Members(channel)),
+        let tape = self.tape();
+        match tape.at(Table::Channels, i) {
+            Some(channel) => tape.count(Table::Members(channel)),
             None => 0,
         }
     }
 
     fn member_at(&self, i: usize, j: usize) -> Option<Member<'_>> {
-        let channel = shown_at(&self.support, &self.kept, Shown::Channels, i)?;
-        let member = shown_at(&self.support, &self.kept, Shown::Members(channel), j)?;
-        let nick = spelling_in(&self.support, &self.kept, member)?;
-        let account = fact_in(&self.support, &self.kept, member, Fact::Account);
-        let away = fact_in(&self.support, &self.kept, member, Fact::Away);
-        let ranks = ranks_in(&self.support, &self.kept, channel, member);
+        let tape = self.tape();
+        let channel = tape.at(Table::Channels, i)?;
+        let member = tape.at(Table::Members(channel), j)?;
+        let nick = tape.fact(member, Fact::Nick)?;
+        let account = tape.fact(member, Fact::Account);
+        let away = tape.fact(member, Fact::Away);
+        let ranks = tape.ranks(channel, member);
         Some(Member {
             nick,
             ranks,
@@ -193,6 +227,9 @@ impl<A: Allocator + Copy> NetworkView for TapeView<A> {
     }
 
     fn account_of(&self, nick: &[u8]) -> Option<&[u8]> {
-        fact_in(&self.support, &self.kept, nick, Fact::Account)
+        if !is_nameable(nick) {
+            return None;
+        }
+        self.tape().fact(nick, Fact::Account)
     }
 }

@@ -3,8 +3,8 @@ use Rattle.std.specs.Option.{option_or}
 use Rattle.irc_support.specs.Line.{changes_in}
 use Rattle.net_view.specs.StateLines.{setting_by}
 use Rattle.net_view.specs.LookBack.{last_in}
-use Rattle.tape_view.proofs.LastIn.{last_begun, last_step}
-use Rattle.tape_view.proofs.TapeModes.{sets, sets_it, sets_none, or_mapped, last_kept}
+use Rattle.tape_view.proofs.LastIn.{last_begun, last_step, or_mapped}
+use Rattle.tape_view.proofs.LetterSettings.{sets, sets_it, sets_none, last_kept}
 use Rattle.tape_view.proofs.modes.last_setting.Goals as goal
 
 pub loop-change-init : goal.loop-change-init

@@ -2,7 +2,7 @@ use Rattle.std.proofs.Common.{◌≡◌, option_map}
 use Rattle.std.specs.Option.{option_or}
 use Rattle.irc_support.specs.Line.{changes_in}
 use Rattle.net_view.specs.LookBack.{last_in}
-use Rattle.tape_view.proofs.TapeModes.{sets}
+use Rattle.tape_view.proofs.LetterSettings.{sets}
 use Rattle.tape_view.proofs.modes.last_setting.Given as goal
 
 abbrev pub invariant-loop-change : goal.invariant-loop-change

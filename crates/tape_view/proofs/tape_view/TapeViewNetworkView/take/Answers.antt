@@ -3,17 +3,12 @@ use Rattle.std.proofs.lemmas.Bool.Decides.{nat_tests}
 use Rattle.net_view.specs.View.{view_back, view_of}
 use Rattle.net_view.specs.Step.{after}
 use Rattle.net_view.specs.Arrival.{Received, arrival_of}
-use Rattle.tape_view.specs.Tape.{tape_of}
+use Rattle.tape_view.specs.Kept.{tape_of}
 use Rattle.net_view.proofs.StepLaw.{view_step, view_back_step, view_unchanged}
-use Rattle.tape_view.proofs.Counted.{loss_counted}
-use Rattle.tape_view.proofs.TapeTake.{loss_taken, loss_marked, loss_settings, loss_of_nothing, loss_written}
-use Rattle.std.specs.Prelude.{Bool, is_some}
-use Rattle.std.proofs.Common.{Option}
-use Rattle.irc_line.specs.Line.{Parts}
+use Rattle.tape_view.proofs.TapeTake.{loss_kept, loss_taken, loss_of_nothing}
+use Rattle.std.specs.Prelude.{is_some}
 use Rattle.net_view.specs.StateLines.{is_state_line, may_need_memory}
 use Rattle.net_view.proofs.Tests.{false_true}
-use Rattle.net_view.specs.StateCommands.{state_command}
-use Rattle.net_view.specs.declared.state_command.StateCommand.{StateCommand}
 use Rattle.net_view.proofs.Commands.{is_read}
 use Rattle.tape_view.proofs.tape_view.TapeViewNetworkView.take.Goals as goal
 
@@ -25,20 +20,16 @@ returns-in_ok-keep-in-Line-clause-taken g c items e =
     ∙ sym (view_step items (Received c.in-Line.line))
     ∙ ap (λ x. view_of (items ++ arrival_of x ∷ [])) (sym c.in-Line.is)
 
--- whether the line was kept
-is_kept : (line : Parts) (command : Option StateCommand) (kept : Bool) → kept ≡ is_some command → command ≡ state_command line → kept ≡ is_state_line line
-is_kept line command kept e is = e ∙ ap is_some is ∙ is_read line
-
-pub returns-else-is_some-clause-taken : goal.returns-else-is_some-clause-taken
-returns-else-is_some-clause-taken g c items e =
+pub returns-in_default-clause-taken : goal.returns-in_default-clause-taken
+returns-in_default-clause-taken g c items e =
     let line = c.in-Line.line in
-    e ∙ sym (view_unchanged items (Received line) (sym (is_kept line c.of.result c.is_some.result c.is_some.ensures c.of.ensures.value) ∙ c.if-is_some.false))
+    e ∙ sym (view_unchanged items (Received line) (sym (is_read line) ∙ ap is_some (sym c.in_default.ensures.value)))
     ∙ ap (λ x. view_of (items ++ arrival_of x ∷ [])) (sym c.in-Line.is)
 
 pub returns-in_err-keep-in-Line-clause-free : goal.returns-in_err-keep-in-Line-clause-free
 returns-in_err-keep-in-Line-clause-free g c e =
     let line = c.in-Line.line in
-    absurd (false_true (is_state_line line) (ap (λ x. may_need_memory (arrival_of x)) (sym c.in-Line.is) ∙ e) (sym (is_kept line c.of.result c.is_some.result c.is_some.ensures c.of.ensures.value) ∙ c.if-is_some.true))
+    absurd (false_true (is_state_line line) (ap (λ x. may_need_memory (arrival_of x)) (sym c.in-Line.is) ∙ e) (sym (is_read line) ∙ ap is_some (sym c.in-Some.ensures.value)))
 
 pub returns-then-not-is_empty-clause-taken : goal.returns-then-not-is_empty-clause-taken
 returns-then-not-is_empty-clause-taken g c items e =
@@ -53,9 +44,4 @@ returns-else-not-is_empty-clause-taken g c items e =
     ∙ ap (λ x. view_of (items ++ arrival_of x ∷ [])) (sym c.in-Lost.is)
 
 pub invariant_of-self : goal.invariant_of-self
-invariant_of-self g c = (
-  loss_marked c.self.inside.kept.items _ c.index_mut.result.now (grind (arith, nat_tests, c.self.inside.kept.ok.0)) c.index_mut.ensures.value (c.self.invariant.0),
-  loss_settings c.self.inside.kept.items _ c.index_mut.result.now (grind (arith, nat_tests, c.self.inside.kept.ok.0)) c.index_mut.ensures.value ∙ c.self.invariant.1,
-  loss_counted c.self.inside.kept.items _ c.index_mut.result.now _ (grind (arith, nat_tests, c.self.inside.kept.ok.0)) c.index_mut.ensures.value (c.self.invariant.2),
-  loss_written c.self.inside.kept.items _ c.index_mut.result.now (grind (arith, nat_tests, c.self.inside.kept.ok.0)) c.index_mut.ensures.value (c.self.invariant.3),
-)
+invariant_of-self g c = loss_kept c.self.inside.kept.items _ c.index_mut.result.now c.self.inside.support c.self.inside.names (grind (arith, nat_tests, c.self.inside.kept.ok.0)) c.index_mut.ensures.value c.self.invariant

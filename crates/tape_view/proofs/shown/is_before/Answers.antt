@@ -1,8 +1,0 @@
-use Rattle.std.proofs.Common.{ap, ◌∙◌}
-use Rattle.std.specs.Ordering.{is_lt}
-use Rattle.irc_names.specs.CaseMapping.{key_of}
-use Rattle.net_view.specs.Names.{bytes_cmp}
-use Rattle.tape_view.proofs.shown.is_before.Goals as goal
-
-pub returns : goal.returns
-returns g c = c.is_lt.ensures ∙ ap is_lt (c.order.ensures ∙ ap (λ m. bytes_cmp (key_of m c.args.a.now) (key_of m c.args.b.now)) c.mapping.ensures)

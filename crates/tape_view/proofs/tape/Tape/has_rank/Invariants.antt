@@ -1,0 +1,14 @@
+use Rattle.std.proofs.Common.{◌≡◌, true, length}
+use Rattle.net_view.specs.Presence.{is_on}
+use Rattle.net_view.specs.Members.{rank_decided}
+use Rattle.tape_view.specs.Tape.{key}
+use Rattle.tape_view.proofs.tape.Tape.has_rank.Given as goal
+
+abbrev pub invariant-loop-said : goal.invariant-loop-said
+invariant-loop-said g l = record {
+  on : is_on l.tape.readings (key l.tape l.channel) ≡ true;
+  rest : rank_decided l.self.readings (key l.self l.channel) (key l.self l.nick) l.rank ≡ rank_decided l.tape.readings (key l.tape l.channel) (key l.tape l.name) l.rank;
+}
+
+abbrev pub decreases-loop-said : goal.decreases-loop-said
+decreases-loop-said g l = length l.tape.readings

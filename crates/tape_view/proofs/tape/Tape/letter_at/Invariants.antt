@@ -1,0 +1,7 @@
+use Rattle.std.proofs.Common.{◌≡◌}
+use Rattle.tape_view.specs.Tape.{key}
+use Rattle.tape_view.specs.Letters.{letter_shown}
+use Rattle.tape_view.proofs.tape.Tape.letter_at.Given as goal
+
+abbrev pub invariant-loop-place : goal.invariant-loop-place
+invariant-loop-place g l = l.at ≡ letter_shown l.self.readings (key l.self l.channel) l._place
