@@ -9,7 +9,7 @@ use Rattle.bnc_config.specs.Digest.{difference_of}
 same_from_xor : (a b : ℕ) → bit_xor a b ≡ 0 → a ≡ b
 same_from_xor a b none =
     sym (xor_zero_r a) ∙ ap (bit_xor a) (sym (xor_self b)) ∙ sym (xor_assoc a b b)
-        ∙ ap (λ n. bit_xor n b) none ∙ xor_zero_l b
+    ∙ ap (λ n. bit_xor n b) none ∙ xor_zero_l b
 
 abbrev with_pair : ℕ → ℕ × ℕ → ℕ
 with_pair difference pair = bit_or difference (bit_xor pair.0 pair.1)

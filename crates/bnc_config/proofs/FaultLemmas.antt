@@ -43,7 +43,7 @@ unfolding IsOfTree
 keys_of_tree [] tree = λ h. cc
 keys_of_tree (key ∷ keys) tree = either_of_tree (key_fault tree key) (keys_fault keys tree)
     (key_of_tree key (is_optional key) (allows key) (get_member (word_of key) tree))
-        (keys_of_tree keys tree)
+    (keys_of_tree keys tree)
 
 found_of_tree : (b : Bool) (e : ConfigFault) → IsOfTree (Some e)
     → IsOfTree (if b then Some e else None)
@@ -61,14 +61,14 @@ unfolding IsOfTree
 networks_of_tree earlier [] = λ h. cc
 networks_of_tree earlier (tree ∷ trees) = either_of_tree (network_fault earlier tree) _
     (either_of_tree (keys_fault network_keys tree) _ (keys_of_tree network_keys tree)
-        (twice_of_tree earlier (text_at NetworkName tree)))
+    (twice_of_tree earlier (text_at NetworkName tree)))
     (networks_of_tree (earlier ++ text_at NetworkName tree ∷ []) trees)
 
 user_of_tree : (earlier : List (List ℕ)) (tree : Members) → IsOfTree (user_fault earlier tree)
 user_of_tree earlier tree =
     either_of_tree (keys_fault user_keys tree) _ (keys_of_tree user_keys tree)
     (either_of_tree (twice_fault earlier (text_at UserName tree)) _
-        (twice_of_tree earlier (text_at UserName tree))
+    (twice_of_tree earlier (text_at UserName tree))
     (networks_of_tree [] (tables_at UserNetwork tree)))
 
 users_of_tree : (earlier : List (List ℕ)) (trees : List Members)
@@ -82,7 +82,7 @@ users_of_tree earlier (tree ∷ trees) =
 first_of_tree : (tree : Members) → IsOfTree (first_fault tree)
 first_of_tree tree =
     either_of_tree (keys_fault top_keys tree) _ (keys_of_tree top_keys tree)
-        (users_of_tree [] (tables_at User tree))
+    (users_of_tree [] (tables_at User tree))
 
 -- the first fault of its tree is a text's fault
 pub fault_of_tree : (text : List ℕ) (tree : Members) (e : ConfigFault) → IsTree text tree

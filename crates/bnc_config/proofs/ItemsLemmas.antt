@@ -45,7 +45,7 @@ as_table_is (table ms) tree h = cc
 pub fault_at-other_list : (key : Key) (found : Option Data) (d : Data) (vs : List Value)
     → Some d ≡ found → Some (items_view vs) ≡ as_array d
     → false ≡ list_all (λ v. is_table (view v)) vs
-        → fault_at key true (is_list_where is_table) found ≡ Some (BadValue key)
+    → fault_at key true (is_list_where is_table) found ≡ Some (BadValue key)
 fault_at-other_list key found d vs here list other =
     rw (← here, as_array_is d (items_view vs) list, all_items_view is_table vs, ← other) refl
 
@@ -71,7 +71,7 @@ pub tables_of-other : (vs : List Value) (i : ℕ) (v : Value) → i < length vs 
     → tables_of (items_view (drop i vs)) ≡ tables_of (items_view (drop (i + 1) vs))
 tables_of-other vs i v within same found =
     rw (items_view-drop vs i v within, ← same)
-        (skipped (view v) (items_view (drop (i + 1) vs)) found)
+    (skipped (view v) (items_view (drop (i + 1) vs)) found)
 
 behind_first : (a b c : Bool) → (b ≡ true → c ≡ true) → (a && b) ≡ true → (a && c) ≡ true
 behind_first true b c k h = k h
@@ -83,7 +83,7 @@ pub texts_of_allowed : (test : List ℕ → Bool) (items : Items)
 texts_of_allowed test no_items h = refl
 texts_of_allowed test (item (string text) items) h =
     behind_first (test text) (all_items (is_text_where test) items) _ (texts_of_allowed test items)
-        h
+    h
 texts_of_allowed test (item (integer z) items) h = cc
 texts_of_allowed test (item (float x) items) h = cc
 texts_of_allowed test (item (boolean b) items) h = cc

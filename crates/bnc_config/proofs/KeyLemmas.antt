@@ -8,7 +8,7 @@ use Rattle.bnc_config.specs.Document.{fault_at, is_text_where}
 -- what is no text is a fault whichever texts are allowed
 pub fault_at_any_text : (key : Key) (test : List ℕ → Bool) (found : Option Data) (e : ConfigFault)
     → fault_at key false (is_text_where (λ _. true)) found ≡ Some e
-        → fault_at key false (is_text_where test) found ≡ Some e
+    → fault_at key false (is_text_where test) found ≡ Some e
 fault_at_any_text key test None e h = h
 fault_at_any_text key test (Some (string text)) e h = cc
 fault_at_any_text key test (Some (integer z)) e h = h

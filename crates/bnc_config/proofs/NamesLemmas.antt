@@ -24,7 +24,7 @@ found_or false false found same = same
 pub found_after : (name added : List ℕ) (earlier : List (List ℕ)) (found : Option Unit)
     → is_some found ≡ list_any (bytes_eq name) earlier
     → is_some (cond (bytes_eq added name) (Some tt) found)
-        ≡ list_any (bytes_eq name) (earlier ++ added ∷ [])
+    ≡ list_any (bytes_eq name) (earlier ++ added ∷ [])
 found_after name added earlier found same =
     rw (list_any-append (bytes_eq name) earlier (added ∷ []), bytes_eq_comm added name)
-        (found_or (bytes_eq name added) (list_any (bytes_eq name) earlier) found same)
+    (found_or (bytes_eq name added) (list_any (bytes_eq name) earlier) found same)

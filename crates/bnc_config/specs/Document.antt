@@ -119,7 +119,7 @@ user_keys = UserName ∷ UserSalt ∷ UserPassword ∷ UserNetwork ∷ []
 abbrev pub network_keys : List Key
 network_keys =
     NetworkName ∷ NetworkAddress ∷ NetworkNick ∷ NetworkUser ∷ NetworkRealname ∷ NetworkPassword ∷
-        NetworkJoin ∷ []
+    NetworkJoin ∷ []
 
 -- the name stands earlier in the same list, byte for byte
 abbrev pub twice_fault : List (List ℕ) → List ℕ → Option ConfigFault
@@ -154,13 +154,13 @@ abbrev pub networks_fault : List (List ℕ) → List Members → Option ConfigFa
 networks_fault earlier [] = None
 networks_fault earlier (tree ∷ rest) =
     option_or (network_fault earlier tree)
-        (networks_fault (earlier ++ text_at NetworkName tree ∷ []) rest)
+    (networks_fault (earlier ++ text_at NetworkName tree ∷ []) rest)
 
 -- the first fault of a user: of its keys, then of its name, then of its networks
 abbrev pub user_fault : List (List ℕ) → Members → Option ConfigFault
 user_fault earlier tree = option_or (keys_fault user_keys tree)
     (option_or (twice_fault earlier (text_at UserName tree))
-        (networks_fault [] (tables_at UserNetwork tree)))
+    (networks_fault [] (tables_at UserNetwork tree)))
 
 abbrev pub users_fault : List (List ℕ) → List Members → Option ConfigFault
 users_fault earlier [] = None

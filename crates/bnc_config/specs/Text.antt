@@ -46,7 +46,7 @@ is_one_line text = not (list_any is_control text)
 abbrev pub is_port : List ℕ → Bool
 is_port text =
     list_all is_ascii_digit text
-        && (nat_le 1 (digits_value 10 text) && nat_le (digits_value 10 text) 65535)
+    && (nat_le 1 (digits_value 10 text) && nat_le (digits_value 10 text) 65535)
 
 -- HOST:PORT, where the host is not empty and, ending at the first colon, holds none
 abbrev pub is_address : List ℕ → Bool

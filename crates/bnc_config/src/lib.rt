@@ -21,6 +21,3 @@ pub use place::Place;
 pub use std::alloc::AllocError as OutOfMemory;
 pub use text::Text;
 pub use users::UserConfig;
-
-#[cfg(test)]
-mod tests;

@@ -159,14 +159,7 @@ fn copied_texts(alloc: Global, values: &[Value], key: Key) -> Result<Option<Vec<
 }
 
 /// Copies of the texts of the list at a key, at most 64, which may be left out.
-#[tactic(
-    auto,
-    using(
-        crate::proofs::ItemsLemmas::item_count_view,
-        crate::proofs::ItemsLemmas::texts_of_allowed,
-        crate::proofs::ItemsLemmas::few_texts_of
-    )
-)]
+#[tactic(auto, using(crate::proofs::ItemsLemmas::item_count_view, crate::proofs::ItemsLemmas::texts_of_allowed, crate::proofs::ItemsLemmas::few_texts_of))]
 pub(crate) fn texts_at(alloc: Global, table: &Table, key: Key) -> Result<Vec<Text>, ConfigFault>
     ensures allowed { IfOk result (λ texts. IsTrue (list_all (allows_text key) texts.items)) }
     ensures few { IfOk result (λ texts. length texts.items ≤ 64) }

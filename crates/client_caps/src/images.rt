@@ -273,7 +273,8 @@ pub fn image<V: NetworkView, A: Allocator, B: Allocator + Copy + Drop>(
     if !is_passed_on(caps, line) {
         return Ok(None);
     }
-    Ok(Some(sent_as(alloc, view, caps, line, None)?))
+    let tags = None;
+    Ok(Some(sent_as(alloc, view, caps, line, tags)?))
 }
 
 /// Adds that we leave the channel at a place, where there is one.

@@ -135,7 +135,7 @@ changed_rank settings n rank l s = of_test (Within settings rank) (nat_eq rank l
     subst P (sym (eqb-true rank l.rank (and_parts (nat_eq rank l.rank) (same n l.person) e).0)) s)
 
 said_rank_sound : (settings : List Token) (c : Text) (rank : ℕ) (us : Text → Bool) (t : Told) (n : Text) → IsSoundTold settings t → IfSome (said_of_rank c rank us t n) (Within settings rank)
-said_rank_sound settings c rank us (Joined channel valid who account) n s = of_test (Within settings rank) (not (us who.key) && same c channel.key && same n who.key) (Some false) (λ _ h. absurd (no_true h))
+said_rank_sound settings c rank us (Joined channel valid who account) n s = of_test (Within settings rank) (same c channel.key && same n who.key) (Some false) (λ _ h. absurd (no_true h))
 said_rank_sound settings c rank us (Present channel listings) n s = of_test (Within settings rank) (same c channel) (last_in (rank_in_listing n rank) listings) (λ _. of_last (Within settings rank) (IsSoundListing settings) (rank_in_listing n rank) (listed_rank settings n rank) listings s)
 said_rank_sound settings c rank us (Changed channel letters modes) n s = of_test (Within settings rank) (same c channel) (last_in (rank_in_change n rank) letters) (λ _. of_last (Within settings rank) (λ (l : LetterChange). l.rank < rank_limit settings) (rank_in_change n rank) (changed_rank settings n rank) letters (s.0))
 said_rank_sound settings c rank us _ n s = tt

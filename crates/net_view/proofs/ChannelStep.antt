@@ -86,8 +86,12 @@ last_listed n rank [] h = cc
 last_listed n rank (l ∷ ls) h =
     some_or_some (last_in (rank_in_listing n rank) ls) (same n l.person.key) (has_rank l.ranks rank) (lists n ls) (last_listed n rank ls) h
 
+decided_less : (a b c : Bool) → unwrap_or (cond (a && b && c) (Some true) None) false ≡ true → is_some (cond (b && c) (Some false) None) ≡ true
+decided_less true b c h = decided_with (b && c) h
+decided_less false b c h = cc
+
 said_rank_some : (c : Text) (rank : ℕ) (us : Text → Bool) (t : Told) (n : Text) → unwrap_or (said_of_member c us t n) false ≡ true → is_some (said_of_rank c rank us t n) ≡ true
-said_rank_some c rank us (Joined channel valid who account) n h = decided_with (not (us who.key) && same c channel.key && same n who.key) h
+said_rank_some c rank us (Joined channel valid who account) n h = decided_less (not (us who.key)) (same c channel.key) (same n who.key) h
 said_rank_some c rank us (Present channel listings) n h = decided_listed (same c channel) (lists n listings) (last_in (rank_in_listing n rank) listings) (last_listed n rank listings) h
 said_rank_some c rank us (Parted channel who) n h = absurd (not_said (same c channel && same n who) h)
 said_rank_some c rank us (Kicked channel who) n h = absurd (not_said (same c channel && same n who) h)

@@ -11,7 +11,7 @@ use Rattle.irc_support.specs.Tokens.{Token}
 use Rattle.net_view.proofs.Tests.{or_false}
 use Rattle.net_view.specs.Told.{Told, Silent, Settles, Supports}
 use Rattle.net_view.specs.Arrival.{Received}
-use Rattle.net_view.specs.StateCommands.{command_text, state_commands, state_command}
+use Rattle.net_view.specs.StateCommands.{command_text, state_commands, state_command, is_state_command, other_commands}
 use Rattle.net_view.specs.declared.state_command.StateCommand.{StateCommand}
 use Rattle.net_view.specs.StateLines.{StateLine, state_lines, told_by, is_of, is_state_line, told, told_by_welcome, told_by_join, told_by_part, told_by_kick, told_by_quit, told_by_nick, told_by_mode, told_by_mode_reply, told_by_topic, told_by_topic_reply, told_by_no_topic, told_by_names, told_by_account, told_by_away}
 
@@ -41,6 +41,26 @@ some_found p (x ∷ xs) = elim (p x) as (λ b. is_some (cond b (Some x) (find p 
 pub is_read : (line : Parts) → is_some (state_command line) ≡ is_state_line line
 unfolding state_commands state_lines
 is_read line = some_found (λ x. has_command line (command_text x)) state_commands
+
+-- ---- which commands are none of the seventeen
+
+-- whether it is a state line, by any spelling of its command
+pub is_state_by_name : (line : Parts) (name : Text) → has_command line name ≡ true → is_state_line line ≡ is_state_command name
+unfolding state_lines state_commands
+is_state_by_name line name e = ap (λ (test : Text → Bool). list_any (λ (s : StateLine). test s.command) state_lines) (λ i other. has_command-named line name e other i)
+
+not_among : (names : List Text) → list_any is_state_command names ≡ false → (line : Parts) → list_any (has_command line) names ≡ true → is_state_line line ≡ false
+not_among [] h line e = cc
+not_among (name ∷ names) h line e =
+    let parts = or_false (is_state_command name) (list_any is_state_command names) h in
+    elim (has_command line name) as (λ b. has_command line name ≡ b → (b || list_any (has_command line) names) ≡ true → is_state_line line ≡ false) [
+      | true ↦ λ has _. is_state_by_name line name has ∙ parts.0
+      | false ↦ λ _ rest. not_among names (parts.1) line rest
+    ] refl e
+
+pub no_state_line : (line : Parts) → list_any (has_command line) other_commands ≡ true → is_state_line line ≡ false
+unfolding state_commands
+no_state_line line e = not_among other_commands refl line e
 
 -- ---- what the rows of a list tell
 

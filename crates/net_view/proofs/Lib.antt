@@ -18,6 +18,7 @@ pub mod PeopleSound
 pub mod MembersSpelled
 pub mod OnSound
 pub mod SoundStep
+pub mod Accounts
 pub mod TokensWritten
 pub mod WrittenViews
 pub mod FormSound

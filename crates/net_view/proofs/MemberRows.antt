@@ -2,7 +2,7 @@
 -- back through by computation.
 use Rattle.std.specs.Prelude.{◌≡◌, true, false, List, [], ◌∷◌, ◌++◌, map}
 use Rattle.std.proofs.Common.{Some, None, refl, codes}
-use Rattle.irc_support.specs.Text.{is_word}
+use Rattle.irc_support.specs.Text.{Text, is_word}
 use Rattle.irc_support.specs.Tokens.{set_tokens}
 use Rattle.irc_support.specs.Ranking.{spelled_by, ranking_of}
 use Rattle.irc_support.specs.Ranks.{rank_count, ranks_that}
@@ -210,3 +210,24 @@ settings_follow_no_late_isupport = refl
 a_join_without_a_source_fixes_the_settings : standing (heard (codes ":s 001 Me :hi" ∷ codes "JOIN" ∷ codes ":s 005 Me A=1 :are supported" ∷ [])) ≡ record { own = Some (codes "Me"); ready = true; settings = [] }
 unfolding told state_lines ranks_that rank_count words ranking_of spelled_by mapping_of is_channel is_word set_tokens changes kind_of
 a_join_without_a_source_fixes_the_settings = refl
+
+-- our own JOIN of a name that is no channel's, but has the key of a channel that we are on, takes our ranks
+abbrev own_other_spelling : List Text
+own_other_spelling = codes ":s 001 Me :hi"
+    ∷ codes ":s 005 Me CHANTYPES=[# :x"
+    ∷ codes ":s 376 Me :end"
+    ∷ codes ":Me!m@h JOIN [c"
+    ∷ codes ":s MODE [c +ov Me Me"
+    ∷ []
+
+both_ranks_held : member (read own_other_spelling) (codes "{c") (codes "me") ≡ Some (0 ∷ 1 ∷ [], (Some (codes "Me")), None, None)
+unfolding told state_lines ranks_that rank_count words ranking_of spelled_by mapping_of is_channel is_word set_tokens changes kind_of
+both_ranks_held = refl
+
+own_ranks_taken : member (read (own_other_spelling ++ codes ":Me!m@h JOIN {c" ∷ [])) (codes "{c") (codes "me") ≡ Some ([], (Some (codes "Me")), None, None)
+unfolding told state_lines ranks_that rank_count words ranking_of spelled_by mapping_of is_channel is_word set_tokens changes kind_of
+own_ranks_taken = refl
+
+still_on_it : name_on (read (own_other_spelling ++ codes ":Me!m@h JOIN {c" ∷ [])) (codes "{c") ≡ Some (codes "[c")
+unfolding told state_lines ranks_that rank_count words ranking_of spelled_by mapping_of is_channel is_word set_tokens changes kind_of
+still_on_it = refl

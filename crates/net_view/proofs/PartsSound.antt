@@ -84,10 +84,13 @@ when_sound P false x h = tt
 pub nameable_sound : (settings : List Token) (nick : Text) → IfSome (nameable settings nick) (IsSoundName settings)
 nameable_sound settings nick = when_sound (IsSoundName settings) (is_nameable nick) (name_of settings nick) (λ e. record { nameable = e; keyed = refl })
 
+pub actor_nick_nameable : (line : Parts) → IfSome (actor_nick line) (λ nick. is_nameable nick ≡ true)
+actor_nick_nameable line =
+    then_sound (λ nick. is_nameable nick ≡ true) line.source (λ source. cond (is_nameable (nick_of source)) (Some (nick_of source)) None) (λ source. when_sound (λ nick. is_nameable nick ≡ true) (is_nameable (nick_of source)) (nick_of source) (λ e. e))
+
 pub actor_sound : (settings : List Token) (line : Parts) → IfSome (actor settings line) (IsSoundName settings)
 actor_sound settings line =
-    map_sound (λ nick. is_nameable nick ≡ true) (IsSoundName settings) (actor_nick line) (name_of settings)
-    (then_sound (λ nick. is_nameable nick ≡ true) line.source (λ source. cond (is_nameable (nick_of source)) (Some (nick_of source)) None) (λ source. when_sound (λ nick. is_nameable nick ≡ true) (is_nameable (nick_of source)) (nick_of source) (λ e. e)))
+    map_sound (λ nick. is_nameable nick ≡ true) (IsSoundName settings) (actor_nick line) (name_of settings) (actor_nick_nameable line)
     (λ nick e. record { nameable = e; keyed = refl })
 
 pub filled_sound : (text : Text) → IfSome (unless_empty text) IsFilled

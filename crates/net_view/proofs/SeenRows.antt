@@ -1,6 +1,7 @@
--- Which ranks a client without multi-prefix is shown, that came before the last k lines.
-use Rattle.std.specs.Prelude.{◌≡◌, ℕ, false, List, [], ◌∷◌, ◌++◌}
-use Rattle.std.proofs.Common.{refl, codes}
+-- Which ranks a client without multi-prefix is shown, that came before the last k lines; and which accounts
+-- are kept.
+use Rattle.std.specs.Prelude.{◌≡◌, ℕ, true, false, List, [], ◌∷◌, ◌++◌}
+use Rattle.std.proofs.Common.{Some, None, refl, codes}
 use Rattle.irc_support.specs.Text.{Text, is_word}
 use Rattle.irc_support.specs.Tokens.{set_tokens}
 use Rattle.irc_support.specs.Ranking.{spelled_by, ranking_of}
@@ -10,7 +11,8 @@ use Rattle.irc_support.specs.Settings.{mapping_of, is_channel}
 use Rattle.irc_support.specs.ModeChanges.{changes}
 use Rattle.irc_support.specs.NamesReply.{words}
 use Rattle.net_view.specs.Members.{rank_decided}
-use Rattle.net_view.specs.Seen.{HeldCaps, all_caps, thinned_ranks, was_shown}
+use Rattle.net_view.specs.Seen.{HeldCaps, all_caps, kept_person, thinned_ranks, was_shown}
+use Rattle.net_view.specs.View.{Person}
 use Rattle.net_view.specs.StateLines.{state_lines, told}
 use Rattle.net_view.proofs.Transcripts.{read, joined}
 
@@ -50,3 +52,39 @@ shown_by_a_list = refl
 shown_by_a_mode : seen no_caps (op_and_voice ++ codes ":s MODE #c -v+v bob bob" ∷ codes ":bob!b@h NICK rob" ∷ []) 2 (codes "rob") ≡ 0 ∷ 1 ∷ []
 unfolding told state_lines ranks_that rank_count words ranking_of spelled_by mapping_of is_channel is_word set_tokens changes kind_of
 shown_by_a_mode = refl
+
+-- a name list and a MODE of another channel show nothing of this one
+hidden_on_this_channel : seen no_caps (op_and_voice ++ codes ":Me!m@h JOIN #d" ∷ codes ":s 353 Me = #d :Me +bob" ∷ codes ":s MODE #d +v bob" ∷ codes ":s MODE #c -o bob" ∷ []) 4 (codes "bob") ≡ []
+unfolding told state_lines ranks_that rank_count words ranking_of spelled_by mapping_of is_channel is_word set_tokens changes kind_of
+hidden_on_this_channel = refl
+
+-- what was shown goes along with a NICK, and a list after it shows the new name
+hidden_under_a_new_nick : seen no_caps (op_and_voice ++ codes ":bob!b@h NICK rob" ∷ codes ":s MODE #c -o rob" ∷ []) 2 (codes "rob") ≡ []
+unfolding told state_lines ranks_that rank_count words ranking_of spelled_by mapping_of is_channel is_word set_tokens changes kind_of
+hidden_under_a_new_nick = refl
+
+shown_under_a_new_nick : seen no_caps (op_and_voice ++ codes ":bob!b@h NICK rob" ∷ codes ":s MODE #c -o rob" ∷ codes ":s 353 Me = #c :Me +rob" ∷ []) 3 (codes "rob") ≡ 1 ∷ []
+unfolding told state_lines ranks_that rank_count words ranking_of spelled_by mapping_of is_channel is_word set_tokens changes kind_of
+shown_under_a_new_nick = refl
+
+-- who goes and comes again holds what is given since
+shown_after_a_rejoin : seen no_caps (op_and_voice ++ codes ":bob!b@h PART #c" ∷ codes ":bob!b@h JOIN #c" ∷ codes ":s MODE #c +v bob" ∷ []) 3 (codes "bob") ≡ 1 ∷ []
+unfolding told state_lines ranks_that rank_count words ranking_of spelled_by mapping_of is_channel is_word set_tokens changes kind_of
+shown_after_a_rejoin = refl
+
+highest_after_a_rejoin : seen no_caps (op_and_voice ++ codes ":bob!b@h PART #c" ∷ codes ":bob!b@h JOIN #c" ∷ codes ":s 353 Me = #c :Me @+bob" ∷ []) 3 (codes "bob") ≡ 0 ∷ []
+unfolding told state_lines ranks_that rank_count words ranking_of spelled_by mapping_of is_channel is_word set_tokens changes kind_of
+highest_after_a_rejoin = refl
+
+-- one of the capabilities that tell of accounts keeps none
+abbrev someone : Person
+someone = record { spelled = Some (codes "bob"); account = Some (codes "bobacc"); away = Some (codes "lunch") }
+
+no_account_by_joins : (kept_person (record { multi_prefix = true; extended_join = true; account_notify = false; away_notify = true }) someone).account ≡ None
+no_account_by_joins = refl
+
+no_account_by_notes : (kept_person (record { multi_prefix = true; extended_join = false; account_notify = true; away_notify = true }) someone).account ≡ None
+no_account_by_notes = refl
+
+account_by_both : (kept_person (record { multi_prefix = false; extended_join = true; account_notify = true; away_notify = false }) someone).account ≡ Some (codes "bobacc")
+account_by_both = refl

@@ -51,9 +51,9 @@ abbrev pub rank_in_change : Text → ℕ → LetterChange → Option Bool
 rank_in_change n rank l = if nat_eq rank l.rank && same n l.person then Some l.plus else None
 
 -- a MODE decides the ranks that it changes, by its sign; a word of 353 decides each rank by its symbols; a
--- JOIN decides each as no
+-- JOIN by the channel's key decides each as no, ours too, which need not be of a channel's name (our own choice)
 abbrev pub said_of_rank : Text → ℕ → (Text → Bool) → Told → Text → Option Bool
-said_of_rank c rank us (Joined channel valid who account) n = if not (us who.key) && same c channel.key && same n who.key then Some false else None
+said_of_rank c rank us (Joined channel valid who account) n = if same c channel.key && same n who.key then Some false else None
 said_of_rank c rank us (Present channel listings) n = if same c channel then last_in (rank_in_listing n rank) listings else None
 said_of_rank c rank us (Changed channel letters modes) n = if same c channel then last_in (rank_in_change n rank) letters else None
 said_of_rank c rank us _ n = None

@@ -1,9 +1,10 @@
 -- What the readers of a network view answer, by places in key order, counted from 0.
-use Rattle.std.specs.Prelude.{ℕ, List, length, slice_get}
+use Rattle.std.specs.Prelude.{ℕ, List, length, slice_get, if◌then◌else◌}
 use Rattle.std.specs.Option.{option_and_then, option_map, option_map_or, unwrap_or}
 use Rattle.std.specs.Borrow.{Bor}
 use Rattle.std.specs.FinMap as map
-use Rattle.std.proofs.Common.{Option}
+use Rattle.std.proofs.Common.{Option, None}
+use Rattle.irc_names.specs.Nick.{is_nameable}
 use Rattle.irc_support.specs.Text.{Text}
 use Rattle.irc_support.specs.Settings.{key_by}
 use Rattle.net_view.specs.View.{Channel, Person, View}
@@ -54,6 +55,7 @@ member_parts v member = record {
 abbrev pub member_shown : View → ℕ → ℕ → Option MemberParts
 member_shown v i j = option_and_then (λ (ch : Channel). option_map (member_parts v) (slice_get (map.entries ch.members) j)) (channel_shown v i)
 
--- the account of the person of this nick, where one is known
+-- the account of the person of this nick, where one is known; of a name that is not nameable nothing is, though
+-- its key may be a person's: under rfc1459 `~x` folds to the key of `^x`
 abbrev pub account_shown : View → Text → Option Text
-account_shown v nick = known_at (λ p. p.account) v (key_by v.settings nick)
+account_shown v nick = if is_nameable nick then known_at (λ p. p.account) v (key_by v.settings nick) else None

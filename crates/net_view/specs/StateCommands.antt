@@ -1,7 +1,8 @@
 -- The commands of the state lines, as the code names them (RFC 2812, sections 3.1, 3.2 and 5; IRCv3
 -- account-notify and away-notify).
-use Rattle.std.specs.Prelude.{List, [], ◌∷◌}
-use Rattle.std.specs.List.{find}
+use Rattle.std.specs.Prelude.{Bool, List, [], ◌∷◌}
+use Rattle.std.specs.List.{find, list_any}
+use Rattle.std.specs.Str.{str_eq_ignore_ascii_case}
 use Rattle.std.proofs.Common.{Option, codes}
 use Rattle.irc_line.specs.Line.{Parts, has_command}
 use Rattle.irc_support.specs.Text.{Text}
@@ -53,3 +54,25 @@ state_commands =
 -- the command of a line, where it is one of these
 abbrev pub state_command : Parts → Option StateCommand
 state_command line = find (λ command. has_command line (command_text command)) state_commands
+
+-- whether this is one of them, in letters of either case
+abbrev pub is_state_command : Text → Bool
+is_state_command name = list_any (λ command. str_eq_ignore_ascii_case name (command_text command)) state_commands
+
+-- commands that are none of them: messages, those of the link, and replies that a client is sent (RFC 2812,
+-- sections 3.3, 3.7 and 5.1; IRCv3 capability negotiation, batch and sasl)
+abbrev pub other_commands : List Text
+other_commands =
+    codes "PRIVMSG"
+    ∷ codes "NOTICE"
+    ∷ codes "PING"
+    ∷ codes "PONG"
+    ∷ codes "ERROR"
+    ∷ codes "CAP"
+    ∷ codes "BATCH"
+    ∷ codes "AUTHENTICATE"
+    ∷ codes "002"
+    ∷ codes "003"
+    ∷ codes "004"
+    ∷ codes "366"
+    ∷ []

@@ -2,6 +2,7 @@
 
 ghost use Rattle.std.specs.Prelude.{◌≡◌, ◌≢◌, ◌↔◌, IsTrue, ℕ, List, [], ◌∷◌, ◌++◌, Bool, true, false, Option, Some, reverse};
 ghost use Rattle.std.specs.FinMap.{get};
+ghost use Rattle.irc_names.specs.Nick.{is_nameable};
 ghost use Rattle.irc_support.specs.Text.{Text};
 ghost use Rattle.irc_support.specs.Tokens.{Token};
 ghost use Rattle.irc_support.specs.Settings.{key_by};
@@ -55,16 +56,14 @@ pub fn settings_stay()
         (view_of (items ++ x ∷ [])).settings ≡ (view_of items).settings }
 {}
 
-/// What a name is worth. Two names with one key are one person, at every boundary. A NICK that
-/// counts and its way back are inverse, but for who held the new name. After a QUIT nobody of that
-/// name is there, and after a welcome nobody at all (after a loss neither:
+/// What a name is worth. An account is known under a nameable nick alone, of who is a member of a channel that
+/// we are on. A NICK that counts and its way back are inverse, but for who held the new name. After a QUIT
+/// nobody of that name is there, and after a welcome nobody at all (after a loss neither:
 /// `a_loss_empties_the_view`).
 pub fn a_name_is_a_person()
-    ensures known { (v : View) (a b : Text) → key_by v.settings a ≡ key_by v.settings b →
-        account_shown v a ≡ account_shown v b }
-    ensures traced { (settings : List Token) (items : List Reading) (a b : Text) →
-        key_by settings a ≡ key_by settings b →
-        name_traced items (key_by settings a) ≡ name_traced items (key_by settings b) }
+    ensures known { (items : List Arrival) (nick account : Text) →
+        account_shown (view_of items) nick ≡ Some account → IsTrue (is_nameable nick) ×
+        IsTrue (is_seen (view_of items).channels (key_by (view_of items).settings nick)) }
     ensures there_and_back { (s : Standing) (a : Text) (b c : Name) (n : Text) →
         key_by s.settings b.spelled ≡ b.key → c.key ≡ a → IsTrue (counts (is_us s) a b.key) → n ≢ b.key →
         name_traced (

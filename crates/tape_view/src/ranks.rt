@@ -79,12 +79,8 @@ impl<'a, A: Allocator> Said<'a, A> {
                 if !is_same(self.support, channel, name) {
                     return None;
                 }
-                if self.marks.by_us {
-                    return if self.support.is_channel(name) {
-                        Some(false)
-                    } else {
-                        None
-                    };
+                if self.marks.by_us && self.support.is_channel(name) {
+                    return Some(false);
                 }
                 if is_same(self.support, nick, who) {
                     Some(false)

@@ -8,6 +8,7 @@ use crate::name_count::with_named;
 use crate::places::Table;
 use crate::tape::Tape;
 use irc_line::Line;
+use irc_names::is_nameable;
 use irc_support::Support;
 use net_view::{Channel, Item, Member, NetworkView, OutOfMemory, StateCommand, Telling, told_as};
 use std::alloc::{Allocator, Global};
@@ -226,6 +227,9 @@ impl<A: Allocator + Copy> NetworkView for TapeView<A> {
     }
 
     fn account_of(&self, nick: &[u8]) -> Option<&[u8]> {
+        if !is_nameable(nick) {
+            return None;
+        }
         self.tape().fact(nick, Fact::Account)
     }
 }

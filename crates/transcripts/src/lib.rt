@@ -9,6 +9,10 @@ mod lines;
 #[cfg(test)]
 mod names;
 #[cfg(test)]
+mod registration;
+#[cfg(test)]
 mod settings;
+#[cfg(test)]
+mod settings_file;
 #[cfg(test)]
 mod views;

@@ -1,3 +1,5 @@
 pub mod Ends
 pub mod OfferLemmas
+pub mod ReadLemmas
+pub mod SentLemmas
 pub mod Writable

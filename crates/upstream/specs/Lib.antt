@@ -2,3 +2,4 @@ pub mod Said
 pub mod Registration
 pub mod Taken
 pub mod Progress
+pub mod Handshake

@@ -10,7 +10,8 @@ ghost use Rattle.upstream.specs.Registration.{answer_to, has_ended, is_end, send
 pub fn a_registration_ends_once()
     ensures begins { has_ended [] ≡ false }
     ensures step { (network : NetworkSettings) (before : List Parts) (line : Parts) →
-        has_ended (before ++ line ∷ []) ≡ (has_ended before || is_end (answer_to network before line)) }
+        has_ended (before ++ line ∷ [])
+        ≡ (has_ended before || is_end (answer_to network before line)) }
     ensures nothing_more { (network : NetworkSettings) (before : List Parts) (line : Parts) →
         is_end (answer_to network before line) ≡ true → (after : List Parts) (next : Parts) →
         answer_to network (before ++ line ∷ after) next ≡ sends [] }

@@ -1,11 +1,13 @@
 //! The registration at a network: what is sent, and how it ends.
 #![tactic(auto)]
 
+mod handshake;
 pub mod laws;
 mod offers;
 mod registration;
 mod said;
 mod sending;
 
+pub use handshake::{DialFault, Welcomed, register};
 pub use registration::{Register, RegisterFault, Step};
 pub use std::alloc::AllocError as OutOfMemory;

@@ -10,7 +10,7 @@ invariant-loop-value l = record {
   named : AreNames l.names (map (λ (n : NetworkSettings). n.name) l.networks.items);
   fault : networks_fault [] (tables_of (items_view l.values))
       ≡ networks_fault (map (λ (n : NetworkSettings). n.name) l.networks.items)
-          (tables_of (items_view (drop l.value-index l.values)));
+      (tables_of (items_view (drop l.value-index l.values)));
   done : map network_in (tables_of (items_view l.values))
       ≡ l.networks.items ++ map network_in (tables_of (items_view (drop l.value-index l.values)));
 }

@@ -4,4 +4,4 @@ use Rattle.bnc_config.proofs.table.value_at.Goals as goal
 pub returns : goal.returns
 returns c =
     rw (← c.word.ensures)
-        (table_get c.get.result c.word.result.now c.args.table.now.entries c.get.ensures.value)
+    (table_get c.get.result c.word.result.now c.args.table.now.entries c.get.ensures.value)

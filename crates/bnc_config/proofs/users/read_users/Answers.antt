@@ -12,8 +12,8 @@ use Rattle.bnc_config.proofs.users.read_users.Goals as goal
 pub returns-in_err-read : goal.returns-in_err-read
 returns-in_err-read c =
     let from =
-        tables_of-table c.args.values.now c.loop-value.value-index _ _ c.loop-value-test.true
-            c.value-item.is c.in-Some.ensures in
+    tables_of-table c.args.values.now c.loop-value.value-index _ _ c.loop-value-test.true
+    c.value-item.is c.in-Some.ensures in
     let p = err_from_is_err_and c.from_residual.result c.from_residual.ensures.1 in
     rw (p.1, p.2) (elim (c.in_err-read.ensures.read _ c.loop-value.invariant.named) [
       | inl memory ↦ inl memory
@@ -24,15 +24,15 @@ pub loop-value-preserved : goal.loop-value-preserved
 loop-value-preserved c = elim c.match-as_table.branch [
   | in-Some+in_ok-read+in_ok-push w ↦
       let from =
-          tables_of-table c.args.values.now c.loop-value.value-index _ _ c.loop-value-test.true
-              c.value-item.is w.in-Some.ensures in
+      tables_of-table c.args.values.now c.loop-value.value-index _ _ c.loop-value-test.true
+      c.value-item.is w.in-Some.ensures in
       let read = w.in_ok-read.ensures.read _ c.loop-value.invariant.named in
       let items : c.match-as_table.users.items
-          ≡ c.loop-value.users.items ++ user_in (table_view w.in-Some.table.now) ∷ [] =
+      ≡ c.loop-value.users.items ++ user_in (table_view w.in-Some.table.now) ∷ [] =
       rw (w.users-is, w.in_ok-push.ensures.items, read.1) refl in
       let named : map (λ (n : UserSettings). n.name) c.match-as_table.users.items
       ≡ map (λ (n : UserSettings). n.name) c.loop-value.users.items
-          ++ text_at UserName (table_view w.in-Some.table.now) ∷ [] =
+      ++ text_at UserName (table_view w.in-Some.table.now) ∷ [] =
       rw (items, map-append) refl in
       record {
         named = rw (w.names-is, named) (w.in_ok-read.ensures.named _ c.loop-value.invariant.named);
@@ -41,8 +41,8 @@ loop-value-preserved c = elim c.match-as_table.branch [
       }
   | in_default w ↦
       let from =
-          tables_of-other c.args.values.now c.loop-value.value-index _ c.loop-value-test.true
-              c.value-item.is w.in_default.ensures in
+      tables_of-other c.args.values.now c.loop-value.value-index _ c.loop-value-test.true
+      c.value-item.is w.in_default.ensures in
       record {
         named = rw (w.names-is, w.users-is) c.loop-value.invariant.named;
         fault = c.loop-value.invariant.fault ∙ rw (from, w.users-is) refl;

@@ -10,7 +10,7 @@ invariant-loop-value l = record {
   named : AreNames l.names (map (λ (n : UserSettings). n.name) l.users.items);
   fault : users_fault [] (tables_of (items_view l.values))
       ≡ users_fault (map (λ (n : UserSettings). n.name) l.users.items)
-          (tables_of (items_view (drop l.value-index l.values)));
+      (tables_of (items_view (drop l.value-index l.values)));
   done : map user_in (tables_of (items_view l.values))
       ≡ l.users.items ++ map user_in (tables_of (items_view (drop l.value-index l.values)));
 }

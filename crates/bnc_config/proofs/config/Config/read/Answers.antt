@@ -7,7 +7,7 @@ use Rattle.bnc_config.proofs.config.Config.read.Goals as goal
 pub returns-in_err-users : goal.returns-in_err-users
 returns-in_err-users c =
     let p = err_from_is_err_and c.from_residual-in_err-users.result
-        c.from_residual-in_err-users.ensures.1 in
+    c.from_residual-in_err-users.ensures.1 in
     let listen = c.in_ok-listen.ensures.read in
     let history = c.in_ok-history.ensures.read in
     let retry = c.in_ok-retry.ensures.read in

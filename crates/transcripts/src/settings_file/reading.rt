@@ -1,7 +1,7 @@
 //! Settings that are read.
 
 use super::lines_with;
-use crate::{Config, Key, Place};
+use bnc_config::{Config, Key, Place};
 use std::alloc::Global;
 use std::test::Fail;
 
@@ -117,9 +117,12 @@ fn names_and_passwords_are_compared_byte_for_byte(rt: HostRuntime) -> Result<(),
 /// `printf '%s%s' "$salt" 'correct horse' | sha256sum`, the salt of eight bytes.
 #[test]
 fn a_digest_made_with_sha256sum(rt: HostRuntime) -> Result<(), Fail> {
-    let text =
-        b"listen = \"h:1\"\n[[user]]\nname = \"bob\"\nsalt = \"3132333435363738\"\npassword = \"65c30cc1f89ab7117b28c4825ac5de892bc6ac97b1f7d7b070441fc025f3641f\"";
-    let config = Config::read(rt.alloc(), text)?;
+    let salt = "3132333435363738";
+    let digest = "65c30cc1f89ab7117b28c4825ac5de892bc6ac97b1f7d7b070441fc025f3641f";
+    let text = format!(in rt.alloc();
+        "listen = \"h:1\"\n[[user]]\nname = \"bob\"\nsalt = \"{salt}\"\npassword = \"{digest}\""
+    )?;
+    let config = Config::read(rt.alloc(), text.as_bytes())?;
     assert!(rt; config.password_matches(b"bob", b"correct horse"));
     assert!(rt; !config.password_matches(b"bob", b"correct horsf"));
     Ok(())

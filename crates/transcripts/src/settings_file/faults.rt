@@ -1,7 +1,7 @@
 //! Faults that are told of settings files.
 
 use super::lines_with;
-use crate::Config;
+use bnc_config::Config;
 use std::alloc::{AllocError, Global};
 use std::test::Fail;
 
@@ -13,7 +13,8 @@ fn told(alloc: Global, text: &[u8]) -> Result<String, AllocError> {
     }
 }
 
-/// A line that stands for the first of `EXAMPLE` from a place on that begins so, and what is told then.
+/// A line that stands for the first of `EXAMPLE` from a place on that begins so, and what is told
+/// then.
 static LIMITS: [(usize, &str, &str, &str); 68] = [
     (0, "listen", "", "missing listen"),
     (0, "listen", "listen = 5", "bad value listen"),
@@ -197,8 +198,10 @@ fn user_table(alloc: Global, name: &str) -> Result<String, AllocError> {
     format!(in alloc; "[[user]]\nname = \"{name}\"\nsalt = \"\"\npassword = \"{digest}\"\n")
 }
 
+/// A network table.
 const NET: &str =
-    "[[user.network]]\nname = \"net\"\naddress = \"h:1\"\nnick = \"a\"\nuser = \"a\"\nrealname = \"\"\n";
+    "[[user.network]]\nname = \"net\"\naddress = \"h:1\"\nnick = \"a\"\nuser = \"a\"\n\
+    realname = \"\"\n";
 
 #[test]
 fn names_that_come_twice(rt: HostRuntime) -> Result<(), Fail> {

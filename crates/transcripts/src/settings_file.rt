@@ -1,4 +1,4 @@
-//! What the tests of settings files share.
+//! Settings files: what is read of them, and the faults that are told.
 
 mod faults;
 mod reading;
@@ -24,8 +24,8 @@ const EXAMPLE: [&str; 15] = [
     "join = [\"#c\"]",
 ];
 
-/// The lines from `from` on, with another in the place of the line that begins with `key` and is the
-/// first such from `after` on.
+/// The lines of the example, with `line` in the place of the first that begins with `key` from the
+/// line `after` on, counted from 0.
 fn lines_with(alloc: Global, after: usize, key: &str, line: &str) -> Result<String, AllocError> {
     let mut text = String::new(alloc);
     let mut is_placed = false;

@@ -1,0 +1,211 @@
+//! Registrations at networks, line by line.
+
+mod servers;
+mod streams;
+
+use bnc_config::{Config, Place};
+use irc_line::Line;
+use std::alloc::Global;
+use std::process::Abort;
+use std::test::Fail;
+use upstream::{Register, Step};
+
+/// A network without a password and channels.
+const PLAIN: &str = "listen = \"h:1\"\n[[user]]\nname = \"u\"\nsalt = \"\"\n\
+    password = \"ba7816bf8f01cfea414140de5dae2223b00361a396177a9cb410ff61f20015ad\"\n\
+    [[user.network]]\nname = \"n\"\naddress = \"h:2\"\nnick = \"ann\"\nuser = \"ann\"\n\
+    realname = \"Ann A\"\n";
+
+/// What comes behind it for a password and channels.
+const MORE: &str = "password = \"secret\"\njoin = [\"#c\", \"#d key\", \"&x\"]\n";
+
+/// The same, with channels that are words.
+const CHANNELS: &str = "password = \"secret\"\njoin = [\"#c\", \"&x\"]\n";
+
+/// A line of the network.
+fn line(alloc: Global, text: &str) -> Result<Line, Fail> {
+    let line = Line::<Global>::read(alloc, text.as_bytes())?;
+    Ok(line.ok_or("the text is a line")?)
+}
+
+/// The texts of lines, with ` / ` between them.
+fn texts(alloc: Global, lines: &[Line]) -> Result<Vec<u8>, Fail> {
+    let mut out = Vec::new(alloc);
+    for line in lines {
+        if !out.is_empty() {
+            out.extend_from_slice(b" / ")?;
+        }
+        line.write(&mut out)?;
+        out.truncate(out.len().saturating_sub(2));
+    }
+    Ok(out)
+}
+
+/// What a step is: the lines that are sent, with `done: ` in front for the welcome, or the fault.
+fn told(alloc: Global, step: &Step) -> Result<Vec<u8>, Fail> {
+    match step {
+        Step::Send(lines) => texts(alloc, lines.as_slice()),
+        Step::Done(lines) => {
+            let mut out = Vec::from_slice(alloc, b"done: ")?;
+            out.extend_from_slice(texts(alloc, lines.as_slice())?.as_slice())?;
+            Ok(out)
+        }
+        Step::Fault(fault) => {
+            let text = format!(in alloc; "{fault}")?;
+            Ok(Vec::from_slice(alloc, text.as_str().as_bytes())?)
+        }
+    }
+}
+
+/// Registers by the settings; a row without a line has what is sent first, each other a line of the
+/// network and what it is answered by.
+fn registers(
+    rt: &impl Abort,
+    alloc: Global,
+    settings: &str,
+    rows: &[(&str, &str)],
+) -> Result<(), Fail> {
+    let config = Config::read(alloc, settings.as_bytes())?;
+    let place = Place {
+        user: 0,
+        network: 0,
+    };
+    let network = config.network(place).ok_or("no network")?;
+    let (mut register, first) = Register::start(alloc, network)?;
+    for (text, want) in rows {
+        let found = if text.is_empty() {
+            texts(alloc, first.as_slice())?
+        } else {
+            told(alloc, &register.line(&line(alloc, text)?)?)?
+        };
+        assert!(rt; found.as_slice() == want.as_bytes(), "at {text}");
+    }
+    Ok(())
+}
+
+#[test]
+fn capabilities_that_are_offered_are_asked_for(rt: HostRuntime) -> Result<(), Fail> {
+    let rows = [
+        ("", "CAP LS 302 / NICK ann / USER ann 0 * :Ann A"),
+        (":s CAP * LS * :sasl batch", ""),
+        (
+            ":s CAP * LS :account-notify=1 multi-prefix",
+            "CAP REQ :multi-prefix account-notify",
+        ),
+        (":s CAP * ACK :multi-prefix account-notify", "CAP END"),
+        (":s 433 * ann :in use", "NICK ann_"),
+        (":s 001 ann_ :hi", "done: "),
+        (":s 433 * ann_ :in use", ""),
+        ("PING x", ""),
+        (":s 001 ann :hi", ""),
+    ];
+    registers(&rt, rt.alloc(), PLAIN, &rows)
+}
+
+#[test]
+fn names_of_several_lists_are_kept(rt: HostRuntime) -> Result<(), Fail> {
+    let rows = [
+        (":s CAP * LS * :server-time away-notify=x", ""),
+        (":s CAP * LS * :", ""),
+        (":s CAP * LS extended-join :multi-prefix", ""),
+        (":s CAP * NEW :multi-prefix", ""),
+        (
+            ":s cap ann ls :multi-prefixes =multi-prefix extended-join",
+            "CAP REQ :extended-join away-notify server-time",
+        ),
+        (
+            ":s CAP * NAK :extended-join away-notify server-time",
+            "CAP END",
+        ),
+    ];
+    registers(&rt, rt.alloc(), PLAIN, &rows)
+}
+
+#[test]
+fn a_network_that_offers_nothing(rt: HostRuntime) -> Result<(), Fail> {
+    let rows = [
+        (":s CAP * LS :", "CAP END"),
+        (":s 421 ann CAP :Unknown command", ""),
+        ("PING", "PONG"),
+        ("PING :a b", "PONG :a b"),
+        (":s PING x y", "PONG x y"),
+        (":s 001 9 :digits begin nicks", "done: "),
+    ];
+    registers(&rt, rt.alloc(), PLAIN, &rows)?;
+    let rows = [
+        (":s 001", ""),
+        (":s 001 * :no nick", ""),
+        (":s 001 ann :hi", "done: "),
+    ];
+    registers(&rt, rt.alloc(), PLAIN, &rows)
+}
+
+#[test]
+fn a_password_and_channels(rt: HostRuntime) -> Result<(), Fail> {
+    let settings = format!(in rt.alloc(); "{PLAIN}{CHANNELS}")?;
+    let rows = [
+        (
+            "",
+            "CAP LS 302 / PASS secret / NICK ann / USER ann 0 * :Ann A",
+        ),
+        (":s 001 ann :hi", "done: JOIN #c / JOIN &x"),
+        (":s 001 ann :hi", ""),
+    ];
+    registers(&rt, rt.alloc(), settings.as_str(), &rows)?;
+    let settings = format!(in rt.alloc(); "{PLAIN}{MORE}")?;
+    assert!(rt; Config::read(rt.alloc(), settings.as_str().as_bytes()).is_err());
+    Ok(())
+}
+
+#[test]
+fn four_nicks_are_tried(rt: HostRuntime) -> Result<(), Fail> {
+    let rows = [
+        (":s 433 * ann :in use", "NICK ann_"),
+        (":s 433 * ann_ :in use", "NICK ann__"),
+        (":s 433 * ann__ :in use", "NICK ann___"),
+        (":s 433 * ann___ :in use", "nick in use"),
+        (":s 433 * ann___ :in use", ""),
+        (":s 001 ann :hi", ""),
+    ];
+    registers(&rt, rt.alloc(), PLAIN, &rows)
+}
+
+#[test]
+fn a_network_that_refuses(rt: HostRuntime) -> Result<(), Fail> {
+    let rows = [
+        (":s 432 * ann :bad", "bad nick"),
+        (":s 464 * :no", "refused"),
+        ("ERROR :Closing Link", "refused"),
+    ];
+    for row in rows {
+        registers(&rt, rt.alloc(), PLAIN, &[row, ("PING x", "")])?;
+    }
+    Ok(())
+}
+
+#[test]
+fn the_10000th_line(rt: HostRuntime) -> Result<(), Fail> {
+    let alloc = rt.alloc();
+    for (last, want) in [
+        ("PING x", "no welcome"),
+        (":s 433 * ann :in use", "no welcome"),
+        (":s 001 ann :hi", "done: "),
+        (":s 432 * ann :bad", "bad nick"),
+    ] {
+        let config = Config::read(alloc, PLAIN.as_bytes())?;
+        let place = Place {
+            user: 0,
+            network: 0,
+        };
+        let network = config.network(place).ok_or("no network")?;
+        let (mut register, _first) = Register::start(alloc, network)?;
+        let notice = line(alloc, ":s NOTICE AUTH :*** Checking Ident")?;
+        for _ in 0..9_999 {
+            let step = register.line(&notice)?;
+            assert!(rt; matches!(&step, Step::Send(lines) if lines.is_empty()));
+        }
+        let step = register.line(&line(alloc, last)?)?;
+        assert!(rt; told(alloc, &step)?.as_slice() == want.as_bytes());
+    }
+    Ok(())
+}

@@ -1,0 +1,67 @@
+use Rattle.std.proofs.Common.{◌≡◌, ◌+◌, ◌++◌, sym, subst, take, drop, arith}
+use Rattle.std.proofs.lemmas.List.{take_all}
+use Rattle.upstream.specs.Handshake.{IsLinesCause}
+use Rattle.upstream.specs.Taken.{HasTaken}
+use Rattle.upstream.proofs.SentLemmas.{behind, from_place, lines_cause, parted, refused_by}
+use Rattle.upstream.proofs.SentLemmas.{sent_step, still_going, up_to}
+use Rattle.upstream.proofs.handshake.take_lines.Goals as goal
+
+pub returns-in_err-take_line-clause-err : goal.returns-in_err-take_line-clause-err
+returns-in_err-take_line-clause-err g c = λ network before taken going.
+    let lines = c.args.lines.now in
+    let i = c.loop-place.place in
+    let so_far = c.loop-place.invariant network before taken going in
+    refused_by c.from_residual.result (IsLinesCause network before lines)
+    c.in_err-take_line.field-0.0
+    c.from_residual.ensures.1
+    (lines_cause network before (take i lines) lines (drop (i + 1) lines) c.index-lines-place.result
+    c.in_err-take_line.field-0.0
+    (parted lines i c.index-lines-place.result c.loop-place-test.true c.index-lines-place.is)
+    (c.in_err-take_line.ensures.err network (before ++ take i lines) so_far.taken))
+
+pub returns-then-branch-clause-some : goal.returns-then-branch-clause-some
+returns-then-branch-clause-some g c = λ network before taken going.
+    let lines = c.args.lines.now in
+    let i = c.loop-place.place in
+    let line = c.index-lines-place.result in
+    let so_far = c.loop-place.invariant network before taken going in
+    let ended = c.in_ok-take_line.ensures.ended network (before ++ take i lines) so_far.taken in
+    let sent = c.in_ok-take_line.ensures.sent network (before ++ take i lines) so_far.taken in (
+      (
+        line,
+        c.loop-place-test.true,
+        from_place lines i line c.loop-place-test.true
+            c.index-lines-place.is,
+        rw c.if-branch.true at ended,
+      ),
+      sent_step network before (take i lines) (take (i + 1) lines) line _ _ _
+          (up_to lines i line c.loop-place-test.true c.index-lines-place.is) so_far.sent sent,
+    )
+
+pub loop-place-preserved : goal.loop-place-preserved
+loop-place-preserved g c = λ network before taken going.
+    let lines = c.args.lines.now in
+    let i = c.loop-place.place in
+    let line = c.index-lines-place.result in
+    let so_far = c.loop-place.invariant network before taken going in
+    let one = up_to lines i line c.loop-place-test.true c.index-lines-place.is in
+    let all = behind before (take i lines) (take (i + 1) lines) line one in
+    let ended = c.in_ok-take_line.ensures.ended network (before ++ take i lines) so_far.taken in
+    let sent = c.in_ok-take_line.ensures.sent network (before ++ take i lines) so_far.taken in
+    record {
+      taken = subst (λ t. HasTaken network t c.take_line.new.register) (sym all)
+          (c.in_ok-take_line.ensures.taken network (before ++ take i lines) so_far.taken);
+      going = rw all
+          (still_going network (before
+          ++ take i lines) line so_far.going (rw c.if-branch.false at ended));
+      sent = sent_step network before (take i lines) (take (i + 1) lines) line _ _ _ one so_far.sent
+          sent;
+    }
+
+pub returns-clause-none : goal.returns-clause-none
+returns-clause-none g c = λ network before taken going.
+    let lines = c.args.lines.now in
+    let all : take c.loop-place.place lines ≡ lines =
+    take_all c.loop-place.place lines (omega arith) in
+    let so_far = rw all at (c.loop-place.invariant network before taken going) in
+    (so_far.taken, so_far.going, so_far.sent)

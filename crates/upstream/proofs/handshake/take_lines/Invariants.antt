@@ -1,0 +1,18 @@
+use Rattle.std.proofs.Common.{◌≡◌, ◌++◌, false, List, take}
+use Rattle.std.specs.Io.KnownBytes.{Appends}
+use Rattle.irc_line.specs.Line.{Parts}
+use Rattle.bnc_config.specs.Settings.{NetworkSettings}
+use Rattle.upstream.specs.Handshake.{bytes_of, sent_for}
+use Rattle.upstream.specs.Registration.{has_ended}
+use Rattle.upstream.specs.Taken.{HasTaken}
+use Rattle.upstream.proofs.handshake.take_lines.Given as goal
+
+abbrev pub invariant-loop-place : goal.invariant-loop-place
+invariant-loop-place g l = (network : NetworkSettings) (before : List Parts)
+    → HasTaken network before l.fn.register
+    → has_ended before ≡ false → record {
+      taken : HasTaken network (before ++ take l.place l.lines) l.register;
+      going : has_ended (before ++ take l.place l.lines) ≡ false;
+      sent : Appends (g.W.Write.contents l.fn.writer) (g.W.Write.contents l.writer)
+          (bytes_of (sent_for network before (take l.place l.lines)));
+    }
