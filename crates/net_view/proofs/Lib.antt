@@ -23,6 +23,7 @@ pub mod AfterAlike
 pub mod AfterJoin
 pub mod AfterPart
 pub mod AfterOwnPart
+pub mod AfterFacts
 pub mod TokensWritten
 pub mod WrittenViews
 pub mod FormSound
