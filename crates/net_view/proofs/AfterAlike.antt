@@ -139,6 +139,15 @@ same_seen cs ds alike n =
     (λ h. let at = seen_somewhere ds n h in seen_in cs (at.0) n (sym (alike (at.0) n) ∙ at.1))
     (λ h. let at = seen_somewhere cs n h in seen_in ds (at.0) n (alike (at.0) n ∙ at.1))
 
+-- a channel that keeps its members, put in its place
+pub kept_members : (cs : fin.FinMap bytes_cmp Channel) (c : Text) (ch is : Channel) → fin.get cs c ≡ Some ch → ((n : Text) → is_some (fin.get is.members n) ≡ is_some (fin.get ch.members n)) → (d n : Text) → is_some (old_member (fin.get (fin.insert cs c is) d) n) ≡ is_some (old_member (fin.get cs d) n)
+kept_members cs c ch is there alike d n =
+    ap (λ o. is_some (old_member o n)) (fin.get-insert nat_list_cmp_total cs c is d)
+    ∙ elim (same d c) as (λ b. same d c ≡ b → is_some (old_member (cond b (Some is) (fin.get cs d)) n) ≡ is_some (old_member (fin.get cs d) n)) [
+      | true ↦ λ e. alike n ∙ sym (ap (λ o. is_some (old_member o n)) (ap (fin.get cs) (is_same d c e) ∙ there))
+      | false ↦ λ e. refl
+    ] refl
+
 -- ---- persons of whom an item speaks
 
 module _ (us : Text → Bool) (t : Told) (cs : fin.FinMap bytes_cmp Channel) (ps : fin.FinMap bytes_cmp Person) (known : (n : Text) → fin.contains_key ps n ≡ is_seen cs n) where

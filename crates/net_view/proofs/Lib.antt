@@ -24,6 +24,7 @@ pub mod AfterJoin
 pub mod AfterPart
 pub mod AfterOwnPart
 pub mod AfterFacts
+pub mod AfterModes
 pub mod TokensWritten
 pub mod WrittenViews
 pub mod FormSound
