@@ -19,6 +19,12 @@ pub mod MembersSpelled
 pub mod OnSound
 pub mod SoundStep
 pub mod Accounts
+pub mod AfterAlike
+pub mod AfterJoin
+pub mod AfterPart
+pub mod AfterOwnPart
+pub mod AfterFacts
+pub mod AfterModes
 pub mod TokensWritten
 pub mod WrittenViews
 pub mod FormSound

@@ -23,6 +23,7 @@ pub mod Facts
 pub mod Table
 pub mod View
 pub mod Step
+pub mod Changes
 pub mod Readers
 pub mod Seen
 pub mod Agrees
