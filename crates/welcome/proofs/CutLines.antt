@@ -13,7 +13,6 @@ use Rattle.irc_line.specs.Reading.{line_of}
 use Rattle.irc_line.proofs.Making.{writable-again, writable-spells}
 use Rattle.welcome.specs.Packets.{AreLines}
 
-
 place_at : (byte : ℕ) (text more : List ℕ) → AllByRecursion (λ b. (b == byte) ≡ false) text → (byte == byte) ≡ true → position_or_len (λ b. b == byte) (text ++ byte ∷ more) ≡ length text
 place_at byte [] more l e = ap (λ b. cond (not b) (1 + position_or_len (λ c. c == byte) more) 0) e
 place_at byte (b ∷ text) more l e =
@@ -62,8 +61,8 @@ first_text line lines w =
 pub other_texts : (line : Parts) (lines : List Parts) → IsTrue (is_writable line) → (cut_at 10 (flat_map written (line ∷ lines))).1 ≡ Some (flat_map written lines)
 other_texts line lines w =
     ap (λ text. (cut_at 10 text).1)
-        (append_assoc (text_of line) (13 ∷ 10 ∷ []) (flat_map written lines)
-        ∙ sym (append_assoc (text_of line) (13 ∷ []) (10 ∷ flat_map written lines)))
+    (append_assoc (text_of line) (13 ∷ 10 ∷ []) (flat_map written lines)
+    ∙ sym (append_assoc (text_of line) (13 ∷ []) (10 ∷ flat_map written lines)))
     ∙ after_at 10 (text_of line ++ 13 ∷ []) (flat_map written lines) (no_lf (text_of line) (writable-spells line w).clean) refl
 
 -- some lines from a place on

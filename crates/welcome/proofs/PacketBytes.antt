@@ -38,8 +38,8 @@ pushed before after count line p e w =
     let lines = lines_of before ++ line ∷ [] in
     let all : AreLines lines = lines_more (lines_of before) (line ∷ []) p.lines (w, tt) in
     let whole : after ≡ flat_map written lines =
-        e ∙ ap (λ s. s ++ written line) (sym p.whole) ∙ ap (λ s. flat_map written (lines_of before) ++ s) (one_line line)
-        ∙ sym (flat_map-append written (lines_of before) (line ∷ [])) in
+    e ∙ ap (λ s. s ++ written line) (sym p.whole) ∙ ap (λ s. flat_map written (lines_of before) ++ s) (one_line line)
+    ∙ sym (flat_map-append written (lines_of before) (line ∷ [])) in
     let number : length lines ≡ count + 1 = length-append (lines_of before) (line ∷ []) ∙ ap (λ n. n + 1) p.counted in
     record { packet = subst (IsPacket after) number (is_packet after lines whole all); lines = lines_back after lines whole all }
 

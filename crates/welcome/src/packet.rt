@@ -97,11 +97,7 @@ impl<A: Allocator> Packet<A> {
     }
 
     /// The line at this place, counted from 0. It goes over the bytes of the lines before it.
-    pub fn line<B: Allocator + Drop>(
-        &self,
-        alloc: B,
-        place: usize,
-    ) -> Result<Line<B>, OutOfMemory>
+    pub fn line<B: Allocator + Drop>(&self, alloc: B, place: usize) -> Result<Line<B>, OutOfMemory>
         requires { place < length self.now }
         ensures { IfOk result (λ line. slice_get self.now place ≡ Some line) }
     {
