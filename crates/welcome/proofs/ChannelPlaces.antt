@@ -1,6 +1,6 @@
 -- The channels, place by place.
-use Rattle.std.proofs.Common.{◌≡◌, ℕ, ◌+◌, List, [], ◌∷◌, ◌++◌, Option, Some, None, refl, sym, ap, ◌∙◌, arith, map, take, length, append_assoc, append-nil}
-use Rattle.std.specs.Prelude.{option_to_list, codes}
+use Rattle.std.proofs.Common.{◌≡◌, ℕ, ◌+◌, List, [], ◌∷◌, ◌++◌, Option, Some, None, refl, sym, ap, ◌∙◌, arith, map, take, append_assoc, append-nil}
+use Rattle.std.specs.Prelude.{option_to_list}
 use Rattle.std.specs.List.{flat_map, slice_get}
 use Rattle.std.specs.Option.{option_map, option_map_or}
 use Rattle.std.specs.Borrow.{Bor}
@@ -15,7 +15,7 @@ use Rattle.net_view.specs.Readers.{channel_shown, channels_shown}
 use Rattle.net_view.specs.declared.channel.Channel as lend
 use Rattle.client_caps.specs.declared.caps.Caps.{Caps}
 use Rattle.welcome.specs.Rows.{is_short, rows_of}
-use Rattle.welcome.specs.Burst.{channel_lines, join_line, member_word, mode_lines, names_end, names_lines, topic_lines}
+use Rattle.welcome.specs.Burst.{channel_lines, join_line, member_word, mode_lines, names_end, topic_lines}
 use Rattle.welcome.specs.Filling.{name_row}
 use Rattle.welcome.specs.Lent.{lent, members_at, modes_at}
 use Rattle.welcome.proofs.Places.{take_next}
@@ -54,7 +54,6 @@ channels_all v caps i e = ap (λ k. channels_before v caps k) e ∙ ap (λ es. f
 abbrev pub lines_lent : View → Caps → Channel → List (ℕ × Option Text) → List (Text × List ℕ) → List Parts
 lines_lent v caps ch modes members =
     join_line v caps ch ∷ (topic_lines v ch ++ (mode_lines v ch modes ++ (map (name_row v ch.name) (rows_of is_short (map (member_word v caps.multi_prefix) members)) ++ names_end v ch ∷ [])))
-
 
 of_parts : (v : View) (caps : Caps) (given ch : Channel) → given.name ≡ ch.name → given.topic ≡ ch.topic → lines_lent v caps given (entries ch.modes) (entries ch.members) ≡ channel_lines v caps ch
 of_parts v caps given ch n t = ap (λ name. lines_lent v caps (record { name = name; topic = given.topic; modes = ch.modes; members = ch.members }) (entries ch.modes) (entries ch.members)) n

@@ -1,14 +1,11 @@
 -- The state part as bytes.
-use Rattle.std.proofs.Common.{◌≡◌, ℕ, true, List, [], ◌∷◌, ◌++◌, length, refl, sym, ap, subst, ◌∙◌, append_assoc}
+use Rattle.std.proofs.Common.{◌≡◌, ℕ, true, List, length, sym, ap, subst, ◌∙◌}
 use Rattle.std.specs.List.{flat_map}
-use Rattle.std.specs.FinMap as fin
-use Rattle.std.proofs.lemmas.Grind.{flat_map-append}
 use Rattle.irc_line.specs.Line.{Parts}
 use Rattle.irc_line.specs.Lines.{lines_of}
 use Rattle.irc_line.specs.Writing.{written}
-use Rattle.irc_support.specs.Text.{Text}
 use Rattle.net_view.specs.Arrival.{Arrival}
-use Rattle.net_view.specs.View.{Channel, Person, View, view_of}
+use Rattle.net_view.specs.View.{View, view_of}
 use Rattle.net_view.specs.Written.{AreWritten}
 use Rattle.client_caps.specs.declared.caps.Caps.{Caps}
 use Rattle.welcome.specs.Packets.{AreLines, IsPacket}

@@ -1,19 +1,18 @@
 -- The rows of tokens, place by place.
-use Rattle.std.proofs.Common.{◌≡◌, ℕ, ◌+◌, ◌-◌, ◌≤◌, ◌<◌, Bool, true, false, cond, List, [], ◌∷◌, ◌++◌, Option, Some, None, refl, sym, ap, subst, ◌∙◌}
-use Rattle.std.proofs.Common.{arith, map, take, drop, length, append_assoc, append-nil, length-append}
+use Rattle.std.proofs.Common.{◌≡◌, ℕ, ◌+◌, ◌-◌, ◌≤◌, Bool, true, false, cond, List, [], ◌∷◌, ◌++◌, Option, Some, refl, sym, ap, subst, ◌∙◌}
+use Rattle.std.proofs.Common.{arith, map, take, drop, length, append_assoc, length-append}
 use Rattle.std.specs.Prelude.{codes, slice_range, nat_le, nat_lt, nat_eq, ◌&&◌, option_to_list}
 use Rattle.std.specs.List.{flat_map, join_with_byte, slice_get}
-use Rattle.std.specs.Option.{option_map}
 use Rattle.std.proofs.lemmas.Bool.Decides.{nat_tests}
 use Rattle.std.proofs.lemmas.List.{map-append, take_all, length-drop, length-take-le, drop-append-le, take-map, drop-map, drop-take}
 use Rattle.irc_line.specs.Line.{Parts}
 use Rattle.irc_line.specs.Writing.{written}
 use Rattle.irc_support.specs.Text.{Text}
 use Rattle.irc_support.specs.Tokens.{Token}
-use Rattle.welcome.specs.Rows.{is_short, is_token_row, rows_of}
+use Rattle.welcome.specs.Rows.{is_token_row, rows_of}
 use Rattle.welcome.specs.Burst.{from_bouncer, token_text}
 use Rattle.welcome.proofs.Places.{take_next}
-use Rattle.welcome.proofs.Filled.{Filled, closed, closed_said, fill, full_open, goes_on, is_open, join_on, line_on, put, room, rows_filled}
+use Rattle.welcome.proofs.Filled.{Filled, closed_said, fill, full_open, goes_on, is_open, join_on, line_on, put, room, rows_filled}
 
 -- the tokens before the next place
 pub texts_next : (settings : List Token) (i : ℕ) (o : Option Token) → o ≡ slice_get settings i → map token_text (take (i + 1) settings) ≡ map token_text (take i settings) ++ map token_text (option_to_list o)

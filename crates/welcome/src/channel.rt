@@ -149,7 +149,11 @@ fn push_names_end<V: NetworkView, A: Allocator>(
     ensures { OnOk result (text.new.items ≡ text.old.items
         ++ written (names_end (V.view view.now) (lent channel.entry))) }
 {
-    push_reply(text, b"366", &[own_nick(view), channel.name, b"End of NAMES list"])
+    push_reply(
+        text,
+        b"366",
+        &[own_nick(view), channel.name, b"End of NAMES list"],
+    )
 }
 
 /// Adds what tells a client of the channel at place `i`: our JOIN, the topic, the modes, the

@@ -40,7 +40,11 @@ pub fn push_greeting<V: NetworkView, A: Allocator>(
 {
     let nick = own_nick(view);
     push_reply(text, b"001", &[nick, b"Welcome to the bouncer"])?;
-    push_reply(text, b"002", &[nick, b"Your host is bnc, running version 1"])?;
+    push_reply(
+        text,
+        b"002",
+        &[nick, b"Your host is bnc, running version 1"],
+    )?;
     push_reply(text, b"003", &[nick, b"This server was created for you"])?;
     push_reply(text, b"004", &[nick, b"bnc", b"1", b"i", b"biklmnopstv"])?;
     Ok(())

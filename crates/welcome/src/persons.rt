@@ -45,3 +45,18 @@ pub fn push_person<A: Allocator>(
     }
     Ok(())
 }
+
+/// Adds what tells a client of these persons, in their order.
+pub fn push_persons<A: Allocator>(
+    text: &mut Vec<u8, A>,
+    caps: Caps,
+    persons: &[Member<'_>],
+) -> Result<(), OutOfMemory>
+    ensures { OnOk result (text.new.items ≡ text.old.items ++ flat_map written
+        (flat_map (λ person. person_lines caps (person_lent person)) persons.now)) }
+{
+    for person in persons {
+        push_person(text, caps, person)?;
+    }
+    Ok(())
+}

@@ -1,10 +1,9 @@
-use Rattle.std.proofs.Common.{◌≡◌, [], ◌∷◌, ◌++◌, sym, ap, ◌∙◌, append-nil, map}
-use Rattle.irc_line.specs.Writing.{written}
+use Rattle.std.proofs.Common.{◌++◌, ap, ◌∙◌, map}
 use Rattle.welcome.specs.Rows.{is_short, rows_of}
 use Rattle.welcome.specs.Burst.{join_line, member_word, mode_lines, names_end, topic_lines}
 use Rattle.welcome.specs.Filling.{name_row}
 use Rattle.welcome.specs.Lent.{lent, members_at, modes_at}
-use Rattle.welcome.proofs.Said.{said_all, said_next, block_said}
+use Rattle.welcome.proofs.Said.{block_said}
 use Rattle.welcome.proofs.ChannelPlaces.{lines_of_lent}
 use Rattle.welcome.proofs.channel.push_channel.Goals as goal
 

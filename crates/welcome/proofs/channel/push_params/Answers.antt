@@ -1,4 +1,4 @@
-use Rattle.std.proofs.Common.{◌≡◌, Some, None, [], ◌∷◌, ap, sym, ◌∙◌, ◌++◌, arith, map, take, append-nil}
+use Rattle.std.proofs.Common.{◌≡◌, None, [], ◌∷◌, ap, sym, ◌∙◌, ◌++◌, arith, map, take, append-nil}
 use Rattle.std.specs.List.{filter_map}
 use Rattle.std.specs.Option.{option_map}
 use Rattle.std.proofs.lemmas.List.{map-append}

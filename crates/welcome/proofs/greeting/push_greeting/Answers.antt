@@ -1,4 +1,4 @@
-use Rattle.std.proofs.Common.{◌≡◌, [], ◌∷◌, ◌++◌, sym, ap, ◌∙◌, append-nil, codes}
+use Rattle.std.proofs.Common.{[], ◌∷◌, ◌++◌, sym, ap, ◌∙◌, append-nil, codes}
 use Rattle.std.specs.List.{flat_map}
 use Rattle.irc_line.specs.Writing.{written}
 use Rattle.welcome.specs.Burst.{from_bouncer}

@@ -1,5 +1,5 @@
-use Rattle.std.proofs.Common.{Bool, ◌≡◌, ℕ, ◌+◌, true, false, cond, List, [], ◌∷◌, ◌++◌, length, refl, sym, ap, subst, ◌∙◌, arith, codes, map}
-use Rattle.std.specs.Prelude.{nat_le, OnOk, unwrap_or}
+use Rattle.std.proofs.Common.{Bool, ◌≡◌, ◌+◌, true, false, cond, List, [], ◌∷◌, ◌++◌, length, sym, ap, subst, ◌∙◌, arith, codes, map}
+use Rattle.std.specs.Prelude.{nat_le, unwrap_or}
 use Rattle.std.specs.List.{join_with_byte}
 use Rattle.irc_line.specs.Writing.{written}
 use Rattle.irc_support.specs.Text.{Text}
@@ -10,7 +10,7 @@ use Rattle.welcome.specs.Burst.{from_bouncer, member_word}
 use Rattle.welcome.specs.Lent.{members_at}
 use Rattle.welcome.specs.Filling.{name_row}
 use Rattle.welcome.specs.Rows.{is_short}
-use Rattle.welcome.proofs.Filled.{IsFilling, Filled, fill, fill-next, filling_ends, filling_put, put}
+use Rattle.welcome.proofs.Filled.{IsFilling, fill, fill-next, filling_ends, filling_put, put}
 use Rattle.welcome.proofs.MemberPlaces.{none_there, word_there, words_all, words_before}
 use Rattle.welcome.proofs.names.push_names.Goals.{in-Some+in_ok-push_member+in_ok-push_word, then-not-has_room+in_ok-push_row, else-not-has_room, in_default}
 use Rattle.welcome.proofs.names.push_names.Goals as goal
@@ -46,8 +46,8 @@ loop-j-preserved g c =
           let next : fill is_short ([], []) (words_before v mp i (j + 1)) ≡ put is_short f word = ap (fill is_short ([], [])) (word_there v mp i j m.nick.now m.ranks shown.nick shown.ranks) ∙ fill-next is_short ([], []) words word in
           let bytes : w.push_member.new.word.items ≡ word = w.in_ok-push_member.ensures ∙ ap (λ t. t ++ word) w.clear.ensures.items in
           let has : w.has_room.result ≡ cond b (nat_le (length row + 1 + length word) 400) true =
-              w.has_room.ensures ∙ ap (λ n. cond b (nat_le (n + 1 + length w.deref.result.now) 400) true) (w.len.ensures ∙ c.loop-j.row.ok.0)
-              ∙ ap (λ t. cond b (nat_le (length row + 1 + length t) 400) true) (w.deref.ensures.value ∙ bytes) in
+          w.has_room.ensures ∙ ap (λ n. cond b (nat_le (n + 1 + length w.deref.result.now) 400) true) (w.len.ensures ∙ c.loop-j.row.ok.0)
+          ∙ ap (λ t. cond b (nat_le (length row + 1 + length t) 400) true) (w.deref.ensures.value ∙ bytes) in
           let after = w.in_ok-push_word.ensures ∙ ap (λ t. w.if-not-has_room.row.items ++ cond w.if-not-has_room.is_begun (32 ∷ t) t) (w.deref-in-Some.ensures.value ∙ bytes) in
           let put_there = filling_put line f before now w.if-not-has_room.text.items row w.if-not-has_room.row.items w.push_word.new.row.items word b w.if-not-has_room.is_begun w.has_room.result is has in
           let stays : w.has_room.result ≡ true → (w.if-not-has_room.text.items ≡ now) × (w.if-not-has_room.row.items ≡ row) × (w.if-not-has_room.is_begun ≡ b) = λ h. elim w.if-not-has_room.branch [

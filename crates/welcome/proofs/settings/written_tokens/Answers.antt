@@ -1,8 +1,7 @@
-use Rattle.std.proofs.Common.{◌≡◌, ◌+◌, Some, None, [], ◌∷◌, ◌++◌, length, map, take, refl, sym, ap, ◌∙◌, append-nil}
+use Rattle.std.proofs.Common.{Some, None, [], ◌∷◌, ◌++◌, map, take, sym, ap, ◌∙◌, append-nil}
 use Rattle.std.specs.Option.{option_map}
 use Rattle.std.proofs.lemmas.List.{map-append}
 use Rattle.irc_support.specs.Tokens.{Token}
-use Rattle.irc_support.specs.Shown.{shown_token}
 use Rattle.welcome.specs.Burst.{token_text}
 use Rattle.welcome.proofs.TokenRows.{texts_next}
 use Rattle.welcome.proofs.settings.written_tokens.Goals.{in-Some+in_ok-text+in_ok-push, in_default}
