@@ -1,7 +1,7 @@
 -- The words of a 353, each with the highest of its symbols, as its parameter 3.
-use Rattle.std.specs.Prelude.{◌≡◌, ◌≤◌, ◌<◌, ℕ, true, List, [], ◌∷◌, Option, Some, length, map, slice_get, unwrap_or, codes, if◌then◌else◌}
+use Rattle.std.specs.Prelude.{◌≡◌, ◌≤◌, ◌<◌, true, List, [], ◌∷◌, length, map, slice_get, unwrap_or, codes, if◌then◌else◌}
 use Rattle.std.specs.List.{join_with_byte}
-use Rattle.std.proofs.Common.{refl, sym, ap, ◌∙◌, arith}
+use Rattle.std.proofs.Common.{refl, ap, ◌∙◌, arith}
 use Rattle.irc_line.specs.Line.{Parts, has_command}
 use Rattle.irc_support.specs.Text.{Text}
 use Rattle.irc_support.specs.Tokens.{Token}

@@ -1,12 +1,12 @@
 -- What the image of a line is made of, and the part lines one by one.
-use Rattle.std.specs.Prelude.{◌≡◌, ◌≤◌, ℕ, zero, suc, ◌+◌, ◌&&◌, true, false, IsTrue, List, [], ◌∷◌, ◌++◌, length, map, take, slice_get, codes, if◌then◌else◌}
+use Rattle.std.specs.Prelude.{◌≡◌, ◌≤◌, ℕ, zero, suc, ◌+◌, true, false, List, [], ◌∷◌, ◌++◌, length, map, take, slice_get, codes}
 use Rattle.std.specs.Option.{option_map, option_to_list}
 use Rattle.std.specs.FinMap as fin
 use Rattle.std.proofs.Common.{Option, Some, None, refl, sym, ap, subst, ◌∙◌, arith, inl, inr, append-nil}
 use Rattle.std.proofs.lemmas.List.{take_all, take_more}
 use Rattle.std.proofs.lemmas.Option.{none-some, same_Some, slice_get_cases}
-use Rattle.irc_line.specs.Line.{Parts, is_command}
-use Rattle.irc_line.specs.Writing.{is_part, is_writable, are_params, line_of_parts}
+use Rattle.irc_line.specs.Line.{Parts}
+use Rattle.irc_line.specs.Writing.{is_writable, are_params, line_of_parts}
 use Rattle.irc_support.specs.Text.{Text}
 use Rattle.net_view.specs.Arrival.{Arrival}
 use Rattle.net_view.specs.View.{Channel, View, view_of}
@@ -16,7 +16,7 @@ use Rattle.net_view.proofs.PartsSound.{Each}
 use Rattle.net_view.proofs.SoundStep.{view_sound}
 use Rattle.net_view.proofs.WrittenViews.{views_are_clean}
 use Rattle.client_caps.specs.Caps.{Caps}
-use Rattle.client_caps.specs.Images.{as_sent, image_of, image_params, is_passed_on, part_lines_of}
+use Rattle.client_caps.specs.Images.{image_of, image_params, is_passed_on, part_lines_of}
 use Rattle.client_caps.proofs.ImageWritten.{split_written, params_written, parts_written}
 
 -- ---- the image

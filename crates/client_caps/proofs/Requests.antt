@@ -2,11 +2,11 @@
 use Rattle.std.specs.Prelude.{◌≡◌, ℕ, Bool, true, false, ◌&&◌, ◌==◌, cond, List, [], ◌∷◌, is_some}
 use Rattle.std.specs.List.{cons_option, filter_map, list_all}
 use Rattle.std.specs.Option.{option_or, unwrap_or}
-use Rattle.std.proofs.Common.{Option, Some, None, refl, sym, ap, ◌∙◌}
+use Rattle.std.proofs.Common.{Option, Some, None, refl, ap, ◌∙◌}
 use Rattle.irc_support.specs.Text.{Text}
 use Rattle.irc_support.specs.NamesReply.{words_between}
 use Rattle.net_view.specs.LookBack.{last_in}
-use Rattle.client_caps.specs.Caps.{Caps, holds, with_cap}
+use Rattle.client_caps.specs.Caps.{Caps, with_cap}
 use Rattle.client_caps.specs.Request.{caps_after, request_of, says_held, wish_of}
 
 said_before : (later : Option Bool) (here held before : Bool) → unwrap_or (option_or later (cond here (Some held) None)) before ≡ unwrap_or later (cond here held before)

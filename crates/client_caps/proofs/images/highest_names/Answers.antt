@@ -1,7 +1,5 @@
-use Rattle.std.proofs.Common.{◌≡◌, ◌++◌, ◌∷◌, [], List, false, sym, ap, ◌∙◌, map, cond, append_assoc}
+use Rattle.std.proofs.Common.{◌≡◌, ◌++◌, ◌∷◌, [], false, sym, ap, ◌∙◌, map, cond, append_assoc}
 use Rattle.std.specs.List.{join_with_byte}
-use Rattle.irc_support.specs.Text.{Text}
-use Rattle.irc_support.specs.Line.{split_words_in}
 use Rattle.irc_support.specs.Written.{highest_text, symbols_of}
 use Rattle.std.specs.Prelude.{take}
 use Rattle.client_caps.proofs.JoinedTexts.{joined_on, joined_more, joined_whole}

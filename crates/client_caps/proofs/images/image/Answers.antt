@@ -1,4 +1,4 @@
-use Rattle.std.proofs.Common.{◌≡◌, sym, ap, ◌∙◌, Some}
+use Rattle.std.proofs.Common.{sym, ap, ◌∙◌, Some}
 use Rattle.client_caps.proofs.ImageMade.{image_passed, image_withheld, image_can}
 use Rattle.client_caps.proofs.images.image.Goals as goal
 

@@ -1,9 +1,7 @@
-use Rattle.std.proofs.Common.{◌≡◌, ◌≤◌, List, sym, ap, ◌∙◌, subst, arith, length}
+use Rattle.std.proofs.Common.{◌≡◌, ◌≤◌, sym, ap, ◌∙◌, subst, arith, length}
 use Rattle.std.specs.Prelude.{IsTrue, option_map}
 use Rattle.std.specs.Result.{IfOk}
-use Rattle.irc_line.specs.Line.{Parts}
 use Rattle.irc_line.specs.Writing.{is_writable, line_of_parts}
-use Rattle.irc_support.specs.Text.{Text}
 use Rattle.client_caps.specs.Images.{names_with_highest, with_param}
 use Rattle.client_caps.proofs.HighestNames.{highest_in, put_at_3}
 use Rattle.client_caps.proofs.images.listed.Goals as goal

@@ -1,4 +1,4 @@
-use Rattle.std.proofs.Common.{◌≡◌, ◌≤◌, ◌∙◌, arith}
+use Rattle.std.proofs.Common.{◌≤◌, ◌∙◌, arith}
 use Rattle.net_view.specs.Readers.{channels_shown}
 use Rattle.client_caps.proofs.ImageMade.{parts_more, parts_all}
 use Rattle.client_caps.proofs.images.part_lines.Goals as goal

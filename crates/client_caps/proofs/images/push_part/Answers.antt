@@ -1,7 +1,7 @@
-use Rattle.std.proofs.Common.{◌≡◌, ◌∷◌, [], ◌++◌, Option, Some, None, refl, sym, ap, subst, ◌∙◌, append-nil}
-use Rattle.std.specs.Prelude.{IsTrue, codes}
-use Rattle.std.specs.Option.{option_map, option_to_list}
-use Rattle.irc_line.specs.Writing.{is_writable, line_of_parts}
+use Rattle.std.proofs.Common.{◌∷◌, [], ◌++◌, Some, None, sym, ap, subst, ◌∙◌, append-nil}
+use Rattle.std.specs.Prelude.{IsTrue}
+use Rattle.std.specs.Option.{option_to_list}
+use Rattle.irc_line.specs.Writing.{is_writable}
 use Rattle.client_caps.proofs.ImageMade.{part_at, part_can, part_of}
 use Rattle.client_caps.proofs.images.push_part.Goals as goal
 
