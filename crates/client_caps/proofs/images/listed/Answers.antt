@@ -11,13 +11,24 @@ relisted-requires g c =
     let settings = (g.V.NetworkView.view c.args.view.now).settings in
     let line = c.args.line.now in
     let four : 4 ≤ length line.params = omega arith in
-    let put = ap (λ t. with_param 3 (λ _. t) line.params) (c.deref.ensures.value ∙ c.in_ok-names.ensures ∙ highest_in settings line c.requires.names) ∙ put_at_3 (names_with_highest settings) line.params four in
-    subst (λ ps. IsTrue (is_writable (line_of_parts (option_map (λ t. t.now) c.args.tags) line.source line.command ps))) (sym put) c.requires.written
+    let put =
+    ap (λ t. with_param 3 (λ _. t) line.params) (c.deref.ensures.value ∙ c.in_ok-names.ensures
+    ∙ highest_in settings line c.requires.names)
+    ∙ put_at_3 (names_with_highest settings) line.params four in
+    subst (λ ps. IsTrue
+    (is_writable
+    (line_of_parts (option_map (λ t. t.now) c.args.tags) line.source line.command ps)))
+    (sym put) c.requires.written
 
 pub returns : goal.returns
 returns g c =
     let settings = (g.V.NetworkView.view c.args.view.now).settings in
     let line = c.args.line.now in
     let four : 4 ≤ length line.params = omega arith in
-    let put = ap (λ t. with_param 3 (λ _. t) line.params) (c.deref.ensures.value ∙ c.in_ok-names.ensures ∙ highest_in settings line c.requires.names) ∙ put_at_3 (names_with_highest settings) line.params four in
-    subst (λ ps. IfOk c.relisted.result (λ image. image ≡ line_of_parts (option_map (λ t. t.now) c.args.tags) line.source line.command ps)) put c.relisted.ensures
+    let put =
+    ap (λ t. with_param 3 (λ _. t) line.params) (c.deref.ensures.value ∙ c.in_ok-names.ensures
+    ∙ highest_in settings line c.requires.names)
+    ∙ put_at_3 (names_with_highest settings) line.params four in
+    subst (λ ps. IfOk c.relisted.result (λ image. image
+    ≡ line_of_parts (option_map (λ t. t.now) c.args.tags) line.source line.command ps)) put
+    c.relisted.ensures

@@ -12,5 +12,6 @@ loop-place-preserved g c =
 pub returns : goal.returns
 returns g c =
     let v = g.V.NetworkView.view c.args.view.now in
-    let past : channels_shown v ≤ c.loop-place.place = omega (arith, c.channel_count-place-end.ensures, c.loop-place-test.false) in
+    let past : channels_shown v ≤ c.loop-place.place =
+    omega (arith, c.channel_count-place-end.ensures, c.loop-place-test.false) in
     c.loop-place.invariant ∙ parts_all v c.loop-place.place past
