@@ -10,6 +10,6 @@ pub mod LastIn
 pub mod NameWords
 pub mod LetterSettings
 pub mod LetterLine
-pub mod HeldRanks
+pub mod GatheredRanks
 pub mod Counted
 pub mod Readers

@@ -3,7 +3,7 @@ use Rattle.std.specs.Prelude.{◌==◌, ◌||◌}
 use Rattle.irc_support.specs.Ranks.{ranks_that, has_rank}
 use Rattle.tape_view.specs.Tape.{key}
 use Rattle.net_view.specs.Members.{rank_decided}
-use Rattle.tape_view.proofs.HeldRanks.{below, none_below, all_below, rank_put, rank_left}
+use Rattle.tape_view.proofs.GatheredRanks.{below, none_below, all_below, rank_put, rank_left}
 use Rattle.tape_view.proofs.tape.Tape.ranks.Goals as goal
 use Rattle.tape_view.proofs.tape.Tape.ranks.Goals.{then-has_rank, else-has_rank}
 
