@@ -26,6 +26,7 @@ pub mod AfterOwnPart
 pub mod AfterFacts
 pub mod AfterModes
 pub mod AfterQuit
+pub mod AfterOwnJoin
 pub mod TokensWritten
 pub mod WrittenViews
 pub mod FormSound
