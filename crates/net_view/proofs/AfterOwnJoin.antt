@@ -11,10 +11,9 @@ use Rattle.net_view.specs.Names.{same, bytes_cmp, Name}
 use Rattle.net_view.specs.Told.{Told, Joined}
 use Rattle.net_view.specs.Transcript.{is_us}
 use Rattle.net_view.specs.Presence.{begins}
-use Rattle.net_view.specs.Modes.{said_of_mode}
 use Rattle.net_view.specs.Members.{said_of_member, said_of_rank}
 use Rattle.net_view.specs.View.{Channel, Person, View}
-use Rattle.net_view.specs.Step.{standing_of, old_member, had_rank, channel_from, channel_after, after_told, channels_after, people_after, is_seen}
+use Rattle.net_view.specs.Step.{standing_of, old_member, had_rank, channel_from, channel_after, after_told, people_after, is_seen}
 use Rattle.net_view.specs.Changes.{fresh_channel, told_person}
 use Rattle.net_view.proofs.Tests.{cond_and_false}
 use Rattle.net_view.proofs.Keys.{bytes_exact, is_same, same_refl}
@@ -57,9 +56,9 @@ module _ (v : View) (sets : HasSets v) (known : IsKnowing v) (channel who : Name
       (ap (λ o. unwrap_or (cond (is_some o) (Some (let n : Option Text = None in n)) None) (option_and_then (λ (ch : Channel). ch.topic) old)) begun)
       (λ letter. ap (λ o. unwrap_or (cond (is_some o) (Some (let n : Option (Option Text) = None in n)) None) (option_and_then (λ (ch : Channel). fin.get ch.modes letter) old)) begun ∙ sym (fin.get-empty nat_cmp letter))
       (λ n. let before = option_and_then (λ (ch : Channel). fin.get ch.members n) old in
-          ap (λ o. cond (unwrap_or (cond (is_some o) (Some (same n who.key)) (said_of_member channel.key us t n)) (is_some before)) (Some (ranks_that (λ rank. unwrap_or (cond (is_some o) (Some false) (said_of_rank channel.key rank us t n)) (had_rank rank before)))) None) begun
-          ∙ ap (λ r. cond (same n who.key) (Some r) None) no_ranks
-          ∙ sym (fin.get-insert nat_list_cmp_total fin.empty who.key [] n ∙ ap (cond (same n who.key) (Some (let r : List ℕ = [] in r))) (fin.get-empty bytes_cmp n))))
+      ap (λ o. cond (unwrap_or (cond (is_some o) (Some (same n who.key)) (said_of_member channel.key us t n)) (is_some before)) (Some (ranks_that (λ rank. unwrap_or (cond (is_some o) (Some false) (said_of_rank channel.key rank us t n)) (had_rank rank before)))) None) begun
+      ∙ ap (λ r. cond (same n who.key) (Some r) None) no_ranks
+      ∙ sym (fin.get-insert nat_list_cmp_total fin.empty who.key [] n ∙ ap (cond (same n who.key) (Some (let r : List ℕ = [] in r))) (fin.get-empty bytes_cmp n))))
 
   abbrev new : fin.FinMap bytes_cmp Channel
   new = fin.insert v.channels channel.key is

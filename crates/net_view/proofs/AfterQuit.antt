@@ -1,17 +1,16 @@
 -- The view after another's QUIT: the person goes from all channels.
-use Rattle.std.specs.Prelude.{◌≡◌, ℕ, Bool, true, false, cond, List, is_some}
+use Rattle.std.specs.Prelude.{◌≡◌, Bool, true, false, cond, is_some}
 use Rattle.std.specs.Option.{option_and_then, option_map, unwrap_or}
 use Rattle.std.specs.Cmp.Lexicographic.{nat_list_cmp_total}
 use Rattle.std.specs.FinMap as fin
 use Rattle.std.proofs.Common.{Option, Some, None, refl, sym, ap, ◌∙◌}
 use Rattle.irc_support.specs.Text.{Text}
-use Rattle.irc_support.specs.Ranks.{ranks_that}
 use Rattle.net_view.specs.Names.{same, bytes_cmp}
-use Rattle.net_view.specs.Told.{Told, Quits}
+use Rattle.net_view.specs.Told.{Quits}
 use Rattle.net_view.specs.Transcript.{is_us}
 use Rattle.net_view.specs.Table.{same_arms}
 use Rattle.net_view.specs.View.{Channel, Person, View}
-use Rattle.net_view.specs.Step.{standing_of, old_member, had_rank, member_from, member_after, channel_from, channel_after, after_told, channels_after, people_after, is_seen}
+use Rattle.net_view.specs.Step.{standing_of, old_member, member_from, member_after, channel_from, channel_after, after_told, channels_after, people_after, is_seen}
 use Rattle.net_view.specs.Changes.{without_member}
 use Rattle.net_view.proofs.Tests.{no_true, both_or_neither}
 use Rattle.net_view.proofs.AfterMaps.{seen_in, seen_somewhere}

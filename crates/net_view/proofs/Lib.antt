@@ -27,6 +27,7 @@ pub mod AfterFacts
 pub mod AfterModes
 pub mod AfterQuit
 pub mod AfterOwnJoin
+pub mod AfterPresent
 pub mod TokensWritten
 pub mod WrittenViews
 pub mod FormSound
