@@ -1,7 +1,7 @@
 -- Texts joined one by one.
 use Rattle.std.specs.Prelude.{◌≡◌, ℕ, Bool, true, false, cond, List, [], ◌∷◌, ◌++◌}
 use Rattle.std.specs.List.{join_with_byte}
-use Rattle.std.proofs.Common.{refl, sym, ap, ◌∙◌, append_assoc, append-nil}
+use Rattle.std.proofs.Common.{refl, sym, ◌∙◌, append_assoc, append-nil}
 use Rattle.irc_support.specs.Text.{Text}
 
 -- a text so far, and the texts behind it; the first is joined with no byte before it
@@ -10,14 +10,19 @@ joined_on b true so_far texts = so_far ++ join_with_byte b texts
 joined_on b false so_far [] = so_far
 joined_on b false so_far (t ∷ ts) = so_far ++ b ∷ join_with_byte b (t ∷ ts)
 
-first_on : (b : ℕ) (so_far t : Text) (ts : List Text) → so_far ++ join_with_byte b (t ∷ ts) ≡ joined_on b false (so_far ++ t) ts
+first_on : (b : ℕ) (so_far t : Text) (ts : List Text)
+    → so_far ++ join_with_byte b (t ∷ ts) ≡ joined_on b false (so_far ++ t) ts
 first_on b so_far t [] = refl
 first_on b so_far t (u ∷ us) = sym (append_assoc so_far t (b ∷ join_with_byte b (u ∷ us)))
 
 -- one more
-pub joined_more : (b : ℕ) (first : Bool) (so_far t : Text) (ts : List Text) → joined_on b first so_far (t ∷ ts) ≡ joined_on b false (cond first so_far (so_far ++ b ∷ []) ++ t) ts
+pub joined_more : (b : ℕ) (first : Bool) (so_far t : Text) (ts : List Text)
+    → joined_on b first so_far (t ∷ ts)
+    ≡ joined_on b false (cond first so_far (so_far ++ b ∷ []) ++ t) ts
 joined_more b true so_far t ts = first_on b so_far t ts
-joined_more b false so_far t ts = sym (append_assoc so_far (b ∷ []) (join_with_byte b (t ∷ ts))) ∙ first_on b (so_far ++ b ∷ []) t ts
+joined_more b false so_far t ts =
+    sym (append_assoc so_far (b ∷ []) (join_with_byte b (t ∷ ts)))
+    ∙ first_on b (so_far ++ b ∷ []) t ts
 
 -- none left
 pub joined_whole : (b : ℕ) (first : Bool) (so_far : Text) → joined_on b first so_far [] ≡ so_far

@@ -1,5 +1,5 @@
--- What a client asks for by CAP REQ (IRCv3 capability negotiation): words with spaces between, each the name of
--- a capability, with a minus before it where the client gives it up.
+-- What a client asks for by CAP REQ (IRCv3 capability negotiation): words with spaces between, each
+-- the name of a capability, with a minus before it where the client gives it up.
 use Rattle.std.specs.Prelude.{ℕ, Bool, true, false, ◌==◌, List, [], ◌∷◌, is_some, position, cond, if◌then◌else◌}
 use Rattle.std.specs.List.{list_all, filter_map}
 use Rattle.std.specs.Option.{option_map, unwrap_or}
@@ -17,7 +17,9 @@ cap_place name = position (λ cap. bytes_eq name cap) cap_names
 -- what a word asks for: which capability, and whether it is to be held
 abbrev pub wish_of : Text → Option (ℕ × Bool)
 wish_of [] = None
-wish_of (b ∷ name) = if b == 45 then option_map (λ place. (place, false)) (cap_place name) else option_map (λ place. (place, true)) (cap_place (b ∷ name))
+wish_of (b ∷ name) =
+    if b == 45 then option_map (λ place. (place, false)) (cap_place name) else option_map
+    (λ place. (place, true)) (cap_place (b ∷ name))
 
 -- what a wish says of the capability at this place
 abbrev pub says_held : ℕ → ℕ × Bool → Option Bool
@@ -25,8 +27,12 @@ says_held place wish = cond (wish.0 == place) (Some wish.1) None
 
 -- the capabilities after these wishes: each is held as the last wish for it says, else as before
 abbrev pub caps_after : Caps → List (ℕ × Bool) → Caps
-caps_after caps wishes = caps_that (λ place. unwrap_or (last_in (says_held place) wishes) (holds caps place))
+caps_after caps wishes =
+    caps_that (λ place. unwrap_or (last_in (says_held place) wishes) (holds caps place))
 
--- the capabilities after a request, which is taken whole; none where a word asks for nothing that is known
+-- the capabilities after a request, which is taken whole; none where a word asks for nothing that
+-- is known
 unfoldable pub request_of : Caps → Text → Option Caps
-request_of caps text = if list_all (λ word. is_some (wish_of word)) (words_between text) then Some (caps_after caps (filter_map wish_of (words_between text))) else None
+request_of caps text =
+    if list_all (λ word. is_some (wish_of word)) (words_between text) then Some
+    (caps_after caps (filter_map wish_of (words_between text))) else None

@@ -3,8 +3,8 @@
 ghost use Rattle.std.specs.Prelude.{◌≡◌, option_map, slice_get, is_some};
 ghost use Rattle.client_caps.specs.Caps.{cap_names, holds, no_caps, with_cap};
 
-/// Which capabilities a client holds (IRCv3 capability negotiation). The six have places from 0 to 5, in
-/// the order in which they are offered.
+/// Which capabilities a client holds (IRCv3 capability negotiation). The six have places from 0 to
+/// 5, in the order in which they are offered.
 #[derive(Clone, Copy, Debug, PartialEq, Eq)]
 pub struct Caps {
     /// All symbols of a member in a name list, and not the highest alone (IRCv3 multi-prefix).

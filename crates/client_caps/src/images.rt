@@ -45,7 +45,8 @@ fn is_passed_on<A: Allocator>(caps: Caps, line: &Line<A>) -> bool
         || !caps.away_notify && command.eq_ignore_ascii_case(b"AWAY"))
 }
 
-/// The account that a JOIN is shown with: the one that it names, else the one known before it, else `*`.
+/// The account that a JOIN is shown with: the one that it names, else the one known before it, else
+/// `*`.
 fn account_joined<'a, V: NetworkView, A: Allocator>(view: &'a V, line: &'a Line<A>) -> &'a [u8]
     ensures { result.now ≡ account_joined (V.view view.now) line.now }
 {
@@ -97,7 +98,8 @@ fn highest_names<V: NetworkView, A: Allocator, B: Allocator>(
     line: &Line<A>,
 ) -> Result<Vec<u8, B>, OutOfMemory>
     ensures { IfOk result (λ names. names.items ≡ join_with_byte 32 (map
-        (highest_text (V.view view.now).settings) (split_words_in (V.view view.now).settings line.now))) }
+        (highest_text (V.view view.now).settings)
+        (split_words_in (V.view view.now).settings line.now))) }
 {
     let support = view.support();
     let mut names = Vec::new(alloc);
@@ -243,8 +245,9 @@ fn sent_as<V: NetworkView, A: Allocator, B: Allocator + Copy + Drop>(
     line.copy_tagged_in(alloc, tags)
 }
 
-/// What a client with these capabilities is sent in place of a line; `None` where it is sent nothing.
-/// The view is the one before the line; the moment is when the line came. So far without server-time.
+/// What a client with these capabilities is sent in place of a line; `None` where it is sent
+/// nothing. The view is the one before the line; the moment is when the line came. So far without
+/// server-time.
 ///
 /// | line | what is sent |
 /// |---|---|
@@ -256,8 +259,8 @@ fn sent_as<V: NetworkView, A: Allocator, B: Allocator + Copy + Drop>(
 /// | any other | the line |
 ///
 /// Tags of the network go (IRCv3 multi-prefix, extended-join, account-notify, away-notify). A line
-/// that is sent as it is takes one allocation. `OutOfMemory` is told where an allocation was refused,
-/// and for no other cause.
+/// that is sent as it is takes one allocation. `OutOfMemory` is told where an allocation was
+/// refused, and for no other cause.
 pub fn image<V: NetworkView, A: Allocator, B: Allocator + Copy + Drop>(
     alloc: B,
     view: &V,

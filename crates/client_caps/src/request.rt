@@ -39,10 +39,11 @@ fn wish_of(word: &[u8]) -> Option<(usize, bool)>
     }
 }
 
-/// The capabilities that a client holds after a request, the text of `CAP REQ :multi-prefix -batch`: words
-/// with spaces between, each the name of a capability, with `-` before it where the client gives it up. A
-/// later word overrides an earlier one, and an empty request changes nothing. `None` where a word is no name
-/// of the six: a request is taken whole or not at all (IRCv3 capability negotiation).
+/// The capabilities that a client holds after a request, the text of `CAP REQ :multi-prefix
+/// -batch`: words with spaces between, each the name of a capability, with `-` before it where the
+/// client gives it up. A later word overrides an earlier one, and an empty request changes nothing.
+/// `None` where a word is no name of the six: a request is taken whole or not at all (IRCv3
+/// capability negotiation).
 pub fn read_request(caps: Caps, text: &[u8]) -> Option<Caps>
     ensures { result ≡ request_of caps text.now }
 {

@@ -15,7 +15,6 @@ use Rattle.tape_view.specs.Places.{names_in}
 use Rattle.tape_view.specs.NameCount.{name_count, IsCounted}
 use Rattle.tape_view.proofs.TapeLast.{tape_push}
 use Rattle.irc_line.specs.Line.{Parts}
-use Rattle.net_view.specs.Names.{same}
 
 readings_line : (b : Bool) (l : Parts) (older : List Arrival) → readings_of (with_lost b (Received l ∷ older)) ≡
     cond b (record { before = standing (Received l ∷ older); told = Disconnected } ∷ record { before = standing older; told = told (settings_of older) (Received l) } ∷ readings_of older) (record { before = standing older; told = told (settings_of older) (Received l) } ∷ readings_of older)
@@ -77,9 +76,3 @@ pub counted_so : {E : Type 0} (e : E) (o : Option ℕ) (sum new : ℕ) → SomeI
 unfolding ok_value
 counted_so e None sum new h is = cc
 counted_so e (Some n) sum new h is = let same_sum = ap ok_value is ∙ h.1 in (same_sum, subst (λ k. k < 2 ^ 64) (sym same_sum) (h.0))
-
-pub few_counted : {A : Type 0} (table : Table) (ks ls : List (Kept A)) (count : ℕ) → ls ≡ ks → IsCounted ks count → length (named (names_in table) (readings_of (tape_of ls))) < 2 ^ 64
-few_counted table ks ls count same counted =
-    let few = counted.enough table in
-    let small = counted.small in
-    subst (λ l. length (named (names_in table) (readings_of (tape_of l))) < 2 ^ 64) (sym same) (omega (arith, few, small))

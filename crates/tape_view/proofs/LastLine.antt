@@ -1,5 +1,5 @@
 -- The last line of a tape, asked in place of the tape.
-use Rattle.std.specs.Prelude.{◌≡◌, Bool, true, false, cond, is_some, List}
+use Rattle.std.specs.Prelude.{◌≡◌, Bool, true, false, List}
 use Rattle.std.specs.Option.{option_and_then, option_map, option_or, unwrap_or}
 use Rattle.std.proofs.Common.{Option, Some, None, Bor, refl, sym, ap, ◌∙◌, subst}
 use Rattle.irc_support.specs.Text.{Text}
@@ -8,23 +8,18 @@ use Rattle.irc_support.specs.Settings.{key_by}
 use Rattle.net_view.specs.Told.{Told}
 use Rattle.net_view.specs.Transcript.{Reading, ours}
 use Rattle.net_view.specs.LookBack.{last, last_of, name_before}
-use Rattle.net_view.specs.Presence.{anew_or, begins, is_on}
+use Rattle.net_view.specs.Presence.{begins, is_on}
 use Rattle.net_view.specs.Members.{says_member}
-use Rattle.net_view.proofs.Tests.{unwrap_or_or, none_of_is_some}
+use Rattle.net_view.proofs.Tests.{unwrap_or_or}
 use Rattle.tape_view.specs.declared.tape.Said.{Said}
 use Rattle.tape_view.specs.Tape.{Heard, key, key_there, meaning, meaning_in, IsBy, IsLast}
 use Rattle.tape_view.specs.Marks.{IsMarked}
 use Rattle.net_view.specs.Tells.{meant}
-use Rattle.tape_view.proofs.InSight.{stays_on}
+use Rattle.tape_view.proofs.Stays.{stays_on}
 
 -- what was said last of a person's being a member
 abbrev pub was_made : List Reading → Text → Text → Bool
 was_made rs c n = unwrap_or (last_of (says_member c) rs n) false
-
--- what says nothing of a matter that our own JOIN begins anew is no such JOIN
-pub silent_anew : {A : Type 0} (c : Text) (us : Text → Bool) (t : Told) (fresh : A) (said : Option A) → anew_or c us t fresh said ≡ None → begins us t c ≡ None
-silent_anew c us t fresh said e =
-    none_of_is_some (begins us t c) (elim (is_some (begins us t c)) as (λ b. cond b (Some fresh) said ≡ None → b ≡ false) [ true ↦ λ q. cc | false ↦ λ q. refl ] e)
 
 module _ {A : Type 0} {tape older : Heard} {said : Said A} (line : IsLast tape said older) where
   -- what is read off the line is what its reading says

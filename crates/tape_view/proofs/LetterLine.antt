@@ -1,5 +1,5 @@
 -- The letters of a channel's modes by place: those that are on, found among what the lines list.
-use Rattle.std.specs.Prelude.{◌≡◌, ℕ, Bool, true, false, cond, not, List, is_some, ◌+◌, ◌≤◌, ◌&&◌, ◌||◌, [], ◌∷◌, map}
+use Rattle.std.specs.Prelude.{◌≡◌, ℕ, Bool, true, false, cond, not, List, is_some, ◌+◌, ◌≤◌, ◌||◌, [], ◌∷◌, map}
 use Rattle.std.specs.List.{list_any, cons_option, filter_map}
 use Rattle.std.specs.Option.{unwrap_or, option_map, option_or}
 use Rattle.std.specs.Ordering.{nat_cmp, eq_by_cmp}
@@ -17,7 +17,7 @@ use Rattle.net_view.specs.Presence.{begins, ends, says_on, is_on}
 use Rattle.net_view.specs.Modes.{said_of_mode, says_mode, mode_of}
 use Rattle.net_view.specs.Named.{letters_in}
 use Rattle.net_view.specs.Tells.{meant}
-use Rattle.net_view.specs.Least.{considered_by, better_by, IsNextBy}
+use Rattle.net_view.specs.Least.{considered_by, IsNextBy}
 use Rattle.net_view.proofs.Tests.{no_true, none_of_is_some, not_false, unwrap_or_or, or_right}
 use Rattle.net_view.proofs.Covers.{says_mode_none}
 use Rattle.tape_view.specs.declared.tape.Said.{Said}
@@ -52,32 +52,6 @@ kept_listed settings letter (x ∷ xs) h =
       | None ↦ λ e. or_right (p x.letter) (list_any p (letters xs)) (kept_listed settings letter xs e)
       | Some s ↦ λ e. in_one_more (p x.letter) (list_any p kept) (list_any p (letters xs)) (kept_listed settings letter xs) e
     ] h
-
--- the best so far, before the changes that are left
-pub best_step : (there : ℕ → Bool) (after best new whole : Option ℕ) (before left : List ChangeParts) (x : ChangeParts) →
-    whole ≡ considered_by nat_cmp there after best (letters before) → before ≡ x ∷ left → better_by nat_cmp there after best x.letter ≡ new → whole ≡ considered_by nat_cmp there after new (letters left)
-best_step there after best new whole before left x h e f =
-    h ∙ ap (λ xs. considered_by nat_cmp there after best (letters xs)) e
-    ∙ ap (λ b. considered_by nat_cmp there after b (letters left)) f
-
--- where all three tests are met
-pub all_met : {X : Type 0} (a b c : Bool) (x y : X) → a ≡ true → b ≡ true → c ≡ true → cond (a && b && c) x y ≡ x
-all_met true true c x y d e f = ap (λ v. cond v x y) f
-all_met true false c x y d e f = absurd (no_true e)
-all_met false b c x y d e f = absurd (no_true d)
-
--- where one is not
-pub first_unmet : {X : Type 0} (a b c : Bool) (x y : X) → a ≡ false → cond (a && b && c) x y ≡ y
-first_unmet a b c x y e = ap (λ v. cond (v && b && c) x y) e
-
-pub second_unmet : {X : Type 0} (a b c : Bool) (x y : X) → b ≡ false → cond (a && b && c) x y ≡ y
-second_unmet true b c x y e = ap (λ v. cond (v && c) x y) e
-second_unmet false b c x y e = refl
-
-pub third_unmet : {X : Type 0} (a b c : Bool) (x y : X) → c ≡ false → cond (a && b && c) x y ≡ y
-third_unmet true true c x y e = ap (λ v. cond v x y) e
-third_unmet true false c x y e = refl
-third_unmet false b c x y e = refl
 
 begun_if_said : (off : Bool) (begun : Option Text) (older : Option (Option Text)) → is_some (unwrap_or (option_or (cond off (Some None) (option_map Some begun)) older) None) ≡ true →
     is_some (cond off (Some None) (option_map Some begun)) ≡ true → is_some begun ≡ true

@@ -4,7 +4,7 @@ pub mod LastLine
 pub mod NextKey
 pub mod TableLine
 pub mod TablePlaces
-pub mod InSight
+pub mod Stays
 pub mod SightLine
 pub mod LastIn
 pub mod NameWords

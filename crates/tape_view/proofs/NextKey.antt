@@ -43,9 +43,6 @@ fewer there seen others after best h old = record { found = old.found; least = �
 pub next_all : {K : Type 0} {R : K → K → Ordering} (there older : K → Bool) (after best : Option K) → ((c : K) → older c ≡ false) → IsNextOf R there (λ c. not (older c)) after best → IsNextBy R there after best
 next_all there older after best none h = record { found = h.found; least = λ c. h.least c (ap not (none c)) }
 
-pub next_none : {K : Type 0} {R : K → K → Ordering} (there : K → Bool) (after : Option K) → IsNextOf R there (λ c. not (there c)) after None
-next_none there after = record { found = tt; least = λ c gone on_c ab. absurd (no_true (sym (not_true (there c) gone) ∙ on_c)) }
-
 module _ {K : Type 0} {R : K → K → Ordering} (o : IsTotalOrder R) (exact : fin.IsAntisymmetric R) (there : K → Bool) where
   next_same : (seen : K → Bool) (after best : Option K) (c : K) → IsNextOf R there seen after best → (there c ≡ true → above_by R after c ≡ true → MatchOption best ⊥ (λ b. is_lt (R c b) ≡ false)) → IsNextOf R there (λ q. eq_by_cmp R q c || seen q) after best
   next_same seen after best c old here = record {

@@ -43,10 +43,6 @@ named_so : (rs : List Reading) (k : Text) (o : Option Text) (ch : Channel) → o
 named_so rs k None ch e = absurd (none-some ch e)
 named_so rs k (Some name) ch e = (name, refl, sym (same_Some (channel_named rs k name) ch e))
 
-pub none_shown : (items : List Arrival) (tape : Heard) (i : ℕ) → tape ≡ heard items → None ≡ key_at tape Channels i → channel_shown (view_back items) i ≡ None
-none_shown items tape i is e =
-    ap (option_map (λ (x : Text × Channel). x.1)) (none_mapped (λ (x : Text × Channel). x.0) (slice_get (fin.entries (channels_of (readings_of items))) i) (e ∙ ap (λ t. key_at t Channels i) is))
-
 pub shown : (items : List Arrival) (tape : Heard) (i : ℕ) (k : Text) → tape ≡ heard items → Some k ≡ key_at tape Channels i → IsShown items tape i k
 shown items tape i k is e = subst (λ t. IsShown items t i k) (sym is) here where
   here : IsShown items (heard items) i k

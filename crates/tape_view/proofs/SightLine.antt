@@ -22,7 +22,7 @@ use Rattle.tape_view.specs.declared.tape.Said.{Said}
 use Rattle.tape_view.specs.FactKinds.{joined_to}
 use Rattle.tape_view.specs.Marks.{IsMarked}
 use Rattle.tape_view.specs.Tape.{Heard, key, key_there, meaning, meaning_in, IsBy, IsLast}
-use Rattle.tape_view.proofs.InSight.{stays_on, was_in_sight}
+use Rattle.tape_view.proofs.Stays.{stays_on, was_in_sight}
 use Rattle.tape_view.proofs.LastLine.{said_here, said_in, before_line}
 
 -- each channel that has the person is one that we are on after the rest
@@ -108,4 +108,4 @@ module _ {A : Type 0} {tape older : Heard} {said : Said A} (line : IsLast tape s
       let before = sym (said_here line (λ s us t. name_before us t (key_by s nick)) (Some (key_there said name.now)) named) in
       ap (λ s. in_sight older.readings (key_by s name.now)) (line.same_settings ∙ sym line.settings)
       ∙ ap (in_sight older.readings) (unspelled_keeps_name (ours x) (is_on tape.readings) x.told n (key_there said name.now) silent before)
-      ∙ (was_in_sight x older.readings n (subst (λ rs. says_spelling (ours x) (is_on rs) x.told n ≡ None) line.whole silent) (subst (λ rs. in_sight rs n ≡ true) line.whole seen)).seen
+      ∙ was_in_sight x older.readings n (subst (λ rs. says_spelling (ours x) (is_on rs) x.told n ≡ None) line.whole silent) (subst (λ rs. in_sight rs n ≡ true) line.whole seen)

@@ -1,22 +1,22 @@
 -- The least of a table above a key, found among what the lines of a tape bring up.
 use Rattle.std.specs.Prelude.{◌≡◌, Bool, true, false, not, ◌&&◌, List, ◌∷◌}
 use Rattle.std.specs.List.{list_any}
-use Rattle.std.specs.Option.{option_and_then, unwrap_or}
+use Rattle.std.specs.Option.{unwrap_or}
 use Rattle.std.specs.Cmp.Lexicographic.{nat_list_cmp_total}
-use Rattle.std.proofs.Common.{Option, Some, refl, sym, ap, ◌∙◌, subst, ⊎_elim}
+use Rattle.std.proofs.Common.{Option, refl, sym, ap, ◌∙◌, subst, ⊎_elim}
 use Rattle.std.proofs.lemmas.Option.{none-some, same_Some}
 use Rattle.irc_support.specs.Text.{Text}
 use Rattle.irc_support.specs.Tokens.{Token}
 use Rattle.irc_support.specs.Settings.{key_by}
 use Rattle.net_view.specs.Names.{same, bytes_cmp}
 use Rattle.net_view.specs.Transcript.{Reading, ours}
-use Rattle.net_view.specs.LookBack.{last_of, name_before}
+use Rattle.net_view.specs.LookBack.{last_of}
 use Rattle.net_view.specs.Presence.{is_on}
 use Rattle.net_view.specs.Members.{is_member, says_member}
 use Rattle.net_view.specs.Named.{channels_in, people_in}
 use Rattle.net_view.specs.Tells.{meant}
 use Rattle.net_view.specs.Least.{considered}
-use Rattle.net_view.proofs.Tests.{no_true, and_parts}
+use Rattle.net_view.proofs.Tests.{no_true}
 use Rattle.net_view.proofs.Keys.{bytes_exact}
 use Rattle.net_view.proofs.Covers.{begins_none, says_member_none, name_stays}
 use Rattle.tape_view.specs.declared.tape.Said.{Said}
@@ -24,7 +24,7 @@ use Rattle.tape_view.specs.declared.places.Table.{Table}
 use Rattle.tape_view.specs.declared.places.Table.TheVariants.{Channels, Members}
 use Rattle.tape_view.specs.Places.{names_in, is_there}
 use Rattle.tape_view.specs.Tape.{Heard, key, IsLast}
-use Rattle.tape_view.proofs.InSight.{stays_on, silent_begins_nothing, said_or_before, traced}
+use Rattle.tape_view.proofs.Stays.{stays_on, stays_member}
 use Rattle.tape_view.proofs.NextKey.{IsNextOf, next_named}
 
 begun_channel : (x : Reading) (older : List Reading) (c : Text) → is_on (x ∷ older) c ≡ true → is_on older c ≡ false → list_any (same c) (channels_in x.told) ≡ true
@@ -35,15 +35,10 @@ begun_channel x older c on off =
     ] refl
 
 unnamed_member : (x : Reading) (older : List Reading) (c n : Text) → list_any (same n) (people_in x.told) ≡ false → is_member (x ∷ older) c n ≡ true → is_member older c n ≡ true
-unnamed_member x older c n unnamed h =
-    let us = ours x in
-    let t = x.told in
-    let parts = and_parts (is_on (x ∷ older) c) (unwrap_or (last_of (says_member c) (x ∷ older) n) false) h in
-    let rest = said_or_before (says_member c us t n) (option_and_then (last_of (says_member c) older) (name_before us t n)) (λ e. no_true (sym (says_member_none c us t n unnamed) ∙ e)) (parts.1) in
-    let same_name : (m : Text) → name_before us t n ≡ Some m → m ≡ n = λ m e. ⊎_elim (λ none. absurd (none-some m (sym none ∙ e))) (λ some. sym (same_Some n m (sym some ∙ e))) (name_stays us t n unnamed) in
-    let before = traced (last_of (says_member c) older) (name_before us t n) n same_name (rest.1) in
-    let on = stays_on x older c (silent_begins_nothing c us t n (rest.0)) (parts.0) in
-    ap (λ b. b && unwrap_or (last_of (says_member c) older n) false) on ∙ before.1
+unnamed_member x older c n unnamed =
+    stays_member x older c n
+    (λ e. no_true (sym (says_member_none c (ours x) x.told n unnamed) ∙ e))
+    (λ m e. ⊎_elim (λ none. absurd (none-some m (sym none ∙ e))) (λ some. sym (same_Some n m (sym some ∙ e))) (name_stays (ours x) x.told n unnamed))
 
 made_member : (x : Reading) (older : List Reading) (c n : Text) → is_member (x ∷ older) c n ≡ true → is_member older c n ≡ false → list_any (same n) (people_in x.told) ≡ true
 made_member x older c n here gone =

@@ -20,7 +20,7 @@ use Rattle.net_view.specs.Transcript.{Standing, standing, own_nick, is_us, is_re
 use Rattle.net_view.specs.Tells.{meant}
 use Rattle.tape_view.specs.Marks.{us_of, IsMarked}
 use Rattle.tape_view.specs.Kept.{with_lost, tape_of, AreMarked, IsMarkedLine, IsMarkedTape}
-use Rattle.net_view.proofs.StepLaw.{view_step, view_back_step}
+use Rattle.net_view.proofs.StepLaw.{view_back_step}
 use Rattle.net_view.specs.Table.{table}
 use Rattle.net_view.specs.Told.{Disconnected}
 use Rattle.net_view.specs.StateLines.{told}
@@ -30,16 +30,6 @@ use Rattle.tape_view.specs.Whole.{IsWhole}
 use Rattle.tape_view.specs.NameCount.{name_count, IsCounted}
 use Rattle.tape_view.proofs.TapeLast.{split_last, tape_push, marked_split}
 use Rattle.net_view.proofs.Emptied.{view_lost, emptied}
-
-pub line_taken : {A : Type 0} (items : List Arrival) (ks ls : List (Kept A)) (k : Kept A) (l : Parts) → ls ≡ ks ++ k ∷ [] → k.lost ≡ false → k.line ≡ l → view_back (tape_of ks) ≡ view_of items → view_back (tape_of ls) ≡ view_of (items ++ Received l ∷ [])
-line_taken items ks ls k l pushed lost line e =
-    ap (λ s. view_back (tape_of s)) pushed
-    ∙ ap view_back (tape_push ks k)
-    ∙ ap (λ b. view_back (with_lost b (Received k.line ∷ tape_of ks))) lost
-    ∙ ap (λ m. view_back (Received m ∷ tape_of ks)) line
-    ∙ view_back_step (Received l) (tape_of ks)
-    ∙ ap (λ v. after v (Received l)) e
-    ∙ sym (view_step items (Received l))
 
 -- a loss, looking back
 back_lost : (older : List Arrival) → view_back (Lost ∷ older) ≡ lost_view (view_back older)

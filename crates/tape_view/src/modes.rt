@@ -11,7 +11,7 @@ ghost use Rattle.net_view.specs.StateLines.{mode_change, setting_by};
 ghost use Rattle.net_view.specs.LookBack.{last_in};
 ghost use Rattle.net_view.specs.Presence.{is_on};
 ghost use Rattle.net_view.specs.Modes.{setting_of, says_mode, mode_of};
-ghost use Rattle.net_view.specs.Least.{above_by, considered_by, improves_by, IsNextBy};
+ghost use Rattle.net_view.specs.Least.{above_by, better_by, considered_by, improves_by, IsNextBy};
 ghost use Rattle.tape_view.specs.Tape.{key, key_there, meaning, IsBy};
 ghost use Rattle.tape_view.specs.Letters.{is_set, letter_shown, letters_listed, letters_told};
 
@@ -127,8 +127,35 @@ impl<'a, A: Allocator> Tape<'a, A> {
         None
     }
 
-    /// The best so far, or the best of the letters that a line lists: on, above the given one and before
-    /// the best.
+    /// Whether the mode of a letter is on.
+    fn is_set(&self, channel: &[u8], letter: u8) -> bool
+        requires { is_on self.now.readings (key self.now channel.now) ≡ true }
+        ensures { result ≡ is_set self.now.readings (key self.now channel.now) letter }
+    {
+        self.mode(channel, letter).is_some()
+    }
+
+    /// The best so far, or this letter, where it is on, above the given one and before the best.
+    fn better_letter(
+        &self,
+        channel: &[u8],
+        after: Option<u8>,
+        best: Option<u8>,
+        letter: u8,
+    ) -> Option<u8>
+        requires { is_on self.now.readings (key self.now channel.now) ≡ true }
+        ensures { result
+            ≡ better_by nat_cmp (is_set self.now.readings (key self.now channel.now)) after best
+            letter }
+    {
+        if is_above(after, letter) && is_better(best, letter) && self.is_set(channel, letter) {
+            Some(letter)
+        } else {
+            best
+        }
+    }
+
+    /// The best so far, or the best of the letters that a line lists.
     fn best_listed(
         &self,
         channel: &[u8],
@@ -143,18 +170,13 @@ impl<'a, A: Allocator> Tape<'a, A> {
     {
         let mut best = best;
         for change in changes(self.support(), line) {
-            if is_above(after, change.letter)
-                && is_better(best, change.letter)
-                && self.mode(channel, change.letter).is_some()
-            {
-                best = Some(change.letter);
-            }
+            best = self.better_letter(channel, after, best, change.letter);
         }
         best
     }
 
     /// The best so far, or the best of the letters that a MODE or a 324 lists.
-    fn better_letter(
+    fn best_letter(
         &self,
         channel: &[u8],
         after: Option<u8>,
@@ -187,7 +209,7 @@ impl<'a, A: Allocator> Tape<'a, A> {
             if said.says_on(channel).is_some() {
                 return best;
             }
-            best = self.better_letter(channel, after, best, &said.telling);
+            best = self.best_letter(channel, after, best, &said.telling);
             tape = older;
         }
         best

@@ -407,3 +407,37 @@ fn accounts_by_nick(rt: HostRuntime) -> Result<(), Fail> {
     assert!(rt; view.account_of(b"eve").is_none());
     Ok(())
 }
+
+/// A JOIN of ours of a name that is no channel's, but has the key of a channel that we are on.
+#[test]
+fn our_join_of_a_name_that_is_no_channel(rt: HostRuntime) -> Result<(), Fail> {
+    check_rows(
+        &rt,
+        &[
+            (b":s 001 Me :hi", b"Me"),
+            (b":s 005 Me CHANTYPES=[# :x", b"Me"),
+            (b":s 376 Me :end", b"Me"),
+            (b":Me!m@h JOIN [c", b"Me / [c Me"),
+            (b":s MODE [c +ov Me Me", b"Me / [c @+Me"),
+            (b":Me!m@h JOIN {c", b"Me / [c Me"),
+        ],
+    )
+}
+
+/// The account of a nick that is none, but has the key of one.
+#[test]
+fn no_account_of_what_is_no_nick(rt: HostRuntime) -> Result<(), Fail> {
+    let mut view = TapeView::new(rt.alloc())?;
+    let texts: [&[u8]; 4] = [
+        b":s 001 Me :hi",
+        b":Me!m@h JOIN #c",
+        b":^x!u@h JOIN #c xacc :X",
+        b":^x!u@h AWAY :gone",
+    ];
+    for text in &texts {
+        view.take(&item(rt.alloc(), text)?)?;
+    }
+    assert!(&rt; view.account_of(b"^x") == Some(b"xacc".as_slice()));
+    assert!(&rt; view.account_of(b"~x").is_none());
+    Ok(())
+}

@@ -8,9 +8,10 @@ use Rattle.std.specs.List.{list_any}
 use Rattle.std.proofs.lemmas.Bool.Decides.{nat_tests}
 use Rattle.std.proofs.lemmas.List.Folds.{list_any-append}
 use Rattle.std.proofs.lemmas.List.Sums.{sum_by_push}
-use Rattle.irc_line.proofs.ParamScan.{sure}
+use Rattle.upstream.proofs.Writable.{sure}
 use Rattle.irc_line.specs.Line.{Parts}
 use Rattle.bnc_config.specs.Settings.{NetworkSettings}
+use Rattle.upstream.proofs.Writable.{or_false_left, or_false_right}
 use Rattle.upstream.specs.Said.{said}
 use Rattle.upstream.specs.Registration.{answer_to, sends, welcomes, fails, fails_or_sends, fault_of}
 use Rattle.upstream.specs.Registration.{has_ended}
@@ -102,14 +103,6 @@ step_at network before line says.Ping none few left =
 step_at network before line says.Other none few left =
     rw none (spent (tries_in before) (length before) _ few left)
 
-or_left : (x y : Bool) → (x || y) ≡ false → x ≡ false
-or_left true y h = cc
-or_left false y h = refl
-
-or_right : (x y : Bool) → (x || y) ≡ false → y ≡ false
-or_right true y h = cc
-or_right false y h = h
-
 or_true : (x : Bool) → (x || true) ≡ true
 or_true true = refl
 or_true false = refl
@@ -137,10 +130,10 @@ pub ended_step : (network : NetworkSettings) (before : List Parts) (line : Parts
 ended_step network before line = elim (sure (has_ended before)) [
   | inl ended ↦ ended_stays before line ended ∙ rw ended refl
   | inr going ↦
-      let rest = or_right (any_final before) _ going in
+      let rest = or_false_right (any_final before) _ going in
       ended_more before line
-      ∙ step_at network before line (said line) (or_left (any_final before) _ going)
-      (or_left (nat_le 4 (tries_in before)) _ rest) (or_right (nat_le 4 (tries_in before)) _ rest)
+      ∙ step_at network before line (said line) (or_false_left (any_final before) _ going)
+      (or_false_left (nat_le 4 (tries_in before)) _ rest) (or_false_right (nat_le 4 (tries_in before)) _ rest)
       ∙ rw going refl
 ]
 

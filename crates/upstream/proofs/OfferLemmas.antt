@@ -11,7 +11,7 @@ use Rattle.irc_line.specs.Writing.{is_clean}
 use Rattle.upstream.specs.Registration.{is_list, is_offered, is_word_for, last_param, named}
 use Rattle.upstream.specs.Registration.{names_of, offered_by, offers, our_caps}
 use Rattle.upstream.specs.declared.offers.Offered.{Offered}
-use Rattle.irc_line.proofs.ParamScan.{sure}
+use Rattle.upstream.proofs.Writable.{sure}
 use Rattle.upstream.specs.Said.{said}
 
 or_false : (x : Bool) → (x || false) ≡ x

@@ -5,7 +5,7 @@ use Rattle.std.proofs.Common.{take, drop, length, append_assoc, append-nil, Opti
 use Rattle.std.proofs.Common.{None, inl, inr}
 use Rattle.std.specs.Prelude.{if◌then◌else◌}
 use Rattle.std.specs.Io.KnownBytes.{Appends, Keeps}
-use Rattle.irc_line.proofs.ParamScan.{sure}
+use Rattle.upstream.proofs.Writable.{sure}
 use Rattle.irc_line.specs.Line.{Parts}
 use Rattle.irc_line.specs.Writing.{written}
 use Rattle.bnc_config.specs.Settings.{NetworkSettings}
@@ -15,6 +15,7 @@ use Rattle.std.specs.Prelude.{IfErr, IsErrAnd}
 use Rattle.std.proofs.Common.{ap₂, add-one}
 use Rattle.std.proofs.Math.Seq.{drop-cons}
 use Rattle.std.proofs.lemmas.List.{take-append-drop, take_more}
+use Rattle.upstream.proofs.Writable.{or_false_left, or_false_right}
 use Rattle.upstream.proofs.Ends.{ended_step}
 use Rattle.std.specs.Prelude.{◌↔◌, IfNone, IfOk, IfSome, IsErrOf, IsTrue, OnOk, nat_lt}
 use Rattle.std.specs.List.{list_any}
@@ -191,14 +192,6 @@ fed_more s t a b at is =
 pub lines_more : (s : Pending) (a b : List ℕ) (old new : List Parts) → s ≡ fed start a → old ≡ []
     → new ≡ old ++ lines_of (s.rest ++ b) → lines_of (a ++ b) ≡ lines_of a ++ new
 lines_more s a b old new at none is = rw (is, none, at) (lines-append a b)
-
-pub or_false_left : (x y : Bool) → (x || y) ≡ false → x ≡ false
-or_false_left true y h = cc
-or_false_left false y h = refl
-
-pub or_false_right : (x y : Bool) → (x || y) ≡ false → y ≡ false
-or_false_right true y h = cc
-or_false_right false y h = h
 
 abbrev is_long : List ℕ → Bool
 is_long segment = nat_lt line_limit (length segment)

@@ -1,4 +1,5 @@
 -- What the settings hold can stand in a line.
+use Rattle.std.proofs.Common.{◌⊎◌, inl, inr}
 use Rattle.std.proofs.Common.{◌≡◌, ◌∙◌, refl, ℕ, zero, suc, ◌<◌, Bool, true, false, List, [], ◌∷◌}
 use Rattle.std.proofs.Common.{◌&&◌, ◌||◌, ◌==◌, not, arith, take, codes, length, get_or}
 use Rattle.std.specs.Prelude.{replicate}
@@ -14,11 +15,16 @@ use Rattle.irc_line.specs.Writing.{is_clean, is_word}
 use Rattle.irc_names.specs.Nick.{is_nameable, is_outside_nick, begins_nick}
 use Rattle.bnc_config.specs.Text as text
 
-or_false_left : (x y : Bool) → (x || y) ≡ false → x ≡ false
+-- a test passes or not
+pub sure : (b : Bool) → (b ≡ true) ⊎ (b ≡ false)
+sure true = inl refl
+sure false = inr refl
+
+pub or_false_left : (x y : Bool) → (x || y) ≡ false → x ≡ false
 or_false_left true y h = cc
 or_false_left false y h = refl
 
-or_false_right : (x y : Bool) → (x || y) ≡ false → y ≡ false
+pub or_false_right : (x y : Bool) → (x || y) ≡ false → y ≡ false
 or_false_right true y h = cc
 or_false_right false y h = h
 

@@ -51,10 +51,16 @@ pub enum Step {
 /// first lines to the welcome or a fault.
 ///
 /// ```text
-/// -> CAP LS 302                        <- :s CAP * LS :account-notify=1 multi-prefix -> NICK ann
-///                        <- :s CAP * ACK :multi-prefix account-notify -> USER ann 0 * :Ann A
-///         <- :s 433 * ann :in use -> CAP REQ :multi-prefix account-notify -> CAP END
-///             <- :s 001 ann_ :hi -> NICK ann_
+/// -> CAP LS 302
+/// -> NICK ann
+/// -> USER ann 0 * :Ann A
+/// <- :s CAP * LS :account-notify=1 multi-prefix
+/// -> CAP REQ :multi-prefix account-notify
+/// <- :s CAP * ACK :multi-prefix account-notify
+/// -> CAP END
+/// <- :s 433 * ann :in use
+/// -> NICK ann_
+/// <- :s 001 ann_ :hi
 /// ```
 #[derive(Drop)]
 pub struct Register {

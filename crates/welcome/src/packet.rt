@@ -1,6 +1,6 @@
 //! What a session is sent in one go.
 
-ghost use Rattle.std.specs.Prelude.{◌≡◌, ◌∷◌, ◌<◌, [], IfOk, length, Some, slice_get};
+ghost use Rattle.std.specs.Prelude.{◌≡◌, ◌==◌, ◌∷◌, ◌<◌, [], IfOk, filter, length, Some, slice_get};
 ghost use Rattle.std.specs.List.{flat_map};
 ghost use Rattle.irc_line.specs.Lines.{lines_of};
 ghost use Rattle.irc_line.specs.Writing.{written};
@@ -35,6 +35,13 @@ impl<A: Allocator> Model for Packet<A> {
     ghost invariant = { λ p. IsPacket p.text p.count };
 }
 
+/// How many lines end in these bytes.
+fn line_ends(text: &[u8]) -> usize
+    ensures { result ≡ length (filter (λ b. b == 10) text.now) }
+{
+    text.iter().filter(|byte| **byte == b'\n').count()
+}
+
 impl<A: Allocator + Clone> Packet<A> {
     /// The packet of bytes that were written.
     pub(crate) fn of_text(text: Vec<u8, A>, count: usize) -> Result<Packet<A>, OutOfMemory>
@@ -43,6 +50,15 @@ impl<A: Allocator + Clone> Packet<A> {
     {
         let text = Bytes::from_vec(text)?;
         Ok(Packet { text, count })
+    }
+
+    /// The packet of lines that were written one behind the other.
+    pub(crate) fn of_lines(text: Vec<u8, A>) -> Result<Packet<A>, OutOfMemory>
+        requires { IsPacket text.items (length (lines_of text.items)) }
+        ensures { IfOk result (λ packet. packet ≡ lines_of text.items) }
+    {
+        let count = line_ends(&text);
+        Packet::of_text(text, count)
     }
 
     /// The packet of one line. One allocation for the bytes, and one for the count of their owners.

@@ -8,4 +8,5 @@ use Rattle.client_caps.proofs.images.highest_names.Given as goal
 abbrev pub invariant-loop-ranks : goal.invariant-loop-ranks
 invariant-loop-ranks g l =
     let settings = (g.V.NetworkView.view l.view).settings in
-    joined_on 32 l.is_first l.names.items (map (highest_text settings) l.ranks-iterator) ≡ join_with_byte 32 (map (highest_text settings) (split_words_in settings l.line))
+    joined_on 32 l.is_first l.names.items (map (highest_text settings) l.ranks-iterator)
+    ≡ join_with_byte 32 (map (highest_text settings) (split_words_in settings l.line))

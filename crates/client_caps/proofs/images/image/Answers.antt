@@ -1,4 +1,4 @@
-use Rattle.std.proofs.Common.{◌≡◌, sym, ap, ◌∙◌, Some}
+use Rattle.std.proofs.Common.{sym, ap, ◌∙◌, Some}
 use Rattle.client_caps.proofs.ImageMade.{image_passed, image_withheld, image_can}
 use Rattle.client_caps.proofs.images.image.Goals as goal
 
@@ -9,7 +9,8 @@ returns-then-not-is_passed_on g c time =
 
 pub sent_as-requires-clause-written : goal.sent_as-requires-clause-written
 sent_as-requires-clause-written g c =
-    image_can (g.V.NetworkView.view c.args.view.now) c.args.caps c.args.line.now c.comes_from_lines.ensures
+    image_can (g.V.NetworkView.view c.args.view.now) c.args.caps c.args.line.now
+    c.comes_from_lines.ensures
     c.is_passed_on.ensures.writable
 
 pub returns : goal.returns

@@ -3,7 +3,8 @@ use Rattle.std.specs.Borrow.{Bor}
 use Rattle.client_caps.specs.Images.{with_param}
 use Rattle.client_caps.proofs.images.put_names.Goals as goal
 
-put_fourth : (ps : List (Bor (List ℕ))) (x : Bor (List ℕ)) → 4 ≤ length ps → map (λ p. p.now) (slice_set ps 3 x) ≡ with_param 3 (λ _. x.now) (map (λ p. p.now) ps)
+put_fourth : (ps : List (Bor (List ℕ))) (x : Bor (List ℕ)) → 4 ≤ length ps
+    → map (λ p. p.now) (slice_set ps 3 x) ≡ with_param 3 (λ _. x.now) (map (λ p. p.now) ps)
 put_fourth [] x h = absurd (omega arith)
 put_fourth (a ∷ []) x h = absurd (omega arith)
 put_fourth (a ∷ b ∷ []) x h = absurd (omega arith)

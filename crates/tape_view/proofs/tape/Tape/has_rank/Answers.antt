@@ -2,7 +2,8 @@ use Rattle.std.proofs.Common.{List, Some, None, false, refl, sym, ◌∙◌}
 use Rattle.irc_support.specs.Tokens.{Token}
 use Rattle.irc_support.specs.Settings.{key_by}
 use Rattle.net_view.specs.Members.{said_of_rank, says_rank}
-use Rattle.tape_view.proofs.LastLine.{asked_of, asked_here, still_on, silent_anew}
+use Rattle.tape_view.proofs.LastLine.{asked_of, asked_here, still_on}
+use Rattle.tape_view.proofs.Stays.{silent_anew}
 use Rattle.tape_view.proofs.tape.Tape.has_rank.Goals as goal
 
 pub returns-in-Some-says_rank : goal.returns-in-Some-says_rank

@@ -1,6 +1,6 @@
 use Rattle.std.proofs.Common.{sym, ◌∙◌}
 use Rattle.tape_view.specs.Tape.{key}
-use Rattle.tape_view.proofs.InSight.{sees}
+use Rattle.tape_view.proofs.Stays.{sees}
 use Rattle.tape_view.proofs.SightLine.{none_seen, none_joined, one_joined}
 use Rattle.tape_view.proofs.tape.Tape.is_in_sight.Goals as goal
 

@@ -19,5 +19,5 @@ loop-said-preserved g c =
     record {
       on = unsaid_on last c.args.channel.now i.on _ c.says_on.ensures (is_some_map (option_map (λ n. n.now)) c.says_on.result ∙ sym c.is_some.ensures ∙ c.if-is_some.false);
       same_settings = last.same_settings ∙ i.same_settings;
-      so_far = next_line last c.args.channel.now i.on c.args.self.now.settings (is_set c.args.self.now.readings (key c.args.self.now c.args.channel.now)) c.args.after c.loop-said.best c.better_letter-best.result i.same_settings c.better_letter-best.ensures i.so_far;
+      so_far = next_line last c.args.channel.now i.on c.args.self.now.settings (is_set c.args.self.now.readings (key c.args.self.now c.args.channel.now)) c.args.after c.loop-said.best c.best_letter-best.result i.same_settings c.best_letter-best.ensures i.so_far;
     }

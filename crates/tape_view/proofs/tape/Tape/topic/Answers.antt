@@ -3,7 +3,8 @@ use Rattle.std.specs.Option.{option_map}
 use Rattle.irc_support.specs.Tokens.{Token}
 use Rattle.irc_support.specs.Settings.{key_by}
 use Rattle.net_view.specs.Topic.{says_topic, said_of_topic}
-use Rattle.tape_view.proofs.LastLine.{asked, still_on, silent_anew}
+use Rattle.tape_view.proofs.LastLine.{asked, still_on}
+use Rattle.tape_view.proofs.Stays.{silent_anew}
 use Rattle.tape_view.proofs.tape.Tape.topic.Goals as goal
 
 pub returns-in-Some-says_topic : goal.returns-in-Some-says_topic

@@ -2,7 +2,8 @@ use Rattle.std.proofs.Common.{List, Some, None, false, refl, sym, ◌∙◌}
 use Rattle.irc_support.specs.Tokens.{Token}
 use Rattle.irc_support.specs.Settings.{key_by}
 use Rattle.net_view.specs.Members.{joins_as, said_of_member, says_member}
-use Rattle.tape_view.proofs.LastLine.{asked_of, asked_here, still_on, silent_anew}
+use Rattle.tape_view.proofs.LastLine.{asked_of, asked_here, still_on}
+use Rattle.tape_view.proofs.Stays.{silent_anew}
 use Rattle.tape_view.proofs.tape.Tape.was_made_member.Goals as goal
 
 pub returns-in-Some-says_member : goal.returns-in-Some-says_member

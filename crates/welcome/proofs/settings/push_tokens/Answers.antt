@@ -1,0 +1,19 @@
+use Rattle.std.proofs.Common.{◌≡◌, false, [], ◌∷◌, ◌++◌, length, map, take, sym, ap, ◌∙◌, arith, codes}
+use Rattle.std.specs.Prelude.{nat_eq, if◌then◌else◌}
+use Rattle.std.proofs.lemmas.List.{map-append, take_all}
+use Rattle.irc_line.specs.Writing.{written}
+use Rattle.welcome.specs.Burst.{from_bouncer}
+use Rattle.welcome.proofs.settings.push_tokens.Goals as goal
+
+pub returns : goal.returns
+returns g c =
+    let nick = c.args.nick.now in
+    let tokens = c.args.tokens.now in
+    let before = c.args.text.now.items in
+    let line = written (from_bouncer (codes "005") (nick ∷ (map (λ t. t.items) tokens ++ codes "are supported by this server" ∷ []))) in
+    let end : c.loop-token.token-index ≡ length tokens = omega (c.loop-token-test.false, c.loop-token.auto.token-index-end, arith) in
+    let all : take c.loop-token.token-index tokens ≡ tokens = ap (λ k. take k tokens) end ∙ take_all (length tokens) tokens (omega arith) in
+    let params = ap (map (λ p. p.now)) (c.deref.ensures.value ∙ c.in_ok-push-3.ensures.items) ∙ map-append (λ p. p.now) c.loop-token.params.items (_ ∷ [])
+    ∙ ap (λ ps. ps ++ codes "are supported by this server" ∷ []) (c.loop-token.invariant ∙ ap (λ ts. nick ∷ map (λ t. t.items) ts) all) in
+    let some : nat_eq (length tokens) 0 ≡ false = sym c.is_empty.ensures ∙ c.if-is_empty.false in
+    c.in_ok-push_reply.ensures ∙ ap (λ ps. before ++ written (from_bouncer (codes "005") ps)) params ∙ ap (λ b. before ++ (if b then [] else line)) (sym some)
