@@ -123,6 +123,16 @@ module _ (us : Text → Bool) (t : Told) (cs : fin.FinMap bytes_cmp Channel) (se
       ] refl
       ∙ sym (fin.get-insert nat_list_cmp_total cs c is d))
 
+  -- one is put in its place, whatever was there
+  pub put_channel : (c : Text) (is : Channel) → channel_after us t c (fin.get cs c) ≡ Some is → ((d : Text) → same d c ≡ false → IsQuiet us t d) → channels_after us t cs ≡ fin.insert cs c is
+  put_channel c is new quiet =
+      channels_are us t cs _ (λ d.
+      elim (same d c) as (λ b. same d c ≡ b → channel_after us t d (fin.get cs d) ≡ cond b (Some is) (fin.get cs d)) [
+        | true ↦ λ e. ap (λ x. channel_after us t x (fin.get cs x)) (is_same d c e) ∙ new
+        | false ↦ λ e. quiet_channel us t d (fin.get cs d) (sets d) (quiet d e)
+      ] refl
+      ∙ sym (fin.get-insert nat_list_cmp_total cs c is d))
+
   -- one that we are not on stays so
   pub no_channel : (c : Text) → fin.get cs c ≡ None → channel_after us t c None ≡ None → ((d : Text) → same d c ≡ false → IsQuiet us t d) → channels_after us t cs ≡ cs
   no_channel c none off quiet =

@@ -1,6 +1,6 @@
 -- The view after what tells of a channel alone: TOPIC, 332 and 331, MODE and 324. What a MODE and a 324 leave is
 -- said by look-ups: any maps that answer so are the channel's.
-use Rattle.std.specs.Prelude.{◌≡◌, ℕ, Bool, true, false, cond, List, is_some}
+use Rattle.std.specs.Prelude.{◌≡◌, ℕ, Bool, false, cond, List, is_some}
 use Rattle.std.specs.Option.{option_map, option_map_or, unwrap_or}
 use Rattle.std.specs.Ordering.{nat_cmp}
 use Rattle.std.specs.FinMap as fin
@@ -8,13 +8,13 @@ use Rattle.std.proofs.Common.{Option, Some, None, refl, sym, ap, ◌∙◌}
 use Rattle.irc_support.specs.Text.{Text}
 use Rattle.irc_support.specs.Ranks.{ranks_that, has_rank}
 use Rattle.net_view.specs.Names.{same, bytes_cmp}
-use Rattle.net_view.specs.Told.{Told, LetterChange, ModeChange, Titled, Changed, Listed}
+use Rattle.net_view.specs.Told.{LetterChange, ModeChange, Titled, Changed, Listed}
 use Rattle.net_view.specs.Transcript.{is_us}
 use Rattle.net_view.specs.LookBack.{last_in}
 use Rattle.net_view.specs.Modes.{setting_of}
 use Rattle.net_view.specs.Members.{rank_in_change}
-use Rattle.net_view.specs.View.{Channel, Person, View}
-use Rattle.net_view.specs.Step.{standing_of, had_rank, after_told, channels_after, people_after, is_seen}
+use Rattle.net_view.specs.View.{Channel, View}
+use Rattle.net_view.specs.Step.{standing_of, had_rank, after_told, people_after, is_seen}
 use Rattle.net_view.specs.Changes.{with_topic, on_channel}
 use Rattle.net_view.proofs.Tests.{is_some_map}
 use Rattle.net_view.proofs.Keys.{same_refl}
@@ -82,9 +82,9 @@ module _ (v : View) (sets : HasSets v) (known : IsKnowing v) (c : Text) where
       let is = with_maps ch ms ps in
       let here = same_refl c in
       let new = ap Some (channel_is us t c (Some ch) is refl
-          (λ letter. ap (λ b. unwrap_or (cond b (last_in (setting_of letter) modes) None) (fin.get ch.modes letter)) here ∙ sym (modes_are letter))
-          (λ n. ap (λ b. cond (is_some (fin.get ch.members n)) (Some (ranks_that (λ rank. unwrap_or (cond b (last_in (rank_in_change n rank) letters) None) (had_rank rank (fin.get ch.members n))))) None) here
-              ∙ by_member n (fin.get ch.members n) ∙ sym (members_are n))) in
+      (λ letter. ap (λ b. unwrap_or (cond b (last_in (setting_of letter) modes) None) (fin.get ch.modes letter)) here ∙ sym (modes_are letter))
+      (λ n. ap (λ b. cond (is_some (fin.get ch.members n)) (Some (ranks_that (λ rank. unwrap_or (cond b (last_in (rank_in_change n rank) letters) None) (had_rank rank (fin.get ch.members n))))) None) here
+      ∙ by_member n (fin.get ch.members n) ∙ sym (members_are n))) in
       let cs = one_channel us t v.channels sets c ch is e new (change_quiet letters modes) in
       let people = ap (λ cs. people_after us t cs v.people) cs ∙ all_persons_stay us t (fin.insert v.channels c is) v.people (still_known ch is e (λ n. ap is_some (members_are n) ∙ is_some_map (ranks_changed letters n) (fin.get ch.members n))) (λ n. refl) in
       λ i. record { own = v.own; ready = v.ready; settings = v.settings; channels = cs i; people = people i } where
@@ -110,8 +110,8 @@ module _ (v : View) (sets : HasSets v) (known : IsKnowing v) (c : Text) where
       let t = Listed c modes in
       let is = with_maps ch ms ch.members in
       let new = ap Some (channel_is us t c (Some ch) is refl
-          (λ letter. ap (λ b. unwrap_or (cond b (Some (unwrap_or (last_in (setting_of letter) modes) None)) None) (fin.get ch.modes letter)) (same_refl c) ∙ sym (modes_are letter))
-          (λ n. member_stays (fin.get ch.members n) (sets c ch e n))) in
+      (λ letter. ap (λ b. unwrap_or (cond b (Some (unwrap_or (last_in (setting_of letter) modes) None)) None) (fin.get ch.modes letter)) (same_refl c) ∙ sym (modes_are letter))
+      (λ n. member_stays (fin.get ch.members n) (sets c ch e n))) in
       let cs = one_channel us t v.channels sets c ch is e new (list_quiet modes) in
       let people = ap (λ cs. people_after us t cs v.people) cs ∙ all_persons_stay us t (fin.insert v.channels c is) v.people (still_known ch is e (λ n. refl)) (λ n. refl) in
       λ i. record { own = v.own; ready = v.ready; settings = v.settings; channels = cs i; people = people i }

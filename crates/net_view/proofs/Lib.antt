@@ -25,6 +25,9 @@ pub mod AfterPart
 pub mod AfterOwnPart
 pub mod AfterFacts
 pub mod AfterModes
+pub mod AfterQuit
+pub mod AfterOwnJoin
+pub mod AfterPresent
 pub mod TokensWritten
 pub mod WrittenViews
 pub mod FormSound
