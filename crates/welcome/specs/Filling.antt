@@ -1,4 +1,4 @@
--- Parts of the burst, as its parts are written.
+-- The burst by the parts in which it is written.
 use Rattle.std.specs.Prelude.{List, [], ◌∷◌, ◌++◌, codes}
 use Rattle.std.specs.List.{flat_map, join_with_byte}
 use Rattle.std.specs.FinMap as fin

@@ -1,6 +1,7 @@
 //! 353 RPL_NAMREPLY: the members of a channel, as many on a line as there is room for.
 
-ghost use Rattle.std.specs.Prelude.{◌≡◌, ◌++◌, ◌+◌, ◌∷◌, OnOk, map, nat_le, length, if◌then◌else◌, true, codes, take, []};
+ghost use Rattle.std.specs.Prelude.{◌≡◌, ◌++◌, ◌+◌, ◌∷◌, OnOk, map, nat_le, length, if◌then◌else◌};
+ghost use Rattle.std.specs.Prelude.{true, codes, take, []};
 ghost use Rattle.std.specs.List.{flat_map};
 ghost use Rattle.irc_line.specs.Writing.{written};
 ghost use Rattle.client_caps.specs.Images.{symbols_of, ranks_shown};
