@@ -13,19 +13,27 @@ use Rattle.net_view.specs.Readers.{known_at, account_shown}
 use Rattle.net_view.proofs.SoundStep.{view_sound}
 
 -- under a nameable nick it is the person's
-pub account_named : (v : View) (nick : Text) → is_nameable nick ≡ true → account_shown v nick ≡ known_at (λ p. p.account) v (key_by v.settings nick)
-account_named v nick e = ap (λ b. cond b (known_at (λ p. p.account) v (key_by v.settings nick)) None) e
+pub account_named : (v : View) (nick : Text) → is_nameable nick ≡ true
+    → account_shown v nick ≡ known_at (λ p. p.account) v (key_by v.settings nick)
+account_named v nick e =
+    ap (λ b. cond b (known_at (λ p. p.account) v (key_by v.settings nick)) None) e
 
 -- who has one is nameable and in sight
-pub known_in_sight : (items : List Arrival) (nick account : Text) → account_shown (view_of items) nick ≡ Some account → (is_nameable nick ≡ true) × (is_seen (view_of items).channels (key_by (view_of items).settings nick) ≡ true)
-known_in_sight items nick account e = when (is_nameable nick) (fin.get v.people n) ((view_sound items).known n) e where
-  v : View
-  v = view_of items
+pub known_in_sight : (items : List Arrival) (nick account : Text)
+    → account_shown (view_of items) nick ≡ Some account
+    → (is_nameable nick ≡ true)
+    × (is_seen (view_of items).channels (key_by (view_of items).settings nick) ≡ true)
+known_in_sight items nick account e =
+    when (is_nameable nick) (fin.get v.people n) ((view_sound items).known n) e where
+      v : View
+      v = view_of items
 
-  n : Text
-  n = key_by v.settings nick
+      n : Text
+      n = key_by v.settings nick
 
-  when : (b : Bool) (o : Option Person) → is_some o ≡ is_seen v.channels n → cond b (option_and_then (λ (p : Person). p.account) o) None ≡ Some account → (b ≡ true) × (is_seen v.channels n ≡ true)
-  when true None h is = cc
-  when true (Some p) h is = (refl, sym h)
-  when false o h is = cc
+      when : (b : Bool) (o : Option Person) → is_some o ≡ is_seen v.channels n
+          → cond b (option_and_then (λ (p : Person). p.account) o) None ≡ Some account
+          → (b ≡ true) × (is_seen v.channels n ≡ true)
+      when true None h is = cc
+      when true (Some p) h is = (refl, sym h)
+      when false o h is = cc

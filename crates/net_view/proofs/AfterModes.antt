@@ -1,5 +1,5 @@
--- The view after what tells of a channel alone: TOPIC, 332 and 331, MODE and 324. What a MODE and a 324 leave is
--- said by look-ups: any maps that answer so are the channel's.
+-- The view after what tells of a channel alone: TOPIC, 332 and 331, MODE and 324. What a MODE and a
+-- 324 leave is said by look-ups: any maps that answer so are the channel's.
 use Rattle.std.specs.Prelude.{◌≡◌, ℕ, Bool, false, cond, List, is_some}
 use Rattle.std.specs.Option.{option_map, option_map_or, unwrap_or}
 use Rattle.std.specs.Ordering.{nat_cmp}
@@ -21,43 +21,88 @@ use Rattle.net_view.proofs.Keys.{same_refl}
 use Rattle.net_view.proofs.AfterAlike.{HasSets, IsKnowing, IsQuiet, channel_is, member_stays, one_channel, no_channel, same_seen, kept_members, all_persons_stay}
 
 -- a channel that we are on, with these modes and members
-abbrev pub with_maps : Channel → fin.FinMap nat_cmp (Option Text) → fin.FinMap bytes_cmp (List ℕ) → Channel
-with_maps ch modes members = record { name = ch.name; topic = ch.topic; modes = modes; members = members }
+abbrev pub with_maps : Channel → fin.FinMap nat_cmp (Option Text) → fin.FinMap bytes_cmp (List ℕ)
+    → Channel
+with_maps ch modes members =
+    record { name = ch.name; topic = ch.topic; modes = modes; members = members }
 
 -- ranks after changes of letters
 abbrev pub ranks_changed : List LetterChange → Text → List ℕ → List ℕ
-ranks_changed letters n ranks = ranks_that (λ rank. unwrap_or (last_in (rank_in_change n rank) letters) (has_rank ranks rank))
+ranks_changed letters n ranks =
+    ranks_that (λ rank. unwrap_or (last_in (rank_in_change n rank) letters) (has_rank ranks rank))
 
 module _ (v : View) (sets : HasSets v) (known : IsKnowing v) (c : Text) where
   abbrev us : Text → Bool
   us = is_us (standing_of v)
 
   -- nobody is seen or gone where a channel keeps its members
-  still_known : (ch is : Channel) → fin.get v.channels c ≡ Some ch → ((n : Text) → is_some (fin.get is.members n) ≡ is_some (fin.get ch.members n)) → (n : Text) → fin.contains_key v.people n ≡ is_seen (fin.insert v.channels c is) n
-  still_known ch is there alike n = known n ∙ sym (same_seen v.channels (fin.insert v.channels c is) (kept_members v.channels c ch is there alike) n)
+  still_known : (ch is : Channel) → fin.get v.channels c ≡ Some ch
+      → ((n : Text) → is_some (fin.get is.members n) ≡ is_some (fin.get ch.members n)) → (n : Text)
+      → fin.contains_key v.people n ≡ is_seen (fin.insert v.channels c is) n
+  still_known ch is there alike n =
+      known n ∙ sym
+      (same_seen v.channels (fin.insert v.channels c is)
+      (kept_members v.channels c ch is there alike) n)
 
   -- ---- TOPIC, 332 and 331
 
   title_quiet : (topic : Option Text) (d : Text) → same d c ≡ false → IsQuiet us (Titled c topic) d
-  title_quiet topic d e = record { on = refl; topic = ap (λ b. cond b (Some topic) None) e; mode = λ letter. refl; member = λ n. refl; rank = λ n rank. refl; name = λ n. refl }
+  title_quiet topic d e =
+      record {
+        on = refl;
+        topic = ap (λ b. cond b (Some topic) None) e;
+        mode =
+            λ letter. refl;
+        member = λ n. refl;
+        rank = λ n rank. refl;
+        name = λ n. refl;
+      }
 
-  pub after_topic : (topic : Option Text) → after_told v (Titled c topic) ≡ on_channel v c (with_topic topic)
+  pub after_topic : (topic : Option Text)
+      → after_told v (Titled c topic) ≡ on_channel v c (with_topic topic)
   after_topic topic = by_channel (fin.get v.channels c) refl where
-    by_channel : (o : Option Channel) → fin.get v.channels c ≡ o → after_told v (Titled c topic) ≡ record v { channels = option_map_or (λ ch. fin.insert v.channels c (with_topic topic ch)) o v.channels }
+    by_channel : (o : Option Channel) → fin.get v.channels c ≡ o
+        → after_told v (Titled c topic)
+        ≡ record v {
+          channels =
+              option_map_or (λ ch. fin.insert v.channels c (with_topic topic ch)) o v.channels;
+        }
     by_channel None e =
         let cs = no_channel us (Titled c topic) v.channels sets c e refl (title_quiet topic) in
-        let ps = ap (λ cs. people_after us (Titled c topic) cs v.people) cs ∙ all_persons_stay us (Titled c topic) v.channels v.people known (λ n. refl) in
-        λ i. record { own = v.own; ready = v.ready; settings = v.settings; channels = cs i; people = ps i }
+        let ps = ap (λ cs. people_after us (Titled c topic) cs v.people) cs
+        ∙ all_persons_stay us (Titled c topic) v.channels v.people known (λ n. refl) in
+        λ i. record {
+          own = v.own;
+          ready = v.ready;
+          settings = v.settings;
+          channels = cs i;
+          people =
+              ps i;
+        }
     by_channel (Some ch) e =
         let is = with_topic topic ch in
-        let new = ap Some (channel_is us (Titled c topic) c (Some ch) is (ap (λ b. unwrap_or (cond b (Some topic) None) ch.topic) (same_refl c)) (λ letter. refl) (λ n. member_stays (fin.get ch.members n) (sets c ch e n))) in
-        let cs = one_channel us (Titled c topic) v.channels sets c ch is e new (title_quiet topic) in
-        let ps = ap (λ cs. people_after us (Titled c topic) cs v.people) cs ∙ all_persons_stay us (Titled c topic) (fin.insert v.channels c is) v.people (still_known ch is e (λ n. refl)) (λ n. refl) in
-        λ i. record { own = v.own; ready = v.ready; settings = v.settings; channels = cs i; people = ps i }
+        let new =
+        ap Some (channel_is us (Titled c topic) c (Some ch) is
+        (ap (λ b. unwrap_or (cond b (Some topic) None) ch.topic) (same_refl c))
+        (λ letter. refl) (λ n. member_stays (fin.get ch.members n) (sets c ch e n))) in
+        let cs = one_channel us (Titled c topic) v.channels sets c ch is e new (title_quiet topic)
+        in
+        let ps = ap (λ cs. people_after us (Titled c topic) cs v.people) cs
+        ∙ all_persons_stay us (Titled c topic) (fin.insert v.channels c is) v.people
+        (still_known ch is e (λ n. refl)) (λ n. refl) in
+        λ i. record {
+          own = v.own;
+          ready = v.ready;
+          settings = v.settings;
+          channels = cs i;
+          people =
+              ps i;
+        }
 
   -- ---- MODE
 
-  change_quiet : (letters : List LetterChange) (modes : List ModeChange) (d : Text) → same d c ≡ false → IsQuiet us (Changed c letters modes) d
+  change_quiet : (letters : List LetterChange) (modes : List ModeChange) (d : Text)
+      → same d c ≡ false → IsQuiet us (Changed c letters modes) d
   change_quiet letters modes d e = record {
     on = refl;
     topic = refl;
@@ -67,51 +112,120 @@ module _ (v : View) (sets : HasSets v) (known : IsKnowing v) (c : Text) where
     name = λ n. refl;
   }
 
-  pub after_mode_elsewhere : (letters : List LetterChange) (modes : List ModeChange) → fin.get v.channels c ≡ None → after_told v (Changed c letters modes) ≡ v
+  pub after_mode_elsewhere : (letters : List LetterChange) (modes : List ModeChange)
+      → fin.get v.channels c ≡ None → after_told v (Changed c letters modes) ≡ v
   after_mode_elsewhere letters modes e =
-      let cs = no_channel us (Changed c letters modes) v.channels sets c e refl (change_quiet letters modes) in
-      let ps = ap (λ cs. people_after us (Changed c letters modes) cs v.people) cs ∙ all_persons_stay us (Changed c letters modes) v.channels v.people known (λ n. refl) in
-      λ i. record { own = v.own; ready = v.ready; settings = v.settings; channels = cs i; people = ps i }
+      let cs = no_channel us (Changed c letters modes) v.channels sets c e refl
+      (change_quiet letters modes) in
+      let ps = ap (λ cs. people_after us (Changed c letters modes) cs v.people) cs
+      ∙ all_persons_stay us (Changed c letters modes) v.channels v.people known (λ n. refl) in
+      λ i. record {
+        own = v.own;
+        ready = v.ready;
+        settings = v.settings;
+        channels = cs i;
+        people =
+            ps i;
+      }
 
-  pub after_mode : (letters : List LetterChange) (modes : List ModeChange) (ch : Channel) → fin.get v.channels c ≡ Some ch → (ms : fin.FinMap nat_cmp (Option Text)) (ps : fin.FinMap bytes_cmp (List ℕ)) →
-      ((letter : ℕ) → fin.get ms letter ≡ unwrap_or (last_in (setting_of letter) modes) (fin.get ch.modes letter)) →
+  pub after_mode : (letters : List LetterChange) (modes : List ModeChange) (ch : Channel)
+      → fin.get v.channels c ≡ Some ch
+      → (ms : fin.FinMap nat_cmp (Option Text)) (ps : fin.FinMap bytes_cmp (List ℕ)) →
+      ((letter : ℕ)
+      → fin.get ms letter
+      ≡ unwrap_or (last_in (setting_of letter) modes) (fin.get ch.modes letter)) →
       ((n : Text) → fin.get ps n ≡ option_map (ranks_changed letters n) (fin.get ch.members n)) →
-      after_told v (Changed c letters modes) ≡ record v { channels = fin.insert v.channels c (with_maps ch ms ps) }
+      after_told v (Changed c letters modes)
+      ≡ record v { channels = fin.insert v.channels c (with_maps ch ms ps) }
   after_mode letters modes ch e ms ps modes_are members_are =
       let t = Changed c letters modes in
       let is = with_maps ch ms ps in
       let here = same_refl c in
       let new = ap Some (channel_is us t c (Some ch) is refl
-      (λ letter. ap (λ b. unwrap_or (cond b (last_in (setting_of letter) modes) None) (fin.get ch.modes letter)) here ∙ sym (modes_are letter))
-      (λ n. ap (λ b. cond (is_some (fin.get ch.members n)) (Some (ranks_that (λ rank. unwrap_or (cond b (last_in (rank_in_change n rank) letters) None) (had_rank rank (fin.get ch.members n))))) None) here
+      (λ letter. ap
+      (λ b. unwrap_or (cond b (last_in (setting_of letter) modes) None)
+      (fin.get ch.modes letter)) here ∙ sym (modes_are letter))
+      (λ n. ap (λ b. cond (is_some (fin.get ch.members n))
+      (Some (ranks_that (λ rank. unwrap_or
+      (cond b (last_in (rank_in_change n rank) letters) None)
+      (had_rank rank (fin.get ch.members n))))) None) here
       ∙ by_member n (fin.get ch.members n) ∙ sym (members_are n))) in
       let cs = one_channel us t v.channels sets c ch is e new (change_quiet letters modes) in
-      let people = ap (λ cs. people_after us t cs v.people) cs ∙ all_persons_stay us t (fin.insert v.channels c is) v.people (still_known ch is e (λ n. ap is_some (members_are n) ∙ is_some_map (ranks_changed letters n) (fin.get ch.members n))) (λ n. refl) in
-      λ i. record { own = v.own; ready = v.ready; settings = v.settings; channels = cs i; people = people i } where
-        by_member : (n : Text) (o : Option (List ℕ)) → cond (is_some o) (Some (ranks_that (λ rank. unwrap_or (last_in (rank_in_change n rank) letters) (had_rank rank o)))) None ≡ option_map (ranks_changed letters n) o
+      let people =
+      ap (λ cs. people_after us t cs v.people) cs
+      ∙ all_persons_stay us t (fin.insert v.channels c is) v.people
+      (still_known ch is e (λ n. ap is_some (members_are n)
+      ∙ is_some_map (ranks_changed letters n) (fin.get ch.members n))) (λ n. refl)
+      in
+      λ i. record {
+        own = v.own;
+        ready = v.ready;
+        settings = v.settings;
+        channels = cs i;
+        people =
+            people i;
+      } where
+        by_member : (n : Text) (o : Option (List ℕ))
+            → cond (is_some o)
+            (Some (ranks_that (λ rank. unwrap_or (last_in (rank_in_change n rank) letters)
+            (had_rank rank o)))) None ≡ option_map (ranks_changed letters n) o
         by_member n None = refl
         by_member n (Some ranks) = refl
 
   -- ---- 324
 
-  list_quiet : (modes : List ModeChange) (d : Text) → same d c ≡ false → IsQuiet us (Listed c modes) d
-  list_quiet modes d e = record { on = refl; topic = refl; mode = λ letter. ap (λ b. cond b (Some (unwrap_or (last_in (setting_of letter) modes) None)) None) e; member = λ n. refl; rank = λ n rank. refl; name = λ n. refl }
+  list_quiet : (modes : List ModeChange) (d : Text) → same d c ≡ false
+      → IsQuiet us (Listed c modes) d
+  list_quiet modes d e =
+      record {
+        on = refl;
+        topic = refl;
+        mode =
+            λ letter. ap
+            (λ b. cond b (Some (unwrap_or (last_in (setting_of letter) modes) None)) None) e;
+        member = λ n. refl;
+        rank = λ n rank. refl;
+        name = λ n. refl;
+      }
 
-  pub after_modes_elsewhere : (modes : List ModeChange) → fin.get v.channels c ≡ None → after_told v (Listed c modes) ≡ v
+  pub after_modes_elsewhere : (modes : List ModeChange) → fin.get v.channels c ≡ None
+      → after_told v (Listed c modes) ≡ v
   after_modes_elsewhere modes e =
       let cs = no_channel us (Listed c modes) v.channels sets c e refl (list_quiet modes) in
-      let ps = ap (λ cs. people_after us (Listed c modes) cs v.people) cs ∙ all_persons_stay us (Listed c modes) v.channels v.people known (λ n. refl) in
-      λ i. record { own = v.own; ready = v.ready; settings = v.settings; channels = cs i; people = ps i }
+      let ps = ap (λ cs. people_after us (Listed c modes) cs v.people) cs
+      ∙ all_persons_stay us (Listed c modes) v.channels v.people known (λ n. refl) in
+      λ i. record {
+        own = v.own;
+        ready = v.ready;
+        settings = v.settings;
+        channels = cs i;
+        people =
+            ps i;
+      }
 
-  pub after_modes : (modes : List ModeChange) (ch : Channel) → fin.get v.channels c ≡ Some ch → (ms : fin.FinMap nat_cmp (Option Text)) →
+  pub after_modes : (modes : List ModeChange) (ch : Channel) → fin.get v.channels c ≡ Some ch
+      → (ms : fin.FinMap nat_cmp (Option Text)) →
       ((letter : ℕ) → fin.get ms letter ≡ unwrap_or (last_in (setting_of letter) modes) None) →
-      after_told v (Listed c modes) ≡ record v { channels = fin.insert v.channels c (with_maps ch ms ch.members) }
+      after_told v (Listed c modes)
+      ≡ record v { channels = fin.insert v.channels c (with_maps ch ms ch.members) }
   after_modes modes ch e ms modes_are =
       let t = Listed c modes in
       let is = with_maps ch ms ch.members in
       let new = ap Some (channel_is us t c (Some ch) is refl
-      (λ letter. ap (λ b. unwrap_or (cond b (Some (unwrap_or (last_in (setting_of letter) modes) None)) None) (fin.get ch.modes letter)) (same_refl c) ∙ sym (modes_are letter))
+      (λ letter. ap
+      (λ b. unwrap_or (cond b (Some (unwrap_or (last_in (setting_of letter) modes) None)) None)
+      (fin.get ch.modes letter)) (same_refl c) ∙ sym (modes_are letter))
       (λ n. member_stays (fin.get ch.members n) (sets c ch e n))) in
       let cs = one_channel us t v.channels sets c ch is e new (list_quiet modes) in
-      let people = ap (λ cs. people_after us t cs v.people) cs ∙ all_persons_stay us t (fin.insert v.channels c is) v.people (still_known ch is e (λ n. refl)) (λ n. refl) in
-      λ i. record { own = v.own; ready = v.ready; settings = v.settings; channels = cs i; people = people i }
+      let people =
+      ap (λ cs. people_after us t cs v.people) cs
+      ∙ all_persons_stay us t (fin.insert v.channels c is) v.people
+      (still_known ch is e (λ n. refl)) (λ n. refl) in
+      λ i. record {
+        own = v.own;
+        ready = v.ready;
+        settings = v.settings;
+        channels = cs i;
+        people =
+            people i;
+      }

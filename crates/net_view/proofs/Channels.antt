@@ -21,21 +21,36 @@ use Rattle.net_view.proofs.Tests.{cond_and_false}
 use Rattle.net_view.proofs.Keys.{bytes_exact}
 use Rattle.net_view.proofs.Covers.{covers_on, covers_mode, covers_member}
 
-pub members_get : (items : List Reading) (c n : Text) → fin.get (table bytes_cmp (named people_in items) (member_of items c)) n ≡ member_of items c n
-members_get items c = table_gets nat_list_cmp_total bytes_exact (named people_in items) (member_of items c) (λ n h.
-    ap (λ b. cond (is_some (name_on items c) && b) (Some (ranks_that (rank_decided items c n))) None) (covers_member items c n h)
-    ∙ cond_and_false (is_some (name_on items c)) false (Some (ranks_that (rank_decided items c n))) None refl)
+pub members_get : (items : List Reading) (c n : Text)
+    → fin.get (table bytes_cmp (named people_in items) (member_of items c)) n ≡ member_of items c n
+members_get items c =
+    table_gets nat_list_cmp_total bytes_exact (named people_in items) (member_of items c) (λ n h.
+    ap (λ b. cond (is_some (name_on items c)
+    && b) (Some (ranks_that (rank_decided items c n))) None) (covers_member items c n h)
+    ∙ cond_and_false (is_some (name_on items c)) false (Some (ranks_that (rank_decided items c n)))
+    None refl)
 
-pub modes_get : (items : List Reading) (c : Text) (letter : ℕ) → fin.get (table nat_cmp (named letters_in items) (mode_of items c)) letter ≡ mode_of items c letter
-modes_get items c = table_gets nat_cmp_total fin.nat_cmp-IsAntisymmetric (named letters_in items) (mode_of items c) (covers_mode items c)
+pub modes_get : (items : List Reading) (c : Text) (letter : ℕ)
+    → fin.get (table nat_cmp (named letters_in items) (mode_of items c)) letter
+    ≡ mode_of items c letter
+modes_get items c =
+    table_gets nat_cmp_total fin.nat_cmp-IsAntisymmetric (named letters_in items) (mode_of items c)
+    (covers_mode items c)
 
-pub member_of_none : (items : List Reading) (c n : Text) → list_any (same n) (named people_in items) ≡ false → member_of items c n ≡ None
+pub member_of_none : (items : List Reading) (c n : Text)
+    → list_any (same n) (named people_in items) ≡ false → member_of items c n ≡ None
 member_of_none items c n h =
-    ap (λ b. cond (is_some (name_on items c) && b) (Some (ranks_that (rank_decided items c n))) None) (covers_member items c n h)
-    ∙ cond_and_false (is_some (name_on items c)) false (Some (ranks_that (rank_decided items c n))) None refl
+    ap (λ b. cond (is_some (name_on items c)
+    && b) (Some (ranks_that (rank_decided items c n))) None) (covers_member items c n h)
+    ∙ cond_and_false (is_some (name_on items c)) false (Some (ranks_that (rank_decided items c n)))
+    None refl
 
-pub channels_get : (items : List Reading) (c : Text) → fin.get (channels_of items) c ≡ channel_of items c
-channels_get items = table_gets nat_list_cmp_total bytes_exact (named channels_in items) (channel_of items) (λ c h. ap (option_map (channel_named items c)) (covers_on items c h))
+pub channels_get : (items : List Reading) (c : Text)
+    → fin.get (channels_of items) c ≡ channel_of items c
+channels_get items =
+    table_gets nat_list_cmp_total bytes_exact (named channels_in items) (channel_of items)
+    (λ c h. ap (option_map (channel_named items c)) (covers_on items c h))
 
-pub channel_none : (items : List Reading) (c : Text) → list_any (same c) (named channels_in items) ≡ false → channel_of items c ≡ None
+pub channel_none : (items : List Reading) (c : Text)
+    → list_any (same c) (named channels_in items) ≡ false → channel_of items c ≡ None
 channel_none items c h = ap (option_map (channel_named items c)) (covers_on items c h)

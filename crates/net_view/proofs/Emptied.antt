@@ -18,12 +18,16 @@ use Rattle.net_view.specs.Step.{standing_of, after_told, channel_from, channel_a
 use Rattle.net_view.proofs.Keys.{bytes_exact}
 use Rattle.net_view.proofs.StepLaw.{view_step}
 
-pub no_channels : (us : Text → Bool) (t : Told) (cs : fin.FinMap bytes_cmp Channel) → ((c : Text) → ends us t c ≡ true) → channels_after us t cs ≡ fin.empty
+pub no_channels : (us : Text → Bool) (t : Told) (cs : fin.FinMap bytes_cmp Channel)
+    → ((c : Text) → ends us t c ≡ true) → channels_after us t cs ≡ fin.empty
 unfolding table
 no_channels us t cs off =
     let gone : (c : Text) → channel_after us t c (fin.get cs c) ≡ None =
-    λ c. ap (λ b. option_map (channel_from us t c (fin.get cs c)) (unwrap_or (cond b (Some None) (option_map Some (begins us t c))) (option_map (λ (ch : Channel). ch.name) (fin.get cs c)))) (off c) in
-    same_tables nat_list_cmp_total bytes_exact (channels_in t ++ fin.keys cs) [] (λ c. channel_after us t c (fin.get cs c)) (λ _. None)
+    λ c. ap (λ b. option_map (channel_from us t c (fin.get cs c))
+    (unwrap_or (cond b (Some None) (option_map Some (begins us t c)))
+    (option_map (λ (ch : Channel). ch.name) (fin.get cs c)))) (off c) in
+    same_tables nat_list_cmp_total bytes_exact (channels_in t
+    ++ fin.keys cs) [] (λ c. channel_after us t c (fin.get cs c)) (λ _. None)
     gone (λ c h. gone c) (λ c h. refl)
 
 no_items : {A : Type 0} (xs : List A) → length xs ≡ 0 → xs ≡ []
@@ -31,24 +35,47 @@ no_items [] e = refl
 no_items (x ∷ xs) e = cc
 
 pub no_keys : fin.keys (fin.empty {X = Channel} {R = bytes_cmp}) ≡ []
-no_keys = ap (map (λ (e : Text × Channel). e.0)) (no_items (fin.entries (fin.empty {X = Channel} {R = bytes_cmp})) (sym (fin.len-entries (fin.empty {X = Channel} {R = bytes_cmp})) ∙ fin.len-empty bytes_cmp Channel))
+no_keys =
+    ap (map (λ (e : Text × Channel). e.0))
+    (no_items (fin.entries (fin.empty {X = Channel} {R =
+    bytes_cmp})) (sym (fin.len-entries (fin.empty {X = Channel} {R = bytes_cmp}))
+    ∙ fin.len-empty bytes_cmp Channel))
 
 -- where there is no channel nobody is known
-pub no_people : (us : Text → Bool) (t : Told) (old : fin.FinMap bytes_cmp Person) → people_after us t fin.empty old ≡ fin.empty
+pub no_people : (us : Text → Bool) (t : Told) (old : fin.FinMap bytes_cmp Person)
+    → people_after us t fin.empty old ≡ fin.empty
 unfolding table
-no_people us t old = ap (λ keys. table bytes_cmp (members_at fin.empty keys) (person_after us t fin.empty old)) no_keys
+no_people us t old =
+    ap (λ keys. table bytes_cmp (members_at fin.empty keys) (person_after us t fin.empty old))
+    no_keys
 
 -- a view of which the standing alone is left
 abbrev pub alone : Standing → View
-alone s = record { own = s.own; ready = s.ready; settings = s.settings; channels = fin.empty; people = fin.empty }
+alone s =
+    record {
+      own = s.own;
+      ready = s.ready;
+      settings = s.settings;
+      channels = fin.empty;
+      people =
+          fin.empty;
+    }
 
-pub emptied : (v : View) (t : Told) → ((c : Text) → ends (is_us (standing_of v)) t c ≡ true) → after_told v t ≡ alone (standing_after t (standing_of v))
+pub emptied : (v : View) (t : Told) → ((c : Text) → ends (is_us (standing_of v)) t c ≡ true)
+    → after_told v t ≡ alone (standing_after t (standing_of v))
 emptied v t off =
     let us = is_us (standing_of v) in
     let s = standing_after t (standing_of v) in
     let cs = no_channels us t v.channels off in
     let ps = ap (λ c. people_after us t c v.people) cs ∙ no_people us t v.people in
-    λ i. record { own = s.own; ready = s.ready; settings = s.settings; channels = cs i; people = ps i }
+    λ i. record {
+      own = s.own;
+      ready = s.ready;
+      settings = s.settings;
+      channels = cs i;
+      people =
+          ps i;
+    }
 
 pub view_lost : (items : List Arrival) → view_of (items ++ Lost ∷ []) ≡ lost_view (view_of items)
 unfolding after told

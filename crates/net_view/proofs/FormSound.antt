@@ -1,4 +1,5 @@
--- What every view is like, so that what is written of it is read back: tokens, letters of modes, ranks.
+-- What every view is like, so that what is written of it is read back: tokens, letters of modes,
+-- ranks.
 use Rattle.std.specs.Prelude.{◌≡◌, ℕ, Bool, true, false, cond, ◌||◌, List, [], ◌∷◌, map, drop, slice_get, IfSome, reverse, codes}
 use Rattle.std.specs.List.{list_any, filter_map, cons_option}
 use Rattle.std.specs.Option.{option_map, option_and_then, unwrap_or}
@@ -38,18 +39,38 @@ use Rattle.net_view.proofs.Channels.{modes_get, members_get, channels_get}
 
 -- a letter that is none is not a sign
 apart : (q b : ℕ) → is_sign q ≡ true → is_sign b ≡ false → eq_by_cmp nat_cmp q b ≡ false
-apart q b sign other = elim (eq_by_cmp nat_cmp q b) as (λ v. eq_by_cmp nat_cmp q b ≡ v → v ≡ false) [
-  | true ↦ λ e. absurd (no_true (sym other ∙ ap is_sign (sym (fin.nat_cmp-IsAntisymmetric q b (is_equal (nat_cmp q b) e))) ∙ sign))
-  | false ↦ λ e. refl
-] refl
+apart q b sign other =
+    elim (eq_by_cmp nat_cmp q b) as (λ v. eq_by_cmp nat_cmp q b ≡ v → v ≡ false) [
+      | true ↦ λ e. absurd
+          (no_true (sym other
+          ∙ ap is_sign (sym (fin.nat_cmp-IsAntisymmetric q b (is_equal (nat_cmp q b) e))) ∙ sign))
+      | false ↦ λ e. refl
+    ] refl
 
-kept_unsigned : (q : ℕ) → is_sign q ≡ true → (settings : List Token) (cs : List ChangeParts) → Each (λ (change : ChangeParts). is_sign change.letter ≡ false) cs → list_any (eq_by_cmp nat_cmp q) (map (λ (m : ModeChange). m.letter) (filter_map (mode_change settings) cs)) ≡ false
+kept_unsigned : (q : ℕ) → is_sign q ≡ true → (settings : List Token) (cs : List ChangeParts)
+    → Each (λ (change : ChangeParts). is_sign change.letter ≡ false) cs
+    → list_any (eq_by_cmp nat_cmp q)
+    (map (λ (m : ModeChange). m.letter) (filter_map (mode_change settings) cs)) ≡ false
 kept_unsigned q sign settings [] each = refl
-kept_unsigned q sign settings (c ∷ cs) each = one (setting_by (kind_of settings c.letter) c.plus c.param) (kept_unsigned q sign settings cs (each.1)) where
-  one : (o : Option (Option (Option Text))) → list_any (eq_by_cmp nat_cmp q) (map (λ (m : ModeChange). m.letter) (filter_map (mode_change settings) cs)) ≡ false →
-      list_any (eq_by_cmp nat_cmp q) (map (λ (m : ModeChange). m.letter) (cons_option (option_map (λ setting. record { letter = c.letter; setting = setting }) o) (filter_map (mode_change settings) cs))) ≡ false
-  one None h = h
-  one (Some s) h = ap (λ b. b || list_any (eq_by_cmp nat_cmp q) (map (λ (m : ModeChange). m.letter) (filter_map (mode_change settings) cs))) (apart q c.letter sign (each.0)) ∙ h
+kept_unsigned q sign settings (c ∷ cs) each =
+    one (setting_by (kind_of settings c.letter) c.plus c.param)
+    (kept_unsigned q sign settings cs (each.1)) where
+      one : (o : Option (Option (Option Text)))
+          → list_any (eq_by_cmp nat_cmp q)
+          (map (λ (m : ModeChange). m.letter) (filter_map (mode_change settings) cs)) ≡ false →
+          list_any (eq_by_cmp nat_cmp q)
+          (map (λ (m : ModeChange). m.letter)
+          (cons_option (option_map (λ setting. record {
+            letter = c.letter;
+            setting =
+                setting;
+          }) o) (filter_map (mode_change settings) cs))) ≡ false
+      one None h = h
+      one (Some s) h =
+          ap (λ b. b
+          || list_any (eq_by_cmp nat_cmp q)
+          (map (λ (m : ModeChange). m.letter) (filter_map (mode_change settings) cs)))
+          (apart q c.letter sign (each.0)) ∙ h
 
 -- ---- no item decides a sign
 
@@ -57,14 +78,17 @@ module _ (q : ℕ) (sign : is_sign q ≡ true) where
   abbrev IsUnsigned : Told → Type 0
   IsUnsigned t = list_any (eq_by_cmp nat_cmp q) (letters_in t) ≡ false
 
-  by_default : (o : Option Told) (d : Told) → IfSome o IsUnsigned → IsUnsigned d → IsUnsigned (unwrap_or o d)
+  by_default : (o : Option Told) (d : Told) → IfSome o IsUnsigned → IsUnsigned d
+      → IsUnsigned (unwrap_or o d)
   by_default None d h k = k
   by_default (Some t) d h k = h
 
-  by_param : (line : Parts) (i : ℕ) (give : Text → Option Told) → ((text : Text) → IfSome (give text) IsUnsigned) → IfSome (with line i give) IsUnsigned
+  by_param : (line : Parts) (i : ℕ) (give : Text → Option Told)
+      → ((text : Text) → IfSome (give text) IsUnsigned) → IfSome (with line i give) IsUnsigned
   by_param line i give h = then_sound IsUnsigned (slice_get line.params i) give h
 
-  by_some : {X : Type 0} (o : Option X) (f : X → Told) → ((x : X) → IsUnsigned (f x)) → IfSome (option_map f o) IsUnsigned
+  by_some : {X : Type 0} (o : Option X) (f : X → Told) → ((x : X) → IsUnsigned (f x))
+      → IfSome (option_map f o) IsUnsigned
   by_some None f h = tt
   by_some (Some x) f h = h x
 
@@ -72,57 +96,115 @@ module _ (q : ℕ) (sign : is_sign q ≡ true) where
   either true t u h k = h
   either false t u h k = k
 
-  modes_unsigned : (settings : List Token) (params : List Text) → list_any (eq_by_cmp nat_cmp q) (map (λ (m : ModeChange). m.letter) (filter_map (mode_change settings) (changes settings params))) ≡ false
-  modes_unsigned settings params = kept_unsigned q sign settings (changes settings params) (changes_unsigned settings params)
+  modes_unsigned : (settings : List Token) (params : List Text)
+      → list_any (eq_by_cmp nat_cmp q)
+      (map (λ (m : ModeChange). m.letter)
+      (filter_map (mode_change settings) (changes settings params))) ≡ false
+  modes_unsigned settings params =
+      kept_unsigned q sign settings (changes settings params) (changes_unsigned settings params)
 
-  line_unsigned : (settings : List Token) (line : Parts) → IsUnsigned (told settings (Received line))
+  line_unsigned : (settings : List Token) (line : Parts)
+      → IsUnsigned (told settings (Received line))
   unfolding told state_lines
   line_unsigned settings line =
-      either (has_command line (codes "001")) _ _ (by_default _ Silent (by_param line 0 _ (λ nick. when_sound IsUnsigned (is_nameable nick) _ (λ _. refl))) refl)
+      either (has_command line (codes "001")) _ _
+      (by_default _ Silent
+      (by_param line 0 _ (λ nick. when_sound IsUnsigned (is_nameable nick) _ (λ _. refl)))
+      refl)
       (either (has_command line (codes "005")) _ _ refl
       (either (has_command line (codes "376")) _ _ refl
       (either (has_command line (codes "422")) _ _ refl
-      (either (has_command line (codes "JOIN")) _ _ (by_default _ Settles (by_param line 0 _ (λ c. by_some (actor settings line) _ (λ who. refl))) refl)
-      (either (has_command line (codes "PART")) _ _ (by_default _ Silent (by_param line 0 _ (λ c. by_some (actor settings line) (λ (who : Name). Parted (key_by settings c) who.key) (λ who. refl))) refl)
-      (either (has_command line (codes "KICK")) _ _ (by_default _ Silent (by_param line 0 _ (λ c. by_param line 1 _ (λ nick. by_some (nameable settings nick) (λ (who : Name). Kicked (key_by settings c) who.key) (λ who. refl)))) refl)
-      (either (has_command line (codes "QUIT")) _ _ (by_default _ Silent (by_some (actor settings line) (λ (who : Name). Quits who.key) (λ who. refl)) refl)
-      (either (has_command line (codes "NICK")) _ _ (by_default _ Silent (by_param line 0 _ (λ nick. then_sound IsUnsigned (actor settings line) _ (λ (old : Name). by_some (nameable settings nick) (Renamed old.key) (λ new. refl)))) refl)
-      (either (has_command line (codes "MODE")) _ _ (by_default _ Silent (by_param line 0 _ (λ c. modes_unsigned settings (drop 1 line.params))) refl)
-      (either (has_command line (codes "324")) _ _ (by_default _ Silent (by_param line 1 _ (λ c. modes_unsigned settings (drop 2 line.params))) refl)
-      (either (has_command line (codes "TOPIC")) _ _ (by_default _ Silent (by_param line 0 _ (λ c. by_param line 1 _ (λ text. refl))) refl)
-      (either (has_command line (codes "332")) _ _ (by_default _ Silent (by_param line 1 _ (λ c. by_param line 2 _ (λ text. refl))) refl)
-      (either (has_command line (codes "331")) _ _ (by_default _ Silent (by_param line 1 _ (λ c. refl)) refl)
-      (either (has_command line (codes "353")) _ _ (by_default _ Silent (by_param line 2 _ (λ c. refl)) refl)
-      (either (has_command line (codes "ACCOUNT")) _ _ (by_default _ Silent (then_sound IsUnsigned (actor settings line) _ (λ (who : Name). by_param line 0 _ (λ text. by_some (account_said text) (HasAccount who.key) (λ a. refl)))) refl)
-      (either (has_command line (codes "AWAY")) _ _ (by_default _ Silent (by_some (actor settings line) (λ (who : Name). IsAway who.key (with line 0 unless_empty)) (λ who. refl)) refl) refl))))))))))))))))
+      (either (has_command line (codes "JOIN")) _ _
+      (by_default _ Settles
+      (by_param line 0 _ (λ c. by_some (actor settings line) _ (λ who. refl))) refl)
+      (either (has_command line (codes "PART")) _ _
+      (by_default _ Silent
+      (by_param line 0 _
+      (λ c. by_some (actor settings line)
+      (λ (who : Name). Parted (key_by settings c) who.key) (λ who. refl))) refl)
+      (either (has_command line (codes "KICK")) _ _
+      (by_default _ Silent
+      (by_param line 0 _
+      (λ c. by_param line 1 _
+      (λ nick. by_some (nameable settings nick)
+      (λ (who : Name). Kicked (key_by settings c) who.key) (λ who. refl))))
+      refl)
+      (either (has_command line (codes "QUIT")) _ _
+      (by_default _ Silent
+      (by_some (actor settings line) (λ (who : Name). Quits who.key) (λ who. refl)) refl)
+      (either (has_command line (codes "NICK")) _ _
+      (by_default _ Silent
+      (by_param line 0 _
+      (λ nick. then_sound IsUnsigned (actor settings line) _
+      (λ (old : Name). by_some (nameable settings nick) (Renamed old.key)
+      (λ new. refl)))) refl)
+      (either (has_command line (codes "MODE")) _ _
+      (by_default _ Silent
+      (by_param line 0 _ (λ c. modes_unsigned settings (drop 1 line.params))) refl)
+      (either (has_command line (codes "324")) _ _
+      (by_default _ Silent
+      (by_param line 1 _ (λ c. modes_unsigned settings (drop 2 line.params))) refl)
+      (either (has_command line (codes "TOPIC")) _ _
+      (by_default _ Silent (by_param line 0 _ (λ c. by_param line 1 _ (λ text. refl))) refl)
+      (either (has_command line (codes "332")) _ _
+      (by_default _ Silent (by_param line 1 _ (λ c. by_param line 2 _ (λ text. refl))) refl)
+      (either (has_command line (codes "331")) _ _
+      (by_default _ Silent (by_param line 1 _ (λ c. refl)) refl)
+      (either (has_command line (codes "353")) _ _
+      (by_default _ Silent (by_param line 2 _ (λ c. refl)) refl)
+      (either (has_command line (codes "ACCOUNT")) _ _
+      (by_default _ Silent
+      (then_sound IsUnsigned (actor settings line) _
+      (λ (who : Name). by_param line 0 _
+      (λ text. by_some (account_said text) (HasAccount who.key) (λ a. refl)))) refl)
+      (either (has_command line (codes "AWAY")) _ _
+      (by_default _ Silent
+      (by_some (actor settings line)
+      (λ (who : Name). IsAway who.key (with line 0 unless_empty)) (λ who. refl)) refl)
+      refl))))))))))))))))
 
   told_unsigned : (settings : List Token) (x : Arrival) → IsUnsigned (told settings x)
   unfolding told
   told_unsigned settings (Received line) = line_unsigned settings line
   told_unsigned settings Lost = refl
 
-  named_unsigned : (items : List Arrival) → list_any (eq_by_cmp nat_cmp q) (named letters_in (readings_of items)) ≡ false
+  named_unsigned : (items : List Arrival)
+      → list_any (eq_by_cmp nat_cmp q) (named letters_in (readings_of items)) ≡ false
   named_unsigned [] = refl
   named_unsigned (x ∷ older) =
-      any_append (eq_by_cmp nat_cmp q) (letters_in (told (settings_of older) x)) (named letters_in (readings_of older))
-      ∙ ap (λ b. b || list_any (eq_by_cmp nat_cmp q) (named letters_in (readings_of older))) (told_unsigned (settings_of older) x)
+      any_append (eq_by_cmp nat_cmp q) (letters_in (told (settings_of older) x))
+      (named letters_in (readings_of older))
+      ∙ ap (λ b. b
+      || list_any (eq_by_cmp nat_cmp q) (named letters_in (readings_of older)))
+      (told_unsigned (settings_of older) x)
       ∙ named_unsigned older
 
 -- the letters of a channel's modes are no signs
-pub letters_unsigned : (items : List Arrival) (c : Text) (ch : Channel) → fin.get (view_of items).channels c ≡ Some ch → (letter : ℕ) (param : Option Text) → fin.get ch.modes letter ≡ Some param → is_sign letter ≡ false
+pub letters_unsigned : (items : List Arrival) (c : Text) (ch : Channel)
+    → fin.get (view_of items).channels c ≡ Some ch → (letter : ℕ) (param : Option Text)
+    → fin.get ch.modes letter ≡ Some param → is_sign letter ≡ false
 unfolding view_of
-letters_unsigned items c ch at letter param on = elim (is_sign letter) as (λ b. is_sign letter ≡ b → b ≡ false) [
-  | true ↦ λ sign.
-      let none : mode_of (readings_of (reverse items)) c letter ≡ None = covers_mode (readings_of (reverse items)) c letter (named_unsigned letter sign (reverse items)) in
-      absurd (no_some param (sym (in_channel (name_on (readings_of (reverse items)) c) (sym (channels_get (readings_of (reverse items)) c) ∙ at) ∙ none) ∙ on))
-  | false ↦ λ e. refl
-] refl where
-  no_some : {X : Type 0} (x : X) → None ≡ Some x → ⊥
-  no_some x e = cc
+letters_unsigned items c ch at letter param on =
+    elim (is_sign letter) as (λ b. is_sign letter ≡ b → b ≡ false) [
+      | true ↦ λ sign.
+          let none : mode_of (readings_of (reverse items)) c letter ≡ None =
+          covers_mode (readings_of (reverse items)) c letter
+          (named_unsigned letter sign (reverse items)) in
+          absurd (no_some param
+          (sym (in_channel (name_on (readings_of (reverse items)) c)
+          (sym (channels_get (readings_of (reverse items)) c) ∙ at) ∙ none) ∙ on))
+      | false ↦ λ e. refl
+    ] refl where
+      no_some : {X : Type 0} (x : X) → None ≡ Some x → ⊥
+      no_some x e = cc
 
-  in_channel : (o : Option Text) → option_map (channel_named (readings_of (reverse items)) c) o ≡ Some ch → fin.get ch.modes letter ≡ mode_of (readings_of (reverse items)) c letter
-  in_channel None e = cc
-  in_channel (Some name) e = ap (λ (o : Option Channel). unwrap_or (option_map (λ (x : Channel). fin.get x.modes letter) o) None) (sym e) ∙ modes_get (readings_of (reverse items)) c letter
+      in_channel : (o : Option Text)
+          → option_map (channel_named (readings_of (reverse items)) c) o ≡ Some ch
+          → fin.get ch.modes letter ≡ mode_of (readings_of (reverse items)) c letter
+      in_channel None e = cc
+      in_channel (Some name) e =
+          ap (λ (o : Option Channel). unwrap_or (option_map (λ (x : Channel). fin.get x.modes letter) o)
+          None) (sym e) ∙ modes_get (readings_of (reverse items)) c letter
 
 -- ---- tokens in force
 
@@ -138,24 +220,37 @@ tokens_after _ s all = all
 -- the tokens in force are of their form, after any items
 pub tokens_formed : (items : List Arrival) → AreTokens (settings_of items)
 tokens_formed [] = tt
-tokens_formed (x ∷ older) = tokens_after (told (standing older).settings x) (standing older) (tokens_formed older)
+tokens_formed (x ∷ older) =
+    tokens_after (told (standing older).settings x) (standing older) (tokens_formed older)
 
 -- ---- ranks of a view are sets
 
-ranked : (test : ℕ → Bool) (b : Bool) (ranks : List ℕ) → cond b (Some (ranks_that test)) None ≡ Some ranks → ranks_that (has_rank ranks) ≡ ranks
-ranked test true ranks e = subst (λ r. ranks_that (has_rank r) ≡ r) (some_is (ranks_that test) ranks e) (sym (ranks_that-has_rank test)) where
-  some_is : (a b : List ℕ) → Some a ≡ Some b → a ≡ b
-  some_is a b e = cc
+ranked : (test : ℕ → Bool) (b : Bool) (ranks : List ℕ)
+    → cond b (Some (ranks_that test)) None ≡ Some ranks → ranks_that (has_rank ranks) ≡ ranks
+ranked test true ranks e =
+    subst (λ r. ranks_that (has_rank r)
+    ≡ r) (some_is (ranks_that test) ranks e) (sym (ranks_that-has_rank test)) where
+      some_is : (a b : List ℕ) → Some a ≡ Some b → a ≡ b
+      some_is a b e = cc
 ranked test false ranks e = cc
 
-pub view_ranked : (items : List Arrival) (c : Text) (ch : Channel) → fin.get (view_of items).channels c ≡ Some ch → (n : Text) (ranks : List ℕ) → fin.get ch.members n ≡ Some ranks → ranks_that (has_rank ranks) ≡ ranks
+pub view_ranked : (items : List Arrival) (c : Text) (ch : Channel)
+    → fin.get (view_of items).channels c ≡ Some ch → (n : Text) (ranks : List ℕ)
+    → fin.get ch.members n ≡ Some ranks → ranks_that (has_rank ranks) ≡ ranks
 unfolding view_of
 view_ranked items c ch at n ranks h =
     let rs = readings_of (reverse items) in
-    ranked (rank_decided rs c n) (is_member rs c n) ranks (sym (members_get rs c n) ∙ in_named (name_on rs c) (sym (channels_get rs c) ∙ at)) where
-      in_named : (o : Option Text) → option_map (channel_named (readings_of (reverse items)) c) o ≡ Some ch → fin.get (table bytes_cmp (named people_in (readings_of (reverse items))) (member_of (readings_of (reverse items)) c)) n ≡ Some ranks
+    ranked (rank_decided rs c n) (is_member rs c n) ranks (sym (members_get rs c n)
+    ∙ in_named (name_on rs c) (sym (channels_get rs c) ∙ at)) where
+      in_named : (o : Option Text)
+          → option_map (channel_named (readings_of (reverse items)) c) o ≡ Some ch
+          → fin.get
+          (table bytes_cmp (named people_in (readings_of (reverse items)))
+          (member_of (readings_of (reverse items)) c)) n ≡ Some ranks
       in_named None e = cc
-      in_named (Some name) e = ap (λ (o : Option Channel). option_and_then (λ (x : Channel). fin.get x.members n) o) e ∙ h
+      in_named (Some name) e =
+          ap (λ (o : Option Channel). option_and_then (λ (x : Channel). fin.get x.members n) o) e
+          ∙ h
 
 -- ---- the whole
 

@@ -19,16 +19,20 @@ pub is_same : (a b : Text) → same a b ≡ true → a ≡ b
 is_same a b e = bytes_exact a b (is_equal (bytes_cmp a b) e)
 
 -- a test that is met at a key is met in a list that has the key
-pub met_at : (p : Text → Bool) (k : Text) (ys : List Text) → p k ≡ true → list_any (same k) ys ≡ true → list_any p ys ≡ true
+pub met_at : (p : Text → Bool) (k : Text) (ys : List Text) → p k ≡ true
+    → list_any (same k) ys ≡ true → list_any p ys ≡ true
 met_at p k [] e h = cc
 met_at p k (y ∷ ys) e h =
-    elim (same k y) as (λ b. same k y ≡ b → (b || list_any (same k) ys) ≡ true → (p y || list_any p ys) ≡ true) [
+    elim (same k y) as (λ b. same k y ≡ b → (b || list_any (same k) ys) ≡ true
+    → (p y || list_any p ys) ≡ true) [
       | true ↦ λ s _. ap (λ b. b || list_any p ys) (ap p (sym (is_same k y s)) ∙ e)
       | false ↦ λ s r. or_right (p y) (list_any p ys) (met_at p k ys e r)
     ] refl h
 
 -- a test that is met only at keys of ys is met in ys, where it is met anywhere
-pub any_moved : (p : Text → Bool) (xs ys : List Text) → ((k : Text) → p k ≡ true → list_any (same k) ys ≡ true) → list_any p xs ≡ true → list_any p ys ≡ true
+pub any_moved : (p : Text → Bool) (xs ys : List Text)
+    → ((k : Text) → p k ≡ true → list_any (same k) ys ≡ true) → list_any p xs ≡ true
+    → list_any p ys ≡ true
 any_moved p [] ys in_ys h = cc
 any_moved p (x ∷ xs) ys in_ys h =
     elim (p x) as (λ b. p x ≡ b → (b || list_any p xs) ≡ true → list_any p ys ≡ true) [
@@ -36,7 +40,8 @@ any_moved p (x ∷ xs) ys in_ys h =
       | false ↦ λ e r. any_moved p xs ys in_ys r
     ] refl h
 
-pub not_kept : {K X : Type 0} {R : K → K → Ordering} (m : fin.FinMap R X) (q : K) → list_any (eq_by_cmp R q) (fin.keys m) ≡ false → fin.get m q ≡ None
+pub not_kept : {K X : Type 0} {R : K → K → Ordering} (m : fin.FinMap R X) (q : K)
+    → list_any (eq_by_cmp R q) (fin.keys m) ≡ false → fin.get m q ≡ None
 not_kept m q h = none_of_is_some (fin.get m q) (fin.contains_key-keys m q ∙ h)
 
 pub same_refl : (a : Text) → same a a ≡ true
@@ -45,4 +50,7 @@ same_refl a = ap is_eq (tied_itself nat_list_cmp_total a)
 -- a test that is met in a list is met at one of its keys
 pub some_key : (p : Text → Bool) (xs : List Text) → list_any p xs ≡ true → (k : Text) × (p k ≡ true)
 some_key p [] h = cc
-some_key p (x ∷ xs) h = elim (p x) as (λ b. p x ≡ b → (b || list_any p xs) ≡ true → (k : Text) × (p k ≡ true)) [ true ↦ λ e _. (x, e) | false ↦ λ e r. some_key p xs r ] refl h
+some_key p (x ∷ xs) h =
+    elim (p x) as (λ b. p x ≡ b → (b || list_any p xs) ≡ true
+    → (k : Text)
+    × (p k ≡ true)) [ true ↦ λ e _. (x, e) | false ↦ λ e r. some_key p xs r ] refl h

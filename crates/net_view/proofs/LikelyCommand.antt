@@ -1,5 +1,5 @@
--- A command of the state lines is known by its length, its first byte and its last one; and what a line of
--- none of them, or of just one, has for its command.
+-- A command of the state lines is known by its length, its first byte and its last one; and what a
+-- line of none of them, or of just one, has for its command.
 use Rattle.std.specs.Prelude.{◌≡◌, ◌≢◌, ℕ, ◌≤◌, Bool, true, false, cond, ◌||◌, List, [], ◌∷◌, length, get_or}
 use Rattle.std.specs.List.{find, list_any}
 use Rattle.std.specs.Option.{option_map, unwrap_or}
@@ -20,18 +20,26 @@ use Rattle.net_view.specs.declared.state_command.StateCommand.{StateCommand}
 use Rattle.net_view.specs.declared.state_command.StateCommand.TheVariants.{Welcome, Isupport, EndOfMotd, NoMotd, Join, Part, Kick, Quit, Nick, Mode, ModeReply, Topic, TopicReply, NoTopic, Names, Account, Away}
 
 -- two texts that differ in the case of letters alone
-folded : (a b : Text) → str_eq_ignore_ascii_case a b ≡ true → str_to_ascii_lowercase a ≡ str_to_ascii_lowercase b
+folded : (a b : Text) → str_eq_ignore_ascii_case a b ≡ true
+    → str_to_ascii_lowercase a ≡ str_to_ascii_lowercase b
 folded a b e = (bytes_eq-Decides (str_to_ascii_lowercase a) (str_to_ascii_lowercase b)).0 e
 
 pub same_length : (a b : Text) → str_eq_ignore_ascii_case a b ≡ true → length a ≡ length b
-same_length a b e = sym (length-map a to_ascii_lowercase) ∙ ap length (folded a b e) ∙ length-map b to_ascii_lowercase
+same_length a b e =
+    sym (length-map a to_ascii_lowercase) ∙ ap length (folded a b e)
+    ∙ length-map b to_ascii_lowercase
 
-pub same_byte : (a b : Text) → str_eq_ignore_ascii_case a b ≡ true → (i byte : ℕ) → byte ≡ get_or a i byte → to_ascii_lowercase byte ≡ get_or (str_to_ascii_lowercase b) i (to_ascii_lowercase byte)
+pub same_byte : (a b : Text) → str_eq_ignore_ascii_case a b ≡ true → (i byte : ℕ)
+    → byte ≡ get_or a i byte
+    → to_ascii_lowercase byte ≡ get_or (str_to_ascii_lowercase b) i (to_ascii_lowercase byte)
 same_byte a b e i byte h =
-    ap to_ascii_lowercase h ∙ sym (get_or-map to_ascii_lowercase a i byte) ∙ ap (λ t. get_or t i (to_ascii_lowercase byte)) (folded a b e)
+    ap to_ascii_lowercase h ∙ sym (get_or-map to_ascii_lowercase a i byte)
+    ∙ ap (λ t. get_or t i (to_ascii_lowercase byte)) (folded a b e)
 
 -- a numeric begins with 0, 3 or 4
-pub not_numeric : (it : StateCommand) (first : ℕ) → length (command_text it) ≡ 3 → first ≡ get_or (str_to_ascii_lowercase (command_text it)) 0 first → first ≢ 48 → first ≢ 51 → first ≢ 52 → ⊥
+pub not_numeric : (it : StateCommand) (first : ℕ) → length (command_text it) ≡ 3
+    → first ≡ get_or (str_to_ascii_lowercase (command_text it)) 0 first → first ≢ 48 → first ≢ 51
+    → first ≢ 52 → ⊥
 not_numeric Welcome first l e a b d = a e
 not_numeric Isupport first l e a b d = a e
 not_numeric EndOfMotd first l e a b d = b e
@@ -55,7 +63,11 @@ digit : (byte n : ℕ) → n ≤ 64 → to_ascii_lowercase byte ≡ n → byte �
 digit byte n h e = grind (arith, nat_tests)
 
 -- one that begins with 3 ends with 6, 4, 2, 1 or 3
-pub not_in_the_threes : (it : StateCommand) (first last : ℕ) → length (command_text it) ≡ 3 → first ≡ get_or (str_to_ascii_lowercase (command_text it)) 0 first → first ≡ 51 → to_ascii_lowercase last ≡ get_or (str_to_ascii_lowercase (command_text it)) 2 (to_ascii_lowercase last) → (((((Unit {0} × last ≢ 54) × last ≢ 52) × last ≢ 50) × last ≢ 49) × last ≢ 51) → ⊥
+pub not_in_the_threes : (it : StateCommand) (first last : ℕ) → length (command_text it) ≡ 3
+    → first ≡ get_or (str_to_ascii_lowercase (command_text it)) 0 first → first ≡ 51
+    → to_ascii_lowercase last
+    ≡ get_or (str_to_ascii_lowercase (command_text it)) 2 (to_ascii_lowercase last)
+    → (((((Unit {0} × last ≢ 54) × last ≢ 52) × last ≢ 50) × last ≢ 49) × last ≢ 51) → ⊥
 not_in_the_threes EndOfMotd first last l e is b ne = ne.0.0.0.0.1 (digit last 54 (omega arith) b)
 not_in_the_threes ModeReply first last l e is b ne = ne.0.0.0.1 (digit last 52 (omega arith) b)
 not_in_the_threes TopicReply first last l e is b ne = ne.0.0.1 (digit last 50 (omega arith) b)
@@ -74,20 +86,27 @@ not_in_the_threes Topic first last l e is b ne = cc
 not_in_the_threes Account first last l e is b ne = cc
 not_in_the_threes Away first last l e is b ne = cc
 
-none_found : {X : Type 0} (p : X → Bool) (xs : List X) → ((x : X) → p x ≡ true → ⊥) → find p xs ≡ None
+none_found : {X : Type 0} (p : X → Bool) (xs : List X) → ((x : X) → p x ≡ true → ⊥)
+    → find p xs ≡ None
 none_found p [] h = refl
-none_found p (x ∷ xs) h = elim (p x) as (λ b. p x ≡ b → cond b (Some x) (find p xs) ≡ None) [ true ↦ λ e. absurd (h x e) | false ↦ λ e. none_found p xs h ] refl
+none_found p (x ∷ xs) h =
+    elim (p x) as (λ b. p x ≡ b
+    → cond b (Some x) (find p xs)
+    ≡ None) [ true ↦ λ e. absurd (h x e) | false ↦ λ e. none_found p xs h ] refl
 
-one_found : {X : Type 0} (p : X → Bool) (it : X) (xs : List X) → ((x : X) → p x ≡ true → Some it ≡ Some x) → list_any p xs ≡ true → Some it ≡ find p xs
+one_found : {X : Type 0} (p : X → Bool) (it : X) (xs : List X)
+    → ((x : X) → p x ≡ true → Some it ≡ Some x) → list_any p xs ≡ true → Some it ≡ find p xs
 one_found p it [] h e = cc
 one_found p it (x ∷ xs) h e =
-    elim (p x) as (λ b. p x ≡ b → (b || list_any p xs) ≡ true → Some it ≡ cond b (Some x) (find p xs)) [
+    elim (p x) as (λ b. p x ≡ b → (b || list_any p xs) ≡ true
+    → Some it ≡ cond b (Some x) (find p xs)) [
       | true ↦ λ is _. h x is
       | false ↦ λ _ rest. one_found p it xs h rest
     ] refl e
 
 -- each of them is among them
-among : (p : StateCommand → Bool) (it : StateCommand) → p it ≡ true → list_any p state_commands ≡ true
+among : (p : StateCommand → Bool) (it : StateCommand) → p it ≡ true
+    → list_any p state_commands ≡ true
 unfolding state_commands
 among p Welcome e = search rules
 among p Isupport e = search rules
@@ -107,15 +126,20 @@ among p Names e = search rules
 among p Account e = search rules
 among p Away e = search rules
 
-pub is_none : (line : Parts) → ((it : StateCommand) → has_command line (command_text it) ≡ true → ⊥) → None ≡ state_command line
+pub is_none : (line : Parts) → ((it : StateCommand) → has_command line (command_text it) ≡ true → ⊥)
+    → None ≡ state_command line
 is_none line h = sym (none_found (λ it. has_command line (command_text it)) state_commands h)
 
-pub is_one : (line : Parts) (it : StateCommand) → ((x : StateCommand) → has_command line (command_text x) ≡ true → Some it ≡ Some x) → has_command line (command_text it) ≡ true → Some it ≡ state_command line
+pub is_one : (line : Parts) (it : StateCommand)
+    → ((x : StateCommand) → has_command line (command_text x) ≡ true → Some it ≡ Some x)
+    → has_command line (command_text it) ≡ true → Some it ≡ state_command line
 is_one line it h e =
     let has : StateCommand → Bool = λ x. has_command line (command_text x) in
     one_found has it state_commands h (among has it e)
 
 -- what is meant where something may be told
-pub meant_or : {A : Type 0} (settings : List Token) (found : Option (Telling A)) (t : Telling A) → meant settings (unwrap_or found t) ≡ unwrap_or (option_map (meant settings) found) (meant settings t)
+pub meant_or : {A : Type 0} (settings : List Token) (found : Option (Telling A)) (t : Telling A)
+    → meant settings (unwrap_or found t)
+    ≡ unwrap_or (option_map (meant settings) found) (meant settings t)
 meant_or settings None t = refl
 meant_or settings (Some u) t = refl

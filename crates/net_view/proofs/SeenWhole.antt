@@ -20,21 +20,30 @@ all_pass : (b shown : Bool) → (b && (true || shown)) ≡ b
 all_pass true shown = refl
 all_pass false shown = refl
 
-ranks_whole : (shown : ℕ → Bool) (ranks : List ℕ) → ranks_that (has_rank ranks) ≡ ranks → thinned_ranks all_caps shown ranks ≡ ranks
-ranks_whole shown ranks set = ap ranks_that (λ i rank. all_pass (has_rank ranks rank) (shown rank) i) ∙ set
+ranks_whole : (shown : ℕ → Bool) (ranks : List ℕ) → ranks_that (has_rank ranks) ≡ ranks
+    → thinned_ranks all_caps shown ranks ≡ ranks
+ranks_whole shown ranks set =
+    ap ranks_that (λ i rank. all_pass (has_rank ranks rank) (shown rank) i) ∙ set
 
-channels_whole : (items : List Arrival) (shown : Shown) → thinned_channels all_caps shown (view_of items).channels ≡ (view_of items).channels
+channels_whole : (items : List Arrival) (shown : Shown)
+    → thinned_channels all_caps shown (view_of items).channels ≡ (view_of items).channels
 channels_whole items shown =
     let cs = (view_of items).channels in
-    fin.same_map nat_list_cmp_total bytes_exact (thinned_channels all_caps shown cs) cs (λ c. get-thinned_channels all_caps shown cs c ∙ channel c (fin.get cs c) refl) where
-      member : (c n : Text) (o : Option (List ℕ)) → ((ranks : List ℕ) → o ≡ Some ranks → ranks_that (has_rank ranks) ≡ ranks) → option_map (thinned_ranks all_caps (shown c n)) o ≡ o
+    fin.same_map nat_list_cmp_total bytes_exact (thinned_channels all_caps shown cs) cs
+    (λ c. get-thinned_channels all_caps shown cs c ∙ channel c (fin.get cs c) refl) where
+      member : (c n : Text) (o : Option (List ℕ))
+          → ((ranks : List ℕ) → o ≡ Some ranks → ranks_that (has_rank ranks) ≡ ranks)
+          → option_map (thinned_ranks all_caps (shown c n)) o ≡ o
       member c n None sets = refl
       member c n (Some ranks) sets = ap Some (ranks_whole (shown c n) ranks (sets ranks refl))
 
-      channel : (c : Text) (o : Option Channel) → fin.get (view_of items).channels c ≡ o → option_map (thinned_channel all_caps shown c) o ≡ o
+      channel : (c : Text) (o : Option Channel) → fin.get (view_of items).channels c ≡ o
+          → option_map (thinned_channel all_caps shown c) o ≡ o
       channel c None e = refl
       channel c (Some ch) e =
-          let ms : (thinned_channel all_caps shown c ch).members ≡ ch.members = fin.same_map nat_list_cmp_total bytes_exact (thinned_channel all_caps shown c ch).members ch.members (λ n.
+          let ms : (thinned_channel all_caps shown c ch).members ≡ ch.members =
+          fin.same_map nat_list_cmp_total bytes_exact
+          (thinned_channel all_caps shown c ch).members ch.members (λ n.
           get-thinned_members all_caps shown c ch n
           ∙ member c n (fin.get ch.members n) (λ ranks is. view_ranked items c ch e n ranks is)) in
           λ i. Some (record { name = ch.name; topic = ch.topic; modes = ch.modes; members = ms i })
@@ -43,8 +52,11 @@ kept_whole : (o : Option Person) → option_map (kept_person all_caps) o ≡ o
 kept_whole None = refl
 kept_whole (Some p) = refl
 
-pub people_whole : (ps : fin.FinMap bytes_cmp Person) → table bytes_cmp (fin.keys ps) (λ n. option_map (kept_person all_caps) (fin.get ps n)) ≡ ps
-people_whole ps = fin.same_map nat_list_cmp_total bytes_exact _ ps (λ n. get-kept all_caps ps n ∙ kept_whole (fin.get ps n))
+pub people_whole : (ps : fin.FinMap bytes_cmp Person)
+    → table bytes_cmp (fin.keys ps) (λ n. option_map (kept_person all_caps) (fin.get ps n)) ≡ ps
+people_whole ps =
+    fin.same_map nat_list_cmp_total bytes_exact _ ps (λ n. get-kept all_caps ps n
+    ∙ kept_whole (fin.get ps n))
 
 pub seen_whole : (items : List Arrival) (a : ℕ) → seen_since items a all_caps ≡ view_of items
 unfolding seen_since kept_by
@@ -52,4 +64,11 @@ seen_whole items a =
     let v = view_of items in
     let cs = channels_whole items (was_shown (readings_of (reverse items)) (length items - a)) in
     let ps = people_whole v.people in
-    λ i. record { own = v.own; ready = v.ready; settings = v.settings; channels = cs i; people = ps i }
+    λ i. record {
+      own = v.own;
+      ready = v.ready;
+      settings = v.settings;
+      channels = cs i;
+      people =
+          ps i;
+    }

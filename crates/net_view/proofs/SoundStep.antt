@@ -37,44 +37,73 @@ use Rattle.net_view.proofs.OnSound.{on_after, channels_sound}
 -- ---- a person after the item
 
 -- where somebody is seen the settings have not changed
-settings_seen : (v : View) (t : Told) → IsSound v → IsSoundTold v.settings t → (n : Text) → is_seen (channels_after (is_us (standing_of v)) t v.channels) n ≡ true → settings_after t (standing_of v) ≡ v.settings
+settings_seen : (v : View) (t : Told) → IsSound v → IsSoundTold v.settings t → (n : Text)
+    → is_seen (channels_after (is_us (standing_of v)) t v.channels) n ≡ true
+    → settings_after t (standing_of v) ≡ v.settings
 settings_seen v t sound told n h =
     let us = is_us (standing_of v) in
     let at = seen_somewhere (channels_after us t v.channels) n h in
     let c = at.0 in
-    elim (unwrap_or (says_on c us t) (option_map (λ (ch : Channel). ch.name) (fin.get v.channels c))) as (λ o. unwrap_or (says_on c us t) (option_map (λ (ch : Channel). ch.name) (fin.get v.channels c)) ≡ o → is_some (old_member (option_map (channel_from us t c (fin.get v.channels c)) o) n) ≡ true → settings_after t (standing_of v) ≡ v.settings) [
+    elim (unwrap_or (says_on c us t)
+    (option_map (λ (ch : Channel). ch.name) (fin.get v.channels c))) as
+    (λ o. unwrap_or (says_on c us t)
+    (option_map (λ (ch : Channel). ch.name) (fin.get v.channels c)) ≡ o
+    → is_some
+    (old_member (option_map (channel_from us t c (fin.get v.channels c)) o) n)
+    ≡ true → settings_after t (standing_of v) ≡ v.settings) [
       | None ↦ λ e m. absurd (no_true m)
       | Some name ↦ λ e m. (on_after v t sound told c name e).settings
     ] refl (sym (ap (λ o. is_some (old_member o n)) (get-channels_after us t v.channels c)) ∙ at.1)
 
-old_field : (P : Text → Type 0) (field : Person → Option Text) (v : View) → ((n : Text) → IfSome (option_and_then field (fin.get v.people n)) P) → (nb : Option Text) → IfSome (option_and_then (λ m. option_and_then field (fin.get v.people m)) nb) P
+old_field : (P : Text → Type 0) (field : Person → Option Text) (v : View)
+    → ((n : Text) → IfSome (option_and_then field (fin.get v.people n)) P) → (nb : Option Text)
+    → IfSome (option_and_then (λ m. option_and_then field (fin.get v.people m)) nb) P
 old_field P field v h nb = of_next P nb (λ m. option_and_then field (fin.get v.people m)) h
 
-field_in : (P : Text → Type 0) (field : Person → Option Text) (o : Option Person) → ((p : Person) → o ≡ Some p → ForSome (field p) P) → IfSome (option_and_then field o) P
+field_in : (P : Text → Type 0) (field : Person → Option Text) (o : Option Person)
+    → ((p : Person) → o ≡ Some p → ForSome (field p) P) → IfSome (option_and_then field o) P
 field_in P field None h = tt
 field_in P field (Some p) h = if_some P (field p) (h p refl)
 
-people_sound : (v : View) (t : Told) → IsSound v → IsSoundTold v.settings t → (n : Text) → ForSome (fin.get (after_told v t).people n) (IsSoundPerson (after_told v t) n)
+people_sound : (v : View) (t : Told) → IsSound v → IsSoundTold v.settings t → (n : Text)
+    → ForSome (fin.get (after_told v t).people n) (IsSoundPerson (after_told v t) n)
 people_sound v t sound told n p h =
     let us = is_us (standing_of v) in
     let cs = channels_after us t v.channels in
     let on = fin.contains_key cs in
-    let made = cond_some (is_seen cs n) (person_from us t cs v.people n) p (sym (get-people_after us t cs v.people n) ∙ h) in
+    let made =
+    cond_some (is_seen cs n) (person_from us t cs v.people n) p
+    (sym (get-people_after us t cs v.people n) ∙ h) in
     subst (IsSoundPerson (after_told v t) n) (made.1) (record {
-      spelled = subst (λ settings. IsSomeAnd (known_after says_spelling (λ p. p.spelled) us t cs v.people n) (IsSpelling settings n)) (sym (settings_seen v t sound told n (made.0))) (seen_is_spelled v t sound told n (made.0));
+      spelled =
+          subst (λ settings. IsSomeAnd
+          (known_after says_spelling (λ p. p.spelled) us t cs v.people n)
+          (IsSpelling settings n)) (sym (settings_seen v t sound told n (made.0)))
+          (seen_is_spelled v t sound told n (made.0));
       account = for_some IsAccount (known_after says_account (λ p. p.account) us t cs v.people n)
-          (of_either IsAccount (says_account us on t n) (option_and_then (λ m. option_and_then (λ (p : Person). p.account) (fin.get v.people m)) (name_before us t n)) (said_account v.settings us on t n told)
-          (old_field IsAccount (λ p. p.account) v (λ m. field_in IsAccount (λ p. p.account) (fin.get v.people m) (λ q e. (sound.people m q e).account)) (name_before us t n)));
+          (of_either IsAccount (says_account us on t n)
+          (option_and_then
+          (λ m. option_and_then (λ (p : Person). p.account) (fin.get v.people m))
+          (name_before us t n)) (said_account v.settings us on t n told)
+          (old_field IsAccount (λ p. p.account) v
+          (λ m. field_in IsAccount (λ p. p.account) (fin.get v.people m)
+          (λ q e. (sound.people m q e).account)) (name_before us t n)));
       away = for_some IsFilled (known_after says_away (λ p. p.away) us t cs v.people n)
-          (of_either IsFilled (says_away us on t n) (option_and_then (λ m. option_and_then (λ (p : Person). p.away) (fin.get v.people m)) (name_before us t n)) (said_away v.settings us on t n told)
-          (old_field IsFilled (λ p. p.away) v (λ m. field_in IsFilled (λ p. p.away) (fin.get v.people m) (λ q e. (sound.people m q e).away)) (name_before us t n)));
+          (of_either IsFilled (says_away us on t n)
+          (option_and_then (λ m. option_and_then (λ (p : Person). p.away) (fin.get v.people m))
+          (name_before us t n)) (said_away v.settings us on t n told)
+          (old_field IsFilled (λ p. p.away) v
+          (λ m. field_in IsFilled (λ p. p.away) (fin.get v.people m)
+          (λ q e. (sound.people m q e).away)) (name_before us t n)));
     })
 
 -- ---- before a welcome
 
 own_none : (t : Told) (s : Standing) → own_after t s ≡ None → s.own ≡ None
 own_none (Welcomed nick) s h = cc
-own_none (Renamed old new) s h = elim (is_us s old) as (λ b. cond b (Some new.spelled) s.own ≡ None → s.own ≡ None) [ true ↦ λ e. cc | false ↦ λ e. e ] h
+own_none (Renamed old new) s h =
+    elim (is_us s old) as (λ b. cond b (Some new.spelled) s.own ≡ None
+    → s.own ≡ None) [ true ↦ λ e. cc | false ↦ λ e. e ] h
 own_none _ s h = h
 
 nobody_begins : (t : Told) (c : Text) → begins (λ _. false) t c ≡ None
@@ -101,15 +130,21 @@ still_nowhere t =
     let us : Text → Bool = λ _. false in
     let gone : (c : Text) → channel_after us t c (fin.get fin.empty c) ≡ None =
     λ c. ap (λ o. channel_after us t c o) (fin.get-empty bytes_cmp c)
-    ∙ ap (λ b. option_map (channel_from us t c None) (unwrap_or (cond (ends us t c) (Some None) (option_map Some b)) None)) (nobody_begins t c)
-    ∙ elim (ends us t c) as (λ b. option_map (channel_from us t c None) (unwrap_or (cond b (Some None) None) None) ≡ None) [ true ↦ refl | false ↦ refl ] in
-    same_tables nat_list_cmp_total bytes_exact (channels_in t ++ fin.keys (fin.empty {X = Channel} {R = bytes_cmp})) [] (λ c. channel_after us t c (fin.get fin.empty c)) (λ _. None)
+    ∙ ap (λ b. option_map (channel_from us t c None)
+    (unwrap_or (cond (ends us t c) (Some None) (option_map Some b)) None)) (nobody_begins t c)
+    ∙ elim (ends us t c) as
+    (λ b. option_map (channel_from us t c None) (unwrap_or (cond b (Some None) None) None)
+    ≡ None) [ true ↦ refl | false ↦ refl ] in
+    same_tables nat_list_cmp_total bytes_exact (channels_in t
+    ++ fin.keys (fin.empty {X = Channel} {R =
+    bytes_cmp})) [] (λ c. channel_after us t c (fin.get fin.empty c)) (λ _. None)
     gone (λ c h. gone c) (λ c h. refl)
 
 stays_empty : (t : Told) → own_after t nowhere ≡ None → after_told empty_view t ≡ empty_view
 stays_empty t h =
     let cs = still_nowhere t in
-    let ps = ap (λ c. people_after (λ _. false) t c fin.empty) cs ∙ no_people (λ _. false) t fin.empty in
+    let ps = ap (λ c. people_after (λ _. false) t c fin.empty) cs
+    ∙ no_people (λ _. false) t fin.empty in
     let r = not_ready t h in
     let s = no_settings t h in
     λ i. record { own = h i; ready = r i; settings = s i; channels = cs i; people = ps i }
@@ -120,23 +155,30 @@ empty_sound = record {
   own = λ nick e. cc;
   channels = λ c ch e. absurd (none-some ch (sym (fin.get-empty bytes_cmp c) ∙ e));
   people = λ n p e. absurd (none-some p (sym (fin.get-empty bytes_cmp n) ∙ e));
-  known = λ n. ap is_some (fin.get-empty bytes_cmp n) ∙ sym (ap (list_any (λ c. is_some (old_member (fin.get fin.empty c) n))) no_keys);
+  known = λ n. ap is_some (fin.get-empty bytes_cmp n)
+      ∙ sym (ap (list_any (λ c. is_some (old_member (fin.get fin.empty c) n))) no_keys);
 }
 
 -- ---- the whole
 
-pub sound_step : (v : View) (t : Told) → IsSound v → IsSoundTold v.settings t → IsSound (after_told v t)
+pub sound_step : (v : View) (t : Told) → IsSound v → IsSoundTold v.settings t
+    → IsSound (after_told v t)
 sound_step v t sound told =
     let s = standing_of v in
     let us = is_us s in
     let cs = channels_after us t v.channels in
     record {
       unwelcomed = λ e. let was = sound.unwelcomed (own_none t s e) in
-          ap (λ u. after_told u t) was ∙ stays_empty t (ap (λ u. own_after t (standing_of u)) (sym was) ∙ e);
-      own = for_some (λ nick. is_nameable nick ≡ true) (own_after t s) (own_nameable v.settings t s told (if_some (λ nick. is_nameable nick ≡ true) v.own sound.own));
+          ap (λ u. after_told u t) was
+          ∙ stays_empty t (ap (λ u. own_after t (standing_of u)) (sym was) ∙ e);
+      own = for_some (λ nick. is_nameable nick
+          ≡ true) (own_after t s)
+          (own_nameable v.settings t s told (if_some (λ nick. is_nameable nick
+          ≡ true) v.own sound.own));
       channels = channels_sound v t sound told;
       people = people_sound v t sound told;
-      known = λ n. ap is_some (get-people_after us t cs v.people n) ∙ is_some_when (is_seen cs n) (person_from us t cs v.people n);
+      known = λ n. ap is_some (get-people_after us t cs v.people n)
+          ∙ is_some_when (is_seen cs n) (person_from us t cs v.people n);
     }
 
 pub sound_back : (items : List Arrival) → IsSound (view_back items)
@@ -144,7 +186,8 @@ unfolding after table
 sound_back [] = empty_sound
 sound_back (x ∷ older) =
     let v = view_back older in
-    subst IsSound (sym (view_back_step x older)) (sound_step v (told v.settings x) (sound_back older) (told_sound v.settings x))
+    subst IsSound (sym (view_back_step x older))
+    (sound_step v (told v.settings x) (sound_back older) (told_sound v.settings x))
 
 -- every network view is sound
 pub view_sound : (items : List Arrival) → IsSound (view_of items)

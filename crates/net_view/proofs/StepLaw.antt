@@ -19,12 +19,14 @@ use Rattle.net_view.proofs.Tests.{no_true}
 use Rattle.net_view.proofs.ChannelStep.{channels_step}
 use Rattle.net_view.proofs.PeopleStep.{people_step}
 
-pub view_back_step : (x : Arrival) (older : List Arrival) → view_back (x ∷ older) ≡ after (view_back older) x
+pub view_back_step : (x : Arrival) (older : List Arrival)
+    → view_back (x ∷ older) ≡ after (view_back older) x
 unfolding after
 view_back_step x older =
     let r : Reading = record { before = standing older; told = told (standing older).settings x } in
     let cs = channels_step r (readings_of older) in
-    let ps = people_step r (readings_of older) ∙ ap (λ c. people_after (ours r) r.told c (people_of (readings_of older))) cs in
+    let ps = people_step r (readings_of older)
+    ∙ ap (λ c. people_after (ours r) r.told c (people_of (readings_of older))) cs in
     λ i. record {
       own = (standing (x ∷ older)).own;
       ready = (standing (x ∷ older)).ready;
@@ -33,26 +35,51 @@ view_back_step x older =
       people = ps i;
     }
 
-pub view_step : (items : List Arrival) (x : Arrival) → view_of (items ++ x ∷ []) ≡ after (view_of items) x
+pub view_step : (items : List Arrival) (x : Arrival)
+    → view_of (items ++ x ∷ []) ≡ after (view_of items) x
 unfolding view_of
 view_step items x = ap view_back (reverse-append items (x ∷ [])) ∙ view_back_step x (reverse items)
 
 -- views that are equal stay so
-pub view_is_state : (items others : List Arrival) (x : Arrival) → view_of items ≡ view_of others → view_of (items ++ x ∷ []) ≡ view_of (others ++ x ∷ [])
-view_is_state items others x e = view_step items x ∙ ap (λ v. after v x) e ∙ sym (view_step others x)
+pub view_is_state : (items others : List Arrival) (x : Arrival) → view_of items ≡ view_of others
+    → view_of (items ++ x ∷ []) ≡ view_of (others ++ x ∷ [])
+view_is_state items others x e =
+    view_step items x ∙ ap (λ v. after v x) e ∙ sym (view_step others x)
 
 -- what a silent item leaves
-pub quiet_channels : (s : Standing) (older : List Reading) → channels_of (record { before = s; told = Silent } ∷ older) ≡ channels_of older
+pub quiet_channels : (s : Standing) (older : List Reading)
+    → channels_of (record { before = s; told = Silent } ∷ older) ≡ channels_of older
 quiet_channels s older = refl
 
-quiet_person : (s : Standing) (older : List Reading) (n : Text) → person_of (record { before = s; told = Silent } ∷ older) n ≡ person_of older n
-quiet_person s older n = elim (in_sight older n) as (λ b. cond b (Some (let p : Person = record { spelled = cond b (known says_spelling older n) None; account = cond b (known says_account older n) None; away = cond b (known says_away older n) None } in p)) None ≡ cond b (Some (let p : Person = record { spelled = known says_spelling older n; account = known says_account older n; away = known says_away older n } in p)) None) [ true ↦ refl | false ↦ refl ]
+quiet_person : (s : Standing) (older : List Reading) (n : Text)
+    → person_of (record { before = s; told = Silent } ∷ older) n ≡ person_of older n
+quiet_person s older n =
+    elim (in_sight older n) as (λ b. cond b (Some (let p : Person =
+    record {
+      spelled = cond b (known says_spelling older n) None;
+      account =
+          cond b (known says_account older n) None;
+      away =
+          cond b (known says_away older n) None;
+    } in p)) None
+    ≡ cond b (Some (let p : Person =
+    record {
+      spelled = known says_spelling older n;
+      account =
+          known says_account older n;
+      away = known says_away older n;
+    } in
+    p)) None) [ true ↦ refl | false ↦ refl ]
 
-pub quiet_people : (s : Standing) (older : List Reading) → people_of (record { before = s; told = Silent } ∷ older) ≡ people_of older
-quiet_people s older = ap (table bytes_cmp (named people_in older)) (λ i n. quiet_person s older n i)
+pub quiet_people : (s : Standing) (older : List Reading)
+    → people_of (record { before = s; told = Silent } ∷ older) ≡ people_of older
+quiet_people s older =
+    ap (table bytes_cmp (named people_in older)) (λ i n. quiet_person s older n i)
 
 -- an item that tells nothing leaves the view
-pub view_quiet : (items : List Arrival) (x : Arrival) → ((settings : List Token) → told settings x ≡ Silent) → view_of (items ++ x ∷ []) ≡ view_of items
+pub view_quiet : (items : List Arrival) (x : Arrival)
+    → ((settings : List Token) → told settings x ≡ Silent)
+    → view_of (items ++ x ∷ []) ≡ view_of items
 unfolding view_of
 view_quiet items x silent =
     let older = reverse items in
@@ -60,16 +87,33 @@ view_quiet items x silent =
     ap view_back (reverse-append items (x ∷ []))
     ∙ ap (λ t. let r : List Reading = record { before = s; told = t } ∷ readings_of older in
     let after : Standing = standing_after t s in
-    let v : View = record { own = after.own; ready = after.ready; settings = after.settings; channels = channels_of r; people = people_of r } in v) (silent s.settings)
-    ∙ (λ i. record { own = s.own; ready = s.ready; settings = s.settings; channels = quiet_channels s (readings_of older) i; people = quiet_people s (readings_of older) i })
+    let v : View =
+    record {
+      own = after.own;
+      ready = after.ready;
+      settings = after.settings;
+      channels =
+          channels_of r;
+      people = people_of r;
+    } in v) (silent s.settings)
+    ∙ (λ i. record {
+      own = s.own;
+      ready = s.ready;
+      settings = s.settings;
+      channels =
+          quiet_channels s (readings_of older) i;
+      people = quiet_people s (readings_of older) i;
+    })
 
 -- a line that is no state line tells nothing
-told_none : (settings : List Token) (x : Arrival) → is_state_item x ≡ false → told settings x ≡ Silent
+told_none : (settings : List Token) (x : Arrival) → is_state_item x ≡ false
+    → told settings x ≡ Silent
 unfolding told
 told_none settings (Received line) e = told-unread settings line e
 told_none settings Lost e = absurd (no_true (sym e))
 
-pub view_unchanged : (items : List Arrival) (x : Arrival) → is_state_item x ≡ false → view_of (items ++ x ∷ []) ≡ view_of items
+pub view_unchanged : (items : List Arrival) (x : Arrival) → is_state_item x ≡ false
+    → view_of (items ++ x ∷ []) ≡ view_of items
 view_unchanged items x e = view_quiet items x (λ settings. told_none settings x e)
 
 pub view_start : view_of [] ≡ empty_view

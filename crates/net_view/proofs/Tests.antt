@@ -12,11 +12,14 @@ or_assoc : (a b c : Bool) → (a || (b || c)) ≡ ((a || b) || c)
 or_assoc true b c = refl
 or_assoc false b c = refl
 
-pub any_append : {A : Type 0} (p : A → Bool) (xs ys : List A) → list_any p (xs ++ ys) ≡ (list_any p xs || list_any p ys)
+pub any_append : {A : Type 0} (p : A → Bool) (xs ys : List A)
+    → list_any p (xs ++ ys) ≡ (list_any p xs || list_any p ys)
 any_append p [] ys = refl
-any_append p (x ∷ xs) ys = ap (λ b. p x || b) (any_append p xs ys) ∙ or_assoc (p x) (list_any p xs) (list_any p ys)
+any_append p (x ∷ xs) ys =
+    ap (λ b. p x || b) (any_append p xs ys) ∙ or_assoc (p x) (list_any p xs) (list_any p ys)
 
-pub absent : {A : Type 0} (p : A → Bool) (xs ys : List A) → list_any p (xs ++ ys) ≡ false → (list_any p xs ≡ false) × (list_any p ys ≡ false)
+pub absent : {A : Type 0} (p : A → Bool) (xs ys : List A) → list_any p (xs ++ ys) ≡ false
+    → (list_any p xs ≡ false) × (list_any p ys ≡ false)
 absent p xs ys h = or_false (list_any p xs) (list_any p ys) (sym (any_append p xs ys) ∙ h)
 
 pub or_right : (a b : Bool) → b ≡ true → (a || b) ≡ true
@@ -30,7 +33,8 @@ pub cond_and_false : {A : Type 0} (a b : Bool) (x y : A) → b ≡ false → con
 cond_and_false true b x y e = ap (λ v. cond v x y) e
 cond_and_false false b x y e = refl
 
-pub unwrap_or_or : {A : Type 0} (a b : Option A) (d : A) → unwrap_or (option_or a b) d ≡ unwrap_or a (unwrap_or b d)
+pub unwrap_or_or : {A : Type 0} (a b : Option A) (d : A)
+    → unwrap_or (option_or a b) d ≡ unwrap_or a (unwrap_or b d)
 unwrap_or_or None b d = refl
 unwrap_or_or (Some x) b d = refl
 
@@ -38,11 +42,13 @@ pub none_of_is_some : {A : Type 0} (x : Option A) → is_some x ≡ false → x 
 none_of_is_some None e = refl
 none_of_is_some (Some x) e = cc
 
-pub when : {A : Type 0} (b : Bool) (x y : A) → (b ≡ true → x ≡ y) → cond b (Some x) None ≡ cond b (Some y) None
+pub when : {A : Type 0} (b : Bool) (x y : A) → (b ≡ true → x ≡ y)
+    → cond b (Some x) None ≡ cond b (Some y) None
 when true x y e = ap Some (e refl)
 when false x y e = refl
 
-pub any_false : {A : Type 0} (p : A → Bool) (xs : List A) → ((x : A) → p x ≡ false) → list_any p xs ≡ false
+pub any_false : {A : Type 0} (p : A → Bool) (xs : List A) → ((x : A) → p x ≡ false)
+    → list_any p xs ≡ false
 any_false p [] h = refl
 any_false p (x ∷ xs) h = ap (λ b. b || list_any p xs) (h x) ∙ any_false p xs h
 

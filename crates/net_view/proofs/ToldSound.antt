@@ -19,83 +19,144 @@ use Rattle.net_view.proofs.PartsSound.{IsSoundName, IsSoundListing, Each, IsSoun
 
 -- ---- lines
 
-either_sound : (settings : List Token) (b : Bool) (t u : Told) → IsSoundTold settings t → IsSoundTold settings u → IsSoundTold settings (cond b t u)
+either_sound : (settings : List Token) (b : Bool) (t u : Told) → IsSoundTold settings t
+    → IsSoundTold settings u → IsSoundTold settings (cond b t u)
 either_sound settings true t u h k = h
 either_sound settings false t u h k = k
 
-with_sound : (settings : List Token) (line : Parts) (i : ℕ) (give : Text → Option Told) → ((text : Text) → IfSome (give text) (IsSoundTold settings)) → IfSome (with line i give) (IsSoundTold settings)
-with_sound settings line i give h = then_sound (IsSoundTold settings) (slice_get line.params i) give h
+with_sound : (settings : List Token) (line : Parts) (i : ℕ) (give : Text → Option Told)
+    → ((text : Text) → IfSome (give text) (IsSoundTold settings))
+    → IfSome (with line i give) (IsSoundTold settings)
+with_sound settings line i give h =
+    then_sound (IsSoundTold settings) (slice_get line.params i) give h
 
-quietly : (settings : List Token) (o : Option Told) → IfSome o (IsSoundTold settings) → IsSoundTold settings (or_silent o)
+quietly : (settings : List Token) (o : Option Told) → IfSome o (IsSoundTold settings)
+    → IsSoundTold settings (or_silent o)
 quietly settings o h = or_sound settings o Silent h tt
 
 -- what a person's name makes of a line
-by_person : (settings : List Token) (o : Option Name) (f : Name → Told) → IfSome o (IsSoundName settings) → ((x : Name) → IsSoundName settings x → IsSoundTold settings (f x)) → IfSome (option_map f o) (IsSoundTold settings)
+by_person : (settings : List Token) (o : Option Name) (f : Name → Told)
+    → IfSome o (IsSoundName settings)
+    → ((x : Name) → IsSoundName settings x → IsSoundTold settings (f x))
+    → IfSome (option_map f o) (IsSoundTold settings)
 by_person settings o f n h = map_sound (IsSoundName settings) (IsSoundTold settings) o f n h
 
-welcome_sound : (settings : List Token) (line : Parts) → IsSoundTold settings (told_by_welcome settings line)
-welcome_sound settings line = quietly settings _ (with_sound settings line 0 _ (λ nick. when_sound (IsSoundTold settings) (is_nameable nick) (Welcomed nick) (λ e. e)))
+welcome_sound : (settings : List Token) (line : Parts)
+    → IsSoundTold settings (told_by_welcome settings line)
+welcome_sound settings line =
+    quietly settings _
+    (with_sound settings line 0 _
+    (λ nick. when_sound (IsSoundTold settings) (is_nameable nick) (Welcomed nick) (λ e. e)))
 
 account_at : (line : Parts) → IfSome (with line 1 account_said) (λ a. IfSome a IsAccount)
-account_at line = then_sound (λ a. IfSome a IsAccount) (slice_get line.params 1) account_said account_sound
+account_at line =
+    then_sound (λ a. IfSome a IsAccount) (slice_get line.params 1) account_said account_sound
 
-join_sound : (settings : List Token) (line : Parts) → IsSoundTold settings (told_by_join settings line)
+join_sound : (settings : List Token) (line : Parts)
+    → IsSoundTold settings (told_by_join settings line)
 join_sound settings line = or_sound settings _ Settles (with_sound settings line 0 _ (λ c.
-    by_person settings (actor settings line) (λ who. Joined (name_of settings c) (is_channel settings c) who (with line 1 account_said)) (actor_sound settings line)
+    by_person settings (actor settings line)
+    (λ who. Joined (name_of settings c) (is_channel settings c) who (with line 1 account_said))
+    (actor_sound settings line)
     (λ who n. record { keyed = refl; named = refl; person = n; told = account_at line }))) tt
 
-part_sound : (settings : List Token) (line : Parts) → IsSoundTold settings (told_by_part settings line)
+part_sound : (settings : List Token) (line : Parts)
+    → IsSoundTold settings (told_by_part settings line)
 part_sound settings line = quietly settings _ (with_sound settings line 0 _ (λ c.
-    by_person settings (actor settings line) (λ (who : Name). Parted (key_by settings c) who.key) (actor_sound settings line) (λ who n. tt)))
+    by_person settings (actor settings line) (λ (who : Name). Parted (key_by settings c) who.key)
+    (actor_sound settings line) (λ who n. tt)))
 
-kick_sound : (settings : List Token) (line : Parts) → IsSoundTold settings (told_by_kick settings line)
-kick_sound settings line = quietly settings _ (with_sound settings line 0 _ (λ c. with_sound settings line 1 _ (λ nick.
-    by_person settings (nameable settings nick) (λ (who : Name). Kicked (key_by settings c) who.key) (nameable_sound settings nick) (λ who n. tt))))
+kick_sound : (settings : List Token) (line : Parts)
+    → IsSoundTold settings (told_by_kick settings line)
+kick_sound settings line =
+    quietly settings _ (with_sound settings line 0 _ (λ c. with_sound settings line 1 _ (λ nick.
+    by_person settings (nameable settings nick) (λ (who : Name). Kicked (key_by settings c) who.key)
+    (nameable_sound settings nick) (λ who n. tt))))
 
-quit_sound : (settings : List Token) (line : Parts) → IsSoundTold settings (told_by_quit settings line)
-quit_sound settings line = quietly settings _ (by_person settings (actor settings line) (λ (who : Name). Quits who.key) (actor_sound settings line) (λ who n. tt))
+quit_sound : (settings : List Token) (line : Parts)
+    → IsSoundTold settings (told_by_quit settings line)
+quit_sound settings line =
+    quietly settings _
+    (by_person settings (actor settings line) (λ (who : Name). Quits who.key)
+    (actor_sound settings line) (λ who n. tt))
 
-nick_sound : (settings : List Token) (line : Parts) → IsSoundTold settings (told_by_nick settings line)
+nick_sound : (settings : List Token) (line : Parts)
+    → IsSoundTold settings (told_by_nick settings line)
 nick_sound settings line = quietly settings _ (with_sound settings line 0 _ (λ nick.
-    then_sound (IsSoundTold settings) (actor settings line) _ (λ (old : Name). by_person settings (nameable settings nick) (λ new. Renamed old.key new) (nameable_sound settings nick) (λ new n. n))))
+    then_sound (IsSoundTold settings) (actor settings line) _
+    (λ (old : Name). by_person settings (nameable settings nick) (λ new. Renamed old.key new)
+    (nameable_sound settings nick) (λ new n. n))))
 
-modes_sound : (settings : List Token) (cs : List ChangeParts) → Each (IsSoundMode settings) (filter_map (mode_change settings) cs)
-modes_sound settings cs = each_found (IsSoundMode settings) (mode_change settings) (mode_sound settings) cs
+modes_sound : (settings : List Token) (cs : List ChangeParts)
+    → Each (IsSoundMode settings) (filter_map (mode_change settings) cs)
+modes_sound settings cs =
+    each_found (IsSoundMode settings) (mode_change settings) (mode_sound settings) cs
 
-mode_line_sound : (settings : List Token) (line : Parts) → IsSoundTold settings (told_by_mode settings line)
-mode_line_sound settings line = quietly settings _ (with_sound settings line 0 _ (λ c.
-    (each_found (λ (l : LetterChange). l.rank < rank_limit settings) (letter_change settings) (letter_sound settings) (changes settings (drop 1 line.params)), modes_sound settings (changes settings (drop 1 line.params)))))
+mode_line_sound : (settings : List Token) (line : Parts)
+    → IsSoundTold settings (told_by_mode settings line)
+mode_line_sound settings line = quietly settings _ (with_sound settings line 0 _ (λ c. (
+  each_found (λ (l : LetterChange). l.rank < rank_limit settings) (letter_change settings)
+      (letter_sound settings) (changes settings (drop 1 line.params)),
+  modes_sound settings
+      (changes settings (drop 1 line.params)),
+)))
 
-mode_reply_sound : (settings : List Token) (line : Parts) → IsSoundTold settings (told_by_mode_reply settings line)
-mode_reply_sound settings line = quietly settings _ (with_sound settings line 1 _ (λ c. modes_sound settings (changes settings (drop 2 line.params))))
+mode_reply_sound : (settings : List Token) (line : Parts)
+    → IsSoundTold settings (told_by_mode_reply settings line)
+mode_reply_sound settings line =
+    quietly settings _
+    (with_sound settings line 1 _
+    (λ c. modes_sound settings (changes settings (drop 2 line.params))))
 
-topic_at_sound : (i : ℕ) (settings : List Token) (line : Parts) → IsSoundTold settings (told_by_topic_at i settings line)
-topic_at_sound i settings line = quietly settings _ (with_sound settings line i _ (λ c. with_sound settings line (suc i) _ (λ text. filled_sound text)))
+topic_at_sound : (i : ℕ) (settings : List Token) (line : Parts)
+    → IsSoundTold settings (told_by_topic_at i settings line)
+topic_at_sound i settings line =
+    quietly settings _
+    (with_sound settings line i _
+    (λ c. with_sound settings line (suc i) _ (λ text. filled_sound text)))
 
-no_topic_sound : (settings : List Token) (line : Parts) → IsSoundTold settings (told_by_no_topic settings line)
+no_topic_sound : (settings : List Token) (line : Parts)
+    → IsSoundTold settings (told_by_no_topic settings line)
 no_topic_sound settings line = quietly settings _ (with_sound settings line 1 _ (λ c. tt))
 
-listings_sound : (settings : List Token) (texts : List Text) → Each (IsSoundListing settings) (filter_map (listing settings) (map (word_of settings) texts))
+listings_sound : (settings : List Token) (texts : List Text)
+    → Each (IsSoundListing settings) (filter_map (listing settings) (map (word_of settings) texts))
 listings_sound settings [] = tt
 listings_sound settings (text ∷ texts) =
-    elim (listing settings (word_of settings text)) as (λ o. IfSome o (IsSoundListing settings) → Each (IsSoundListing settings) (cons_option o (filter_map (listing settings) (map (word_of settings) texts)))) [
+    elim (listing settings (word_of settings text)) as (λ o. IfSome o (IsSoundListing settings)
+    → Each (IsSoundListing settings)
+    (cons_option o (filter_map (listing settings) (map (word_of settings) texts)))) [
       | None ↦ λ p. listings_sound settings texts
       | Some y ↦ λ p. (p, listings_sound settings texts)
     ] (listing_sound settings text)
 
-names_sound : (settings : List Token) (line : Parts) → IsSoundTold settings (told_by_names settings line)
+names_sound : (settings : List Token) (line : Parts)
+    → IsSoundTold settings (told_by_names settings line)
 unfolding words
-names_sound settings line = quietly settings _ (with_sound settings line 2 _ (λ c. listings_sound settings (words_between (unwrap_or (slice_get line.params 3) []))))
+names_sound settings line =
+    quietly settings _
+    (with_sound settings line 2 _
+    (λ c. listings_sound settings (words_between (unwrap_or (slice_get line.params 3) []))))
 
-account_line_sound : (settings : List Token) (line : Parts) → IsSoundTold settings (told_by_account settings line)
-account_line_sound settings line = quietly settings _ (then_sound (IsSoundTold settings) (actor settings line) _ (λ (who : Name). with_sound settings line 0 _ (λ text.
-    map_sound (λ a. IfSome a IsAccount) (IsSoundTold settings) (account_said text) (HasAccount who.key) (account_sound text) (λ a h. h))))
+account_line_sound : (settings : List Token) (line : Parts)
+    → IsSoundTold settings (told_by_account settings line)
+account_line_sound settings line =
+    quietly settings _
+    (then_sound (IsSoundTold settings) (actor settings line) _
+    (λ (who : Name). with_sound settings line 0 _ (λ text.
+    map_sound (λ a. IfSome a IsAccount) (IsSoundTold settings) (account_said text)
+    (HasAccount who.key) (account_sound text) (λ a h. h))))
 
-away_sound : (settings : List Token) (line : Parts) → IsSoundTold settings (told_by_away settings line)
-away_sound settings line = quietly settings _ (by_person settings (actor settings line) (λ (who : Name). IsAway who.key (with line 0 unless_empty)) (actor_sound settings line)
+away_sound : (settings : List Token) (line : Parts)
+    → IsSoundTold settings (told_by_away settings line)
+away_sound settings line =
+    quietly settings _
+    (by_person settings (actor settings line)
+    (λ (who : Name). IsAway who.key (with line 0 unless_empty)) (actor_sound settings line)
     (λ who n. then_sound IsFilled (slice_get line.params 0) unless_empty filled_sound))
 
-line_sound : (settings : List Token) (line : Parts) → IsSoundTold settings (told settings (Received line))
+line_sound : (settings : List Token) (line : Parts)
+    → IsSoundTold settings (told settings (Received line))
 unfolding told state_lines
 line_sound settings line =
     either_sound settings (has_command line (codes "001")) _ _ (welcome_sound settings line)
@@ -113,8 +174,10 @@ line_sound settings line =
     (either_sound settings (has_command line (codes "332")) _ _ (topic_at_sound 1 settings line)
     (either_sound settings (has_command line (codes "331")) _ _ (no_topic_sound settings line)
     (either_sound settings (has_command line (codes "353")) _ _ (names_sound settings line)
-    (either_sound settings (has_command line (codes "ACCOUNT")) _ _ (account_line_sound settings line)
-    (either_sound settings (has_command line (codes "AWAY")) _ _ (away_sound settings line) tt))))))))))))))))
+    (either_sound settings (has_command line (codes "ACCOUNT")) _ _
+    (account_line_sound settings line)
+    (either_sound settings (has_command line (codes "AWAY")) _ _ (away_sound settings line)
+    tt))))))))))))))))
 
 -- what any item tells is well formed
 pub told_sound : (settings : List Token) (x : Arrival) → IsSoundTold settings (told settings x)

@@ -12,23 +12,24 @@ use Rattle.net_view.specs.Presence.{is_on}
 use Rattle.net_view.specs.Members.{is_member}
 use Rattle.net_view.specs.Named.{named, channels_in}
 
--- whether the person is a member of some channel that we are on (our own choice: what is known of a person
--- is forgotten when the last such channel is left)
+-- whether the person is a member of some channel that we are on (our own choice: what is known of a
+-- person is forgotten when the last such channel is left)
 abbrev pub in_sight : List Reading → Text → Bool
 in_sight items n = list_any (λ c. is_member items c n) (named channels_in items)
 
--- What an item says of persons: who we are, the channels that we are on after it, what it tells, the
--- person's key after it. Some None: that there is nothing.
+-- What an item says of persons: who we are, the channels that we are on after it, what it tells,
+-- the person's key after it. Some None: that there is nothing.
 abbrev pub Says : Type 0
 Says = (Text → Bool) → (Text → Bool) → Told → Text → Option (Option Text)
 
--- what was said last of the person, followed back under the earlier names, where the person has been in
--- sight at every boundary since
+-- what was said last of the person, followed back under the earlier names, where the person has
+-- been in sight at every boundary since
 abbrev pub known : Says → List Reading → Text → Option Text
 known says [] n = None
 known says (x ∷ older) n =
     if in_sight (x ∷ older) n
-    then unwrap_or (says (ours x) (is_on (x ∷ older)) x.told n) (option_and_then (known says older) (name_before (ours x) x.told n))
+    then unwrap_or (says (ours x) (is_on (x ∷ older)) x.told n)
+    (option_and_then (known says older) (name_before (ours x) x.told n))
     else None
 
 -- the spelling in a name list
@@ -37,14 +38,19 @@ spelled_in n l = if same n l.person.key then Some l.person.spelled else None
 
 -- JOIN and 353 of a channel that we are on, and NICK, tell a spelling
 abbrev pub says_spelling : Says
-says_spelling us on (Joined channel valid who account) n = if on channel.key && same n who.key then Some (Some who.spelled) else None
-says_spelling us on (Present channel listings) n = if on channel then option_map Some (last_in (spelled_in n) listings) else None
-says_spelling us on (Renamed old new) n = if counts us old new.key && same n new.key then Some (Some new.spelled) else None
+says_spelling us on (Joined channel valid who account) n =
+    if on channel.key && same n who.key then Some (Some who.spelled) else None
+says_spelling us on (Present channel listings) n =
+    if on channel then option_map Some (last_in (spelled_in n) listings) else None
+says_spelling us on (Renamed old new) n =
+    if counts us old new.key && same n new.key then Some (Some new.spelled) else None
 says_spelling us on _ n = None
 
--- JOIN of a channel that we are on and ACCOUNT tell an account (IRCv3 extended-join, account-notify)
+-- JOIN of a channel that we are on and ACCOUNT tell an account (IRCv3 extended-join,
+-- account-notify)
 abbrev pub says_account : Says
-says_account us on (Joined channel valid who account) n = if on channel.key && same n who.key then account else None
+says_account us on (Joined channel valid who account) n =
+    if on channel.key && same n who.key then account else None
 says_account us on (HasAccount who account) n = if same n who then Some account else None
 says_account us on _ n = None
 

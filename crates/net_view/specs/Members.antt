@@ -1,5 +1,5 @@
--- The members of a channel and the ranks that they hold (RFC 2812, sections 3.2.1 and 3.2.5; PREFIX of the
--- isupport draft, section 3.14).
+-- The members of a channel and the ranks that they hold (RFC 2812, sections 3.2.1 and 3.2.5; PREFIX
+-- of the isupport draft, section 3.14).
 use Rattle.std.specs.Prelude.{ℕ, Bool, true, false, not, ◌&&◌, nat_eq, List, if◌then◌else◌}
 use Rattle.std.specs.List.{list_any}
 use Rattle.std.specs.Option.{unwrap_or}
@@ -23,13 +23,17 @@ abbrev pub joins_as : Told → Text → Bool
 joins_as (Joined channel valid who account) n = same n who.key
 joins_as _ n = false
 
--- A JOIN and a 353 make members, a PART and a KICK end it. Another's JOIN counts by the channel's key alone
--- (our own choice).
+-- A JOIN and a 353 make members, a PART and a KICK end it. Another's JOIN counts by the channel's
+-- key alone (our own choice).
 abbrev pub said_of_member : Text → (Text → Bool) → Told → Text → Option Bool
-said_of_member c us (Joined channel valid who account) n = if not (us who.key) && same c channel.key && same n who.key then Some true else None
-said_of_member c us (Present channel listings) n = if same c channel && lists n listings then Some true else None
-said_of_member c us (Parted channel who) n = if same c channel && same n who then Some false else None
-said_of_member c us (Kicked channel who) n = if same c channel && same n who then Some false else None
+said_of_member c us (Joined channel valid who account) n =
+    if not (us who.key) && same c channel.key && same n who.key then Some true else None
+said_of_member c us (Present channel listings) n =
+    if same c channel && lists n listings then Some true else None
+said_of_member c us (Parted channel who) n =
+    if same c channel && same n who then Some false else None
+said_of_member c us (Kicked channel who) n =
+    if same c channel && same n who then Some false else None
 said_of_member c us _ n = None
 
 -- at our own JOIN we are the one member
@@ -50,12 +54,16 @@ rank_in_listing n rank l = if same n l.person.key then Some (has_rank l.ranks ra
 abbrev pub rank_in_change : Text → ℕ → LetterChange → Option Bool
 rank_in_change n rank l = if nat_eq rank l.rank && same n l.person then Some l.plus else None
 
--- a MODE decides the ranks that it changes, by its sign; a word of 353 decides each rank by its symbols; a
--- JOIN by the channel's key decides each as no, ours too, which need not be of a channel's name (our own choice)
+-- a MODE decides the ranks that it changes, by its sign; a word of 353 decides each rank by its
+-- symbols; a JOIN by the channel's key decides each as no, ours too, which need not be of a
+-- channel's name (our own choice)
 abbrev pub said_of_rank : Text → ℕ → (Text → Bool) → Told → Text → Option Bool
-said_of_rank c rank us (Joined channel valid who account) n = if same c channel.key && same n who.key then Some false else None
-said_of_rank c rank us (Present channel listings) n = if same c channel then last_in (rank_in_listing n rank) listings else None
-said_of_rank c rank us (Changed channel letters modes) n = if same c channel then last_in (rank_in_change n rank) letters else None
+said_of_rank c rank us (Joined channel valid who account) n =
+    if same c channel.key && same n who.key then Some false else None
+said_of_rank c rank us (Present channel listings) n =
+    if same c channel then last_in (rank_in_listing n rank) listings else None
+said_of_rank c rank us (Changed channel letters modes) n =
+    if same c channel then last_in (rank_in_change n rank) letters else None
 said_of_rank c rank us _ n = None
 
 -- at our own JOIN nobody holds a rank

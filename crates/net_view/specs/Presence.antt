@@ -8,10 +8,11 @@ use Rattle.net_view.specs.Told.{Told, Welcomed, Joined, Parted, Kicked, Quits, D
 use Rattle.net_view.specs.Transcript.{Reading}
 use Rattle.net_view.specs.LookBack.{last}
 
--- our own JOIN of the channel of this key, with the name as it is spelled there: from it on we are on the
--- channel. The name has to be a channel's
+-- our own JOIN of the channel of this key, with the name as it is spelled there: from it on we are
+-- on the channel. The name has to be a channel's
 abbrev pub begins : (Text → Bool) → Told → Text → Option Text
-begins us (Joined channel valid who account) c = if us who.key && valid && same c channel.key then Some channel.spelled else None
+begins us (Joined channel valid who account) c =
+    if us who.key && valid && same c channel.key then Some channel.spelled else None
 begins us _ c = None
 
 -- whether the item takes us off the channel
@@ -35,7 +36,7 @@ name_on items c = unwrap_or (last (says_on c) items) None
 abbrev pub is_on : List Reading → Text → Bool
 is_on items c = is_some (name_on items c)
 
--- what an item says of a matter of a channel: at our own JOIN it is as fresh, and so nothing counts that
--- was said before that JOIN
+-- what an item says of a matter of a channel: at our own JOIN it is as fresh, and so nothing counts
+-- that was said before that JOIN
 abbrev pub anew_or : {A : Type 0} → Text → (Text → Bool) → Told → A → Option A → Option A
 anew_or c us t fresh said = if is_some (begins us t c) then Some fresh else said

@@ -17,10 +17,11 @@ channels_shown v = length (map.entries v.channels)
 abbrev pub channel_shown : View → ℕ → Option Channel
 channel_shown v i = option_map (λ e. e.1) (slice_get (map.entries v.channels) i)
 
--- the mode at place j of the channel at place i, in the order of the letters' bytes: the letter and its
--- parameter, where it has one
+-- the mode at place j of the channel at place i, in the order of the letters' bytes: the letter and
+-- its parameter, where it has one
 abbrev pub mode_shown : View → ℕ → ℕ → Option (ℕ × Option Text)
-mode_shown v i j = option_and_then (λ (ch : Channel). slice_get (map.entries ch.modes) j) (channel_shown v i)
+mode_shown v i j =
+    option_and_then (λ (ch : Channel). slice_get (map.entries ch.modes) j) (channel_shown v i)
 
 -- a mode, from its letter and a reference to its parameter
 abbrev pub mode_parts : ℕ × Option (Bor Text) → ℕ × Option Text
@@ -28,10 +29,11 @@ mode_parts mode = (mode.0, option_map (λ param. param.now) mode.1)
 
 -- how many members the channel at this place has
 abbrev pub members_shown : View → ℕ → ℕ
-members_shown v i = option_map_or (λ (ch : Channel). length (map.entries ch.members)) (channel_shown v i) 0
+members_shown v i =
+    option_map_or (λ (ch : Channel). length (map.entries ch.members)) (channel_shown v i) 0
 
--- a member as it is shown: the nick as spelled last, the ranks held on this channel with the highest first,
--- and what is known of the person
+-- a member as it is shown: the nick as spelled last, the ranks held on this channel with the
+-- highest first, and what is known of the person
 pub record MemberParts : Type 0 where
   pub nick : Text
   pub ranks : List ℕ
@@ -53,9 +55,13 @@ member_parts v member = record {
 
 -- the member at place j of the channel at place i
 abbrev pub member_shown : View → ℕ → ℕ → Option MemberParts
-member_shown v i j = option_and_then (λ (ch : Channel). option_map (member_parts v) (slice_get (map.entries ch.members) j)) (channel_shown v i)
+member_shown v i j =
+    option_and_then
+    (λ (ch : Channel). option_map (member_parts v) (slice_get (map.entries ch.members) j))
+    (channel_shown v i)
 
--- the account of the person of this nick, where one is known; of a name that is not nameable nothing is, though
--- its key may be a person's: under rfc1459 `~x` folds to the key of `^x`
+-- the account of the person of this nick, where one is known; of a name that is not nameable
+-- nothing is, though its key may be a person's: under rfc1459 `~x` folds to the key of `^x`
 abbrev pub account_shown : View → Text → Option Text
-account_shown v nick = if is_nameable nick then known_at (λ p. p.account) v (key_by v.settings nick) else None
+account_shown v nick =
+    if is_nameable nick then known_at (λ p. p.account) v (key_by v.settings nick) else None

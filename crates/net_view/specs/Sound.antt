@@ -44,8 +44,9 @@ IsKept C param = IsSomeAnd param (λ word. IsTrue (is_word word))
 IsKept D param = param ≡ None
 IsKept Unknown param = ⊥
 
--- Where we are on a channel we are ready and a member of it; its name is a channel's and folds to its key;
--- each member is spelled by a nameable nick that folds to the member's key, and holds ranks that there are.
+-- Where we are on a channel we are ready and a member of it; its name is a channel's and folds to
+-- its key; each member is spelled by a nameable nick that folds to the member's key, and holds
+-- ranks that there are.
 pub record IsSoundChannel (v : View) (c : Text) (ch : Channel) : Type 0 where
   pub ready : IsTrue v.ready
   pub name : IsTrue (is_channel v.settings ch.name)
@@ -53,8 +54,11 @@ pub record IsSoundChannel (v : View) (c : Text) (ch : Channel) : Type 0 where
   pub own : IsSomeAnd v.own (λ nick. IsTrue (map.contains_key ch.members (key_by v.settings nick)))
   pub topic : ForSome ch.topic IsFilled
   pub modes : (letter : ℕ) → ForSome (map.get ch.modes letter) (IsKept (kind_of v.settings letter))
-  pub ranks : (n : Text) → ForSome (map.get ch.members n) (λ ranks. (rank : ℕ) → IsTrue (has_rank ranks rank) → rank < rank_limit v.settings)
-  pub spelled : (n : Text) → IsTrue (map.contains_key ch.members n) → IsSomeAnd (known_at (λ p. p.spelled) v n) (IsSpelling v.settings n)
+  pub ranks : (n : Text)
+      → ForSome (map.get ch.members n) (λ ranks. (rank : ℕ) → IsTrue (has_rank ranks rank)
+      → rank < rank_limit v.settings)
+  pub spelled : (n : Text) → IsTrue (map.contains_key ch.members n)
+      → IsSomeAnd (known_at (λ p. p.spelled) v n) (IsSpelling v.settings n)
 
 -- Who is known is spelled; account and away text are of their form.
 pub record IsSoundPerson (v : View) (n : Text) (p : Person) : Type 0 where
@@ -73,9 +77,13 @@ pub record IsSound (v : View) : Type 0 where
   -- who is known is a member of some channel, and the other way round
   pub known : (n : Text) → map.contains_key v.people n ≡ is_seen v.channels n
 
--- What is written of a view is read back as it is: the tokens in force are of their form and stand once each,
--- a mode's letter is no sign, and the ranks of a member are a set, the highest first.
+-- What is written of a view is read back as it is: the tokens in force are of their form and stand
+-- once each, a mode's letter is no sign, and the ranks of a member are a set, the highest first.
 pub record IsWellFormed (v : View) : Type 0 where
   pub tokens : AreTokens v.settings
-  pub letters : (c : Text) → ForSome (map.get v.channels c) (λ (ch : Channel). (letter : ℕ) → ForSome (map.get ch.modes letter) (λ _. is_sign letter ≡ false))
-  pub ranks : (c : Text) → ForSome (map.get v.channels c) (λ (ch : Channel). (n : Text) → ForSome (map.get ch.members n) (λ ranks. ranks_that (has_rank ranks) ≡ ranks))
+  pub letters : (c : Text)
+      → ForSome (map.get v.channels c) (λ (ch : Channel). (letter : ℕ)
+      → ForSome (map.get ch.modes letter) (λ _. is_sign letter ≡ false))
+  pub ranks : (c : Text)
+      → ForSome (map.get v.channels c) (λ (ch : Channel). (n : Text)
+      → ForSome (map.get ch.members n) (λ ranks. ranks_that (has_rank ranks) ≡ ranks))

@@ -57,10 +57,11 @@ state_command line = find (λ command. has_command line (command_text command)) 
 
 -- whether this is one of them, in letters of either case
 abbrev pub is_state_command : Text → Bool
-is_state_command name = list_any (λ command. str_eq_ignore_ascii_case name (command_text command)) state_commands
+is_state_command name =
+    list_any (λ command. str_eq_ignore_ascii_case name (command_text command)) state_commands
 
--- commands that are none of them: messages, those of the link, and replies that a client is sent (RFC 2812,
--- sections 3.3, 3.7 and 5.1; IRCv3 capability negotiation, batch and sasl)
+-- commands that are none of them: messages, those of the link, and replies that a client is sent
+-- (RFC 2812, sections 3.3, 3.7 and 5.1; IRCv3 capability negotiation, batch and sasl)
 abbrev pub other_commands : List Text
 other_commands =
     codes "PRIVMSG"

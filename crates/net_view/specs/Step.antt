@@ -55,24 +55,33 @@ member_from us t c before n =
 
 -- a member after the item, whose name before it may be another
 abbrev pub member_after : (Text → Bool) → Told → Text → Option Channel → Text → Option (List ℕ)
-member_after us t c old n = member_from us t c (option_and_then (old_member old) (name_before us t n)) n
+member_after us t c old n =
+    member_from us t c (option_and_then (old_member old) (name_before us t n)) n
 
 -- a channel that we are on after the item, by this name
 abbrev pub channel_from : (Text → Bool) → Told → Text → Option Channel → Text → Channel
 channel_from us t c old name = record {
   name = name;
   topic = unwrap_or (says_topic c us t) (option_and_then (λ (ch : Channel). ch.topic) old);
-  modes = table nat_cmp (letters_in t ++ option_map_or (λ (ch : Channel). map.keys ch.modes) old []) (mode_after us t c old);
-  members = table bytes_cmp (people_in t ++ option_map_or (λ (ch : Channel). map.keys ch.members) old []) (member_after us t c old);
+  modes = table nat_cmp (letters_in t
+      ++ option_map_or (λ (ch : Channel). map.keys ch.modes) old []) (mode_after us t c old);
+  members =
+      table bytes_cmp (people_in t
+      ++ option_map_or (λ (ch : Channel). map.keys ch.members) old [])
+      (member_after us t c old);
 }
 
 -- a channel after the item, where we are on it
 abbrev pub channel_after : (Text → Bool) → Told → Text → Option Channel → Option Channel
-channel_after us t c old = option_map (channel_from us t c old) (unwrap_or (says_on c us t) (option_map (λ (ch : Channel). ch.name) old))
+channel_after us t c old =
+    option_map (channel_from us t c old)
+    (unwrap_or (says_on c us t) (option_map (λ (ch : Channel). ch.name) old))
 
 -- all channels after the item
-abbrev pub channels_after : (Text → Bool) → Told → FinMap bytes_cmp Channel → FinMap bytes_cmp Channel
-channels_after us t cs = table bytes_cmp (channels_in t ++ map.keys cs) (λ c. channel_after us t c (map.get cs c))
+abbrev pub channels_after : (Text → Bool) → Told → FinMap bytes_cmp Channel
+    → FinMap bytes_cmp Channel
+channels_after us t cs =
+    table bytes_cmp (channels_in t ++ map.keys cs) (λ c. channel_after us t c (map.get cs c))
 
 -- ---- persons; cs are the channels after the item
 
@@ -83,19 +92,23 @@ is_seen cs n = list_any (λ c. is_some (old_member (map.get cs c) n)) (map.keys 
 -- the members of the channels of these keys
 abbrev pub members_at : FinMap bytes_cmp Channel → List Text → List Text
 members_at cs [] = []
-members_at cs (c ∷ keys) = option_map_or (λ (ch : Channel). map.keys ch.members) (map.get cs c) [] ++ members_at cs keys
+members_at cs (c ∷ keys) =
+    option_map_or (λ (ch : Channel). map.keys ch.members) (map.get cs c) [] ++ members_at cs keys
 
 -- the members of all channels
 abbrev pub everyone : FinMap bytes_cmp Channel → List Text
 everyone cs = members_at cs (map.keys cs)
 
 -- what is known after the item: what it says, else as before, under the name of before
-abbrev pub known_after : Says → (Person → Option Text) → (Text → Bool) → Told → FinMap bytes_cmp Channel → FinMap bytes_cmp Person → Text → Option Text
+abbrev pub known_after : Says → (Person → Option Text) → (Text → Bool) → Told
+    → FinMap bytes_cmp Channel → FinMap bytes_cmp Person → Text → Option Text
 known_after says field us t cs old n =
-    unwrap_or (says us (map.contains_key cs) t n) (option_and_then (λ m. option_and_then field (map.get old m)) (name_before us t n))
+    unwrap_or (says us (map.contains_key cs) t n)
+    (option_and_then (λ m. option_and_then field (map.get old m)) (name_before us t n))
 
 -- what is known of a person in sight
-abbrev pub person_from : (Text → Bool) → Told → FinMap bytes_cmp Channel → FinMap bytes_cmp Person → Text → Person
+abbrev pub person_from : (Text → Bool) → Told → FinMap bytes_cmp Channel → FinMap bytes_cmp Person
+    → Text → Person
 person_from us t cs old n = record {
   spelled = known_after says_spelling (λ p. p.spelled) us t cs old n;
   account = known_after says_account (λ p. p.account) us t cs old n;
@@ -103,11 +116,13 @@ person_from us t cs old n = record {
 }
 
 -- a person after the item, where in sight
-abbrev pub person_after : (Text → Bool) → Told → FinMap bytes_cmp Channel → FinMap bytes_cmp Person → Text → Option Person
+abbrev pub person_after : (Text → Bool) → Told → FinMap bytes_cmp Channel → FinMap bytes_cmp Person
+    → Text → Option Person
 person_after us t cs old n = if is_seen cs n then Some (person_from us t cs old n) else None
 
 -- all persons after the item
-abbrev pub people_after : (Text → Bool) → Told → FinMap bytes_cmp Channel → FinMap bytes_cmp Person → FinMap bytes_cmp Person
+abbrev pub people_after : (Text → Bool) → Told → FinMap bytes_cmp Channel → FinMap bytes_cmp Person
+    → FinMap bytes_cmp Person
 people_after us t cs old = table bytes_cmp (everyone cs) (person_after us t cs old)
 
 -- ---- the whole

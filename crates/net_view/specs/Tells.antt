@@ -18,17 +18,31 @@ meant settings Silent = spec.Silent
 meant settings (Welcomed nick) = spec.Welcomed nick.now
 meant settings Settles = spec.Settles
 meant settings (Supports line) = spec.Supports line.now.params
-meant settings (Joined channel who account) = spec.Joined (name_of settings channel.now) (is_channel settings channel.now) (name_of settings who.now) (option_map (option_map (λ name. name.now)) account)
-meant settings (Parted channel who) = spec.Parted (key_by settings channel.now) (key_by settings who.now)
-meant settings (Kicked channel who) = spec.Kicked (key_by settings channel.now) (key_by settings who.now)
+meant settings (Joined channel who account) =
+    spec.Joined (name_of settings channel.now) (is_channel settings channel.now)
+    (name_of settings who.now) (option_map (option_map (λ name. name.now)) account)
+meant settings (Parted channel who) =
+    spec.Parted (key_by settings channel.now) (key_by settings who.now)
+meant settings (Kicked channel who) =
+    spec.Kicked (key_by settings channel.now) (key_by settings who.now)
 meant settings (Quits who) = spec.Quits (key_by settings who.now)
 meant settings (Renamed old new) = spec.Renamed (key_by settings old.now) (name_of settings new.now)
-meant settings (Changed channel line) = spec.Changed (key_by settings channel.now) (filter_map (letter_change settings) (changes_in settings line.now)) (filter_map (mode_change settings) (changes_in settings line.now))
-meant settings (Listed channel line) = spec.Listed (key_by settings channel.now) (filter_map (mode_change settings) (changes_in settings line.now))
-meant settings (Present channel line) = spec.Present (key_by settings channel.now) (filter_map (listing settings) (words_in settings line.now))
-meant settings (HasAccount who account) = spec.HasAccount (key_by settings who.now) (option_map (λ name. name.now) account)
-meant settings (IsAway who text) = spec.IsAway (key_by settings who.now) (option_map (λ t. t.now) text)
-meant settings (Titled channel text) = spec.Titled (key_by settings channel.now) (option_map (λ t. t.now) text)
+meant settings (Changed channel line) =
+    spec.Changed (key_by settings channel.now)
+    (filter_map (letter_change settings) (changes_in settings line.now))
+    (filter_map (mode_change settings) (changes_in settings line.now))
+meant settings (Listed channel line) =
+    spec.Listed (key_by settings channel.now)
+    (filter_map (mode_change settings) (changes_in settings line.now))
+meant settings (Present channel line) =
+    spec.Present (key_by settings channel.now)
+    (filter_map (listing settings) (words_in settings line.now))
+meant settings (HasAccount who account) =
+    spec.HasAccount (key_by settings who.now) (option_map (λ name. name.now) account)
+meant settings (IsAway who text) =
+    spec.IsAway (key_by settings who.now) (option_map (λ t. t.now) text)
+meant settings (Titled channel text) =
+    spec.Titled (key_by settings channel.now) (option_map (λ t. t.now) text)
 
 -- the same of what may not be told: then the settings are fixed
 abbrev pub meant_or_settles : {A : Type 0} → List Token → Option (Telling A) → spec.Told

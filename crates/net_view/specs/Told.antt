@@ -4,8 +4,8 @@ use Rattle.std.proofs.Common.{Option}
 use Rattle.irc_support.specs.Text.{Text}
 use Rattle.net_view.specs.Names.{Name}
 
--- the letter of a rank, 0 the highest, given to a member or taken (RFC 2812, section 3.2.3; PREFIX of the
--- isupport draft, section 3.14)
+-- the letter of a rank, 0 the highest, given to a member or taken (RFC 2812, section 3.2.3; PREFIX
+-- of the isupport draft, section 3.14)
 pub record LetterChange : Type 0 where
   pub plus : Bool
   pub rank : ℕ
@@ -31,7 +31,8 @@ pub data Told : Type 0 where
   Supports : List Text → Told
   -- the settings are fixed from here on
   Settles : Told
-  -- channel; whether it is a channel name; person; the account, where the line tells one or that there is none
+  -- channel; whether it is a channel name; person; the account, where the line tells one or that
+  -- there is none
   Joined : Name → Bool → Name → Option (Option Text) → Told
   -- channel and person
   Parted : Text → Text → Told

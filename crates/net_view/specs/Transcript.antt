@@ -1,6 +1,6 @@
--- Where a transcript leaves us: our own nick, whether we are ready, and the settings in force. In the
--- files of looking back a list of items has the newest first, so what follows an item in the list is what
--- came before it.
+-- Where a transcript leaves us: our own nick, whether we are ready, and the settings in force. In
+-- the files of looking back a list of items has the newest first, so what follows an item in the
+-- list is what came before it.
 use Rattle.std.specs.Prelude.{Bool, false, ◌&&◌, not, List, [], ◌∷◌, is_some, if◌then◌else◌}
 use Rattle.std.proofs.Common.{Option, Some, None}
 use Rattle.irc_support.specs.Tokens.{Token, set_tokens}
@@ -34,16 +34,18 @@ ready_after Settles s = is_some s.own
 ready_after (Joined channel valid who account) s = is_some s.own
 ready_after _ s = s.ready
 
--- the tokens of the 005 lines after the last welcome and before the settings were fixed (isupport draft,
--- section 2; when they are fixed is our own choice)
+-- the tokens of the 005 lines after the last welcome and before the settings were fixed (isupport
+-- draft, section 2; when they are fixed is our own choice)
 abbrev pub settings_after : Told → Standing → List Token
 settings_after (Welcomed nick) s = []
-settings_after (Supports params) s = if is_some s.own && not s.ready then set_tokens s.settings params else s.settings
+settings_after (Supports params) s =
+    if is_some s.own && not s.ready then set_tokens s.settings params else s.settings
 settings_after _ s = s.settings
 
 -- where what an item tells leaves us
 abbrev pub standing_after : Told → Standing → Standing
-standing_after t s = record { own = own_after t s; ready = ready_after t s; settings = settings_after t s }
+standing_after t s =
+    record { own = own_after t s; ready = ready_after t s; settings = settings_after t s }
 
 -- each line is read by the settings in force before it
 abbrev pub standing_with : Arrival → Standing → Standing

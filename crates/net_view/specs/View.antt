@@ -18,8 +18,8 @@ use Rattle.net_view.specs.Named.{named, channels_in, letters_in, people_in}
 use Rattle.net_view.specs.Facts.{in_sight, spelling_of, account_of, away_of}
 use Rattle.net_view.specs.Table.{table}
 
--- A channel that we are on: its name, topic, modes by letter with their parameters, and by each member's key
--- the ranks held there, the highest first.
+-- A channel that we are on: its name, topic, modes by letter with their parameters, and by each
+-- member's key the ranks held there, the highest first.
 pub record Channel : Type 0 where
   pub name : Text
   pub topic : Option Text
@@ -46,17 +46,20 @@ empty_view = record { own = None; ready = false; settings = []; channels = empty
 
 -- the view of a network that has just taken us in
 abbrev pub welcomed_view : Text → View
-welcomed_view nick = record { own = Some nick; ready = false; settings = []; channels = empty; people = empty }
+welcomed_view nick =
+    record { own = Some nick; ready = false; settings = []; channels = empty; people = empty }
 
 -- what a loss leaves: we are on no channel and know nobody; own nick and settings stay
 abbrev pub lost_view : View → View
-lost_view v = record { own = v.own; ready = v.ready; settings = v.settings; channels = empty; people = empty }
+lost_view v =
+    record { own = v.own; ready = v.ready; settings = v.settings; channels = empty; people = empty }
 
 -- ---- by looking back
 
 -- the ranks of a member
 abbrev pub member_of : List Reading → Text → Text → Option (List ℕ)
-member_of items c n = if is_member items c n then Some (ranks_that (rank_decided items c n)) else None
+member_of items c n =
+    if is_member items c n then Some (ranks_that (rank_decided items c n)) else None
 
 -- the modes that are on, by letter
 abbrev pub modes_of : List Reading → Text → FinMap nat_cmp (Option Text)

@@ -28,15 +28,16 @@ ghost use Rattle.net_view.specs.Written.{AreWritten, IsCleanView};
 pub fn the_last_word<A>()
     ensures matter { (says : (Text → Bool) → Told → Option A) (items : List Reading) (answer : A) →
         (last says items ≡ Some answer) ↔ IsSaidLast says items answer }
-    ensures person { (says : (Text → Bool) → Told → Text → Option A) (items : List Reading) (n : Text) (answer : A) →
+    ensures person { (says : (Text → Bool) → Told → Text
+        → Option A) (items : List Reading) (n : Text) (answer : A) →
         (last_of says items n ≡ Some answer) ↔ IsSaidLastOf says items n answer }
     ensures fact { (says : Says) (items : List Reading) (n answer : Text) →
         (known says items n ≡ Some answer) ↔ IsKnown says items n answer }
 {}
 
-/// What every network view is like; that what is written of it is read back as it is; and that all its texts can
-/// stand in lines, where those of the transcript can be written. A channel that we are on has the name of our own JOIN, and
-/// nothing since took us off it.
+/// What every network view is like; that what is written of it is read back as it is; and that all
+/// its texts can stand in lines, where those of the transcript can be written. A channel that we
+/// are on has the name of our own JOIN, and nothing since took us off it.
 pub fn views_are_sound()
     ensures sound { (items : List Arrival) → IsSound (view_of items) }
     ensures formed { (items : List Arrival) → IsWellFormed (view_of items) }
@@ -56,10 +57,10 @@ pub fn settings_stay()
         (view_of (items ++ x ∷ [])).settings ≡ (view_of items).settings }
 {}
 
-/// What a name is worth. An account is known under a nameable nick alone, of who is a member of a channel that
-/// we are on. A NICK that counts and its way back are inverse, but for who held the new name. After a QUIT
-/// nobody of that name is there, and after a welcome nobody at all (after a loss neither:
-/// `a_loss_empties_the_view`).
+/// What a name is worth. An account is known under a nameable nick alone, of who is a member of a
+/// channel that we are on. A NICK that counts and its way back are inverse, but for who held the
+/// new name. After a QUIT nobody of that name is there, and after a welcome nobody at all (after a
+/// loss neither: `a_loss_empties_the_view`).
 pub fn a_name_is_a_person()
     ensures known { (items : List Arrival) (nick account : Text) →
         account_shown (view_of items) nick ≡ Some account → IsTrue (is_nameable nick) ×
@@ -70,7 +71,8 @@ pub fn a_name_is_a_person()
         record { before = standing_after (Renamed a b) s; told = Renamed b.key c }
         ∷ record { before = s; told = Renamed a b }
         ∷ []) n ≡ Some n }
-    ensures quit { (items : List Arrival) (x : Arrival) (n : Text) → told (view_of items).settings x ≡ Quits n →
+    ensures quit { (items : List Arrival) (x : Arrival) (n : Text)
+        → told (view_of items).settings x ≡ Quits n →
         is_seen (view_of (items ++ x ∷ [])).channels n ≡ false }
     ensures welcome { (items : List Arrival) (x : Arrival) (nick : Text) →
         told (view_of items).settings x ≡ Welcomed nick → view_of (items ++ x ∷ []) ≡ welcomed_view nick }

@@ -20,7 +20,8 @@ pub fn a_view_is_a_state()
 /// view before it and that item.
 pub fn views_go_by_steps()
     ensures start { view_of [] ≡ empty_view }
-    ensures step { (items : List Arrival) (x : Arrival) → view_of (items ++ x ∷ []) ≡ after (view_of items) x }
+    ensures step { (items : List Arrival) (x : Arrival)
+        → view_of (items ++ x ∷ []) ≡ after (view_of items) x }
 {}
 
 /// What is no state line changes nothing.
@@ -29,9 +30,9 @@ pub fn only_state_items_count()
         view_of (items ++ x ∷ []) ≡ view_of items }
 {}
 
-/// Whether a line is a state line is read off any spelling of its command: it is where that is one of the
-/// seventeen. So no message, no `PING`, `PONG`, `ERROR`, `CAP`, `BATCH` and `AUTHENTICATE`, and none of the
-/// replies `002`, `003`, `004` and `366` is one.
+/// Whether a line is a state line is read off any spelling of its command: it is where that is one
+/// of the seventeen. So no message, no `PING`, `PONG`, `ERROR`, `CAP`, `BATCH` and `AUTHENTICATE`,
+/// and none of the replies `002`, `003`, `004` and `366` is one.
 pub fn other_commands_tell_nothing()
     ensures named { (line : Parts) (name : Text) → IsTrue (has_command line name) →
         is_state_line line ≡ is_state_command name }

@@ -34,8 +34,8 @@ pub trait NetworkView {
         ensures kept { OnErr result (view self.new ≡ view self.old) }
         ensures free { may_need_memory (arrival_of item.now) ≡ false → IsOk result };
 
-    /// Does nothing: its clause says that what is seen came from lines, each of which can be written, and from
-    /// losses. So every fact of a transcript's view holds of it.
+    /// Does nothing: its clause says that what is seen came from lines, each of which can be
+    /// written, and from losses. So every fact of a transcript's view holds of it.
     fn comes_from_lines(&self)
         ensures { (items : List Arrival) × AreWritten items × (view self.now ≡ view_of items) };
 

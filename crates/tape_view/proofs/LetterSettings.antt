@@ -21,22 +21,37 @@ use Rattle.net_view.proofs.KeyPlaces as places
 abbrev pub sets : List Token → ℕ → ChangeParts → Option (Option (Option Text))
 sets settings letter change = option_and_then (setting_of letter) (mode_change settings change)
 
-sets_here : (letter other : ℕ) (o : Option (Option (Option Text))) → option_and_then (setting_of letter) (option_map (λ s. record { letter = other; setting = s }) o) ≡ cond (eq_by_cmp nat_cmp letter other) o None
+sets_here : (letter other : ℕ) (o : Option (Option (Option Text)))
+    → option_and_then (setting_of letter) (option_map (λ s. record {
+      letter = other;
+      setting =
+          s;
+    }) o) ≡ cond (eq_by_cmp nat_cmp letter other) o None
 sets_here letter other None = sym (same_arms (eq_by_cmp nat_cmp letter other) None)
 sets_here letter other (Some s) = refl
 
-pub sets_it : (settings : List Token) (letter : ℕ) (change : ChangeParts) → change.letter ≡ letter → sets settings letter change ≡ setting_by (kind_of settings letter) change.plus change.param
+pub sets_it : (settings : List Token) (letter : ℕ) (change : ChangeParts) → change.letter ≡ letter
+    → sets settings letter change ≡ setting_by (kind_of settings letter) change.plus change.param
 sets_it settings letter change e =
-    sets_here letter change.letter (setting_by (kind_of settings change.letter) change.plus change.param)
-    ∙ ap (λ l. cond (eq_by_cmp nat_cmp letter l) (setting_by (kind_of settings l) change.plus change.param) None) e
-    ∙ ap (λ b. cond b (setting_by (kind_of settings letter) change.plus change.param) None) (places.same_itself nat_cmp_total fin.nat_cmp-IsAntisymmetric letter)
+    sets_here letter change.letter
+    (setting_by (kind_of settings change.letter) change.plus change.param)
+    ∙ ap (λ l. cond (eq_by_cmp nat_cmp letter l)
+    (setting_by (kind_of settings l) change.plus change.param) None) e
+    ∙ ap (λ b. cond b (setting_by (kind_of settings letter) change.plus change.param) None)
+    (places.same_itself nat_cmp_total fin.nat_cmp-IsAntisymmetric letter)
 
-pub sets_none : (settings : List Token) (letter : ℕ) (change : ChangeParts) → (change.letter ≡ letter → ⊥) → sets settings letter change ≡ None
+pub sets_none : (settings : List Token) (letter : ℕ) (change : ChangeParts)
+    → (change.letter ≡ letter → ⊥) → sets settings letter change ≡ None
 sets_none settings letter change ne =
-    sets_here letter change.letter (setting_by (kind_of settings change.letter) change.plus change.param)
+    sets_here letter change.letter
+    (setting_by (kind_of settings change.letter) change.plus change.param)
     ∙ ap (λ b. cond b (setting_by (kind_of settings change.letter) change.plus change.param) None)
-    (places.false_unless (eq_by_cmp nat_cmp letter change.letter) (λ q. ne (sym (places.same_key nat_cmp_total fin.nat_cmp-IsAntisymmetric letter change.letter q))))
+    (places.false_unless (eq_by_cmp nat_cmp letter change.letter)
+    (λ q. ne (sym
+    (places.same_key nat_cmp_total fin.nat_cmp-IsAntisymmetric letter change.letter q))))
 
 -- the changes that are not kept set nothing
-pub last_kept : (settings : List Token) (letter : ℕ) (changes : List ChangeParts) → last_in (setting_of letter) (filter_map (mode_change settings) changes) ≡ last_in (sets settings letter) changes
+pub last_kept : (settings : List Token) (letter : ℕ) (changes : List ChangeParts)
+    → last_in (setting_of letter) (filter_map (mode_change settings) changes)
+    ≡ last_in (sets settings letter) changes
 last_kept settings letter changes = last_found (setting_of letter) (mode_change settings) changes

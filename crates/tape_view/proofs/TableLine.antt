@@ -27,43 +27,70 @@ use Rattle.tape_view.specs.Tape.{Heard, key, IsLast}
 use Rattle.tape_view.proofs.Stays.{stays_on, stays_member}
 use Rattle.tape_view.proofs.NextKey.{IsNextOf, next_named}
 
-begun_channel : (x : Reading) (older : List Reading) (c : Text) → is_on (x ∷ older) c ≡ true → is_on older c ≡ false → list_any (same c) (channels_in x.told) ≡ true
+begun_channel : (x : Reading) (older : List Reading) (c : Text) → is_on (x ∷ older) c ≡ true
+    → is_on older c ≡ false → list_any (same c) (channels_in x.told) ≡ true
 begun_channel x older c on off =
-    elim (list_any (same c) (channels_in x.told)) as (λ b. list_any (same c) (channels_in x.told) ≡ b → b ≡ true) [
+    elim (list_any (same c) (channels_in x.told)) as (λ b. list_any (same c) (channels_in x.told)
+    ≡ b → b ≡ true) [
       | true ↦ λ e. refl
-      | false ↦ λ e. absurd (no_true (sym off ∙ stays_on x older c (begins_none (ours x) x.told c e) on))
+      | false ↦ λ e. absurd
+          (no_true (sym off ∙ stays_on x older c (begins_none (ours x) x.told c e) on))
     ] refl
 
-unnamed_member : (x : Reading) (older : List Reading) (c n : Text) → list_any (same n) (people_in x.told) ≡ false → is_member (x ∷ older) c n ≡ true → is_member older c n ≡ true
+unnamed_member : (x : Reading) (older : List Reading) (c n : Text)
+    → list_any (same n) (people_in x.told) ≡ false → is_member (x ∷ older) c n ≡ true
+    → is_member older c n ≡ true
 unnamed_member x older c n unnamed =
     stays_member x older c n
     (λ e. no_true (sym (says_member_none c (ours x) x.told n unnamed) ∙ e))
-    (λ m e. ⊎_elim (λ none. absurd (none-some m (sym none ∙ e))) (λ some. sym (same_Some n m (sym some ∙ e))) (name_stays (ours x) x.told n unnamed))
+    (λ m e. ⊎_elim (λ none. absurd (none-some m (sym none ∙ e)))
+    (λ some. sym (same_Some n m (sym some ∙ e))) (name_stays (ours x) x.told n unnamed))
 
-made_member : (x : Reading) (older : List Reading) (c n : Text) → is_member (x ∷ older) c n ≡ true → is_member older c n ≡ false → list_any (same n) (people_in x.told) ≡ true
+made_member : (x : Reading) (older : List Reading) (c n : Text) → is_member (x ∷ older) c n ≡ true
+    → is_member older c n ≡ false → list_any (same n) (people_in x.told) ≡ true
 made_member x older c n here gone =
-    elim (list_any (same n) (people_in x.told)) as (λ b. list_any (same n) (people_in x.told) ≡ b → b ≡ true) [
+    elim (list_any (same n) (people_in x.told)) as (λ b. list_any (same n) (people_in x.told) ≡ b
+    → b ≡ true) [
       | true ↦ λ e. refl
       | false ↦ λ e. absurd (no_true (sym gone ∙ unnamed_member x older c n e here))
     ] refl
 
 -- what is in the table after an item, and was not before it, is named by the item
-brought_up : (settings : List Token) (table : Table) (x : Reading) (older : List Reading) (c : Text) → is_there (record { settings = settings; readings = x ∷ older }) table c ≡ true → is_there (record { settings = settings; readings = older }) table c ≡ false → list_any (same c) (names_in table x.told) ≡ true
+brought_up : (settings : List Token) (table : Table) (x : Reading) (older : List Reading) (c : Text)
+    → is_there (record { settings = settings; readings = x ∷ older }) table c ≡ true
+    → is_there (record { settings = settings; readings = older }) table c ≡ false
+    → list_any (same c) (names_in table x.told) ≡ true
 brought_up settings Channels x older c = begun_channel x older c
-brought_up settings (Members channel) x older c = made_member x older (key_by settings channel.now) c
+brought_up settings (Members channel) x older c =
+    made_member x older (key_by settings channel.now) c
 
 -- where we are on no channel, no table has anything
-pub gone : (tape : Heard) (table : Table) → ((c : Text) → is_on tape.readings c ≡ false) → (c : Text) → is_there tape table c ≡ false
+pub gone : (tape : Heard) (table : Table) → ((c : Text) → is_on tape.readings c ≡ false)
+    → (c : Text) → is_there tape table c ≡ false
 gone tape Channels off c = off c
-gone tape (Members channel) off c = ap (λ b. b && unwrap_or (last_of (says_member (key tape channel.now)) tape.readings c) false) (off (key tape channel.now))
+gone tape (Members channel) off c =
+    ap (λ b. b
+    && unwrap_or (last_of (says_member (key tape channel.now)) tape.readings c) false)
+    (off (key tape channel.now))
 
 module _ {A : Type 0} {tape older : Heard} {said : Said A} (line : IsLast tape said older) where
-  pub next_line : (settings : List Token) (there : Text → Bool) (table : Table) (after best new : Option Text) → tape.settings ≡ settings → new ≡ considered there after best (names_in table (meant settings said.telling)) →
-      IsNextOf bytes_cmp there (λ c. not (is_there tape table c)) after best → IsNextOf bytes_cmp there (λ c. not (is_there older table c)) after new
+  pub next_line : (settings : List Token) (there : Text
+      → Bool) (table : Table) (after best new : Option Text) → tape.settings ≡ settings
+      → new ≡ considered there after best (names_in table (meant settings said.telling)) →
+      IsNextOf bytes_cmp there (λ c. not (is_there tape table c)) after best
+      → IsNextOf bytes_cmp there (λ c. not (is_there older table c)) after new
   next_line settings there table after best new e is old =
-      let tells : meant settings said.telling ≡ line.reading.told = ap (λ s. meant s said.telling) (sym e ∙ sym line.settings) ∙ line.told in
-      let now : tape ≡ record { settings = tape.settings; readings = line.reading ∷ older.readings } = ap (λ rs. record { settings = tape.settings; readings = rs }) line.whole in
-      let before : older ≡ record { settings = tape.settings; readings = older.readings } = ap (λ s. record { settings = s; readings = older.readings }) line.same_settings in
-      subst (IsNextOf bytes_cmp there (λ c. not (is_there older table c)) after) (sym (is ∙ ap (λ t. considered there after best (names_in table t)) tells))
-      (next_named nat_list_cmp_total bytes_exact there (is_there tape table) (is_there older table) (names_in table line.reading.told) after best
-      (λ c f g. brought_up tape.settings table line.reading older.readings c (ap (λ (t : Heard). is_there t table c) (sym now) ∙ f) (ap (λ (t : Heard). is_there t table c) (sym before) ∙ g)) old)
+      let tells : meant settings said.telling ≡ line.reading.told =
+      ap (λ s. meant s said.telling) (sym e ∙ sym line.settings) ∙ line.told in
+      let now : tape
+      ≡ record { settings = tape.settings; readings = line.reading ∷ older.readings } =
+      ap (λ rs. record { settings = tape.settings; readings = rs }) line.whole in
+      let before : older ≡ record { settings = tape.settings; readings = older.readings } =
+      ap (λ s. record { settings = s; readings = older.readings }) line.same_settings in
+      subst (IsNextOf bytes_cmp there (λ c. not (is_there older table c)) after)
+      (sym (is ∙ ap (λ t. considered there after best (names_in table t)) tells))
+      (next_named nat_list_cmp_total bytes_exact there (is_there tape table) (is_there older table)
+      (names_in table line.reading.told) after best
+      (λ c f g. brought_up tape.settings table line.reading older.readings c
+      (ap (λ (t : Heard). is_there t table c) (sym now)
+      ∙ f) (ap (λ (t : Heard). is_there t table c) (sym before) ∙ g)) old)

@@ -25,16 +25,19 @@ use Rattle.tape_view.specs.Marks.{own_said, IsMarked}
 use Rattle.tape_view.specs.Kept.{with_lost, played_back, tape_of, AreMarked, IsMarkedLine, IsMarkedTape, IsReadable}
 use Rattle.tape_view.specs.Tape.{Heard, IsLast}
 
-pub tape_push : {A : Type 0} (front : List (Kept A)) (k : Kept A) → tape_of (front ++ k ∷ []) ≡ with_lost k.lost (Received k.line ∷ tape_of front)
+pub tape_push : {A : Type 0} (front : List (Kept A)) (k : Kept A)
+    → tape_of (front ++ k ∷ []) ≡ with_lost k.lost (Received k.line ∷ tape_of front)
 unfolding tape_of
 tape_push front k = ap played_back (reverse-append front (k ∷ []))
 
-pub marked_split : {A : Type 0} (front : List (Kept A)) (k : Kept A) → IsMarkedTape (front ++ k ∷ []) → IsMarkedLine (tape_of front) k × IsMarkedTape front
+pub marked_split : {A : Type 0} (front : List (Kept A)) (k : Kept A)
+    → IsMarkedTape (front ++ k ∷ []) → IsMarkedLine (tape_of front) k × IsMarkedTape front
 unfolding tape_of IsMarkedTape
 marked_split front k m = subst AreMarked (reverse-append front (k ∷ [])) m
 
 -- lines that are not none end with the last
-pub ends_with : {X : Type 0} (ks : List X) (k : X) → 1 ≤ length ks → k ≡ get_or ks (length ks - 1) k → ks ≡ take (length ks - 1) ks ++ k ∷ []
+pub ends_with : {X : Type 0} (ks : List X) (k : X) → 1 ≤ length ks → k ≡ get_or ks (length ks - 1) k
+    → ks ≡ take (length ks - 1) ks ++ k ∷ []
 ends_with ks k some last =
     let e : length ks ≡ (length ks - 1) + 1 = omega arith in
     sym (take_all (length ks) ks (omega arith))
@@ -47,15 +50,19 @@ steady : (t : Told) (s : Standing) → ready_after t s ≡ true → settings_aft
 steady (Welcomed nick) s e = absurd (no_true e)
 steady (Supports params) s e =
     ap (λ r. cond (is_some s.own && not r) (set_tokens s.settings params) s.settings) e
-    ∙ elim (is_some s.own) as (λ b. cond (b && not true) (set_tokens s.settings params) s.settings ≡ s.settings) [ true ↦ refl | false ↦ refl ]
+    ∙ elim (is_some s.own) as (λ b. cond (b && not true) (set_tokens s.settings params) s.settings
+    ≡ s.settings) [ true ↦ refl | false ↦ refl ]
 steady _ s e = refl
 
-standing_line : (b : Bool) (l : Parts) (older : List Arrival) → standing (with_lost b (Received l ∷ older)) ≡ standing_after (told (settings_of older) (Received l)) (standing older)
+standing_line : (b : Bool) (l : Parts) (older : List Arrival)
+    → standing (with_lost b (Received l ∷ older))
+    ≡ standing_after (told (settings_of older) (Received l)) (standing older)
 unfolding told
 standing_line true l older = refl
 standing_line false l older = refl
 
-off_lost : (l : Parts) (older : List Arrival) (c : Text) → is_on (readings_of (with_lost true (Received l ∷ older))) c ≡ false
+off_lost : (l : Parts) (older : List Arrival) (c : Text)
+    → is_on (readings_of (with_lost true (Received l ∷ older))) c ≡ false
 unfolding told
 off_lost l older c = refl
 
@@ -64,61 +71,94 @@ unfolding tape_of
 off_none A c = refl
 
 -- where we are on a channel the settings are fixed
-ready_on : (items : List Arrival) (c : Text) → is_on (readings_of items) c ≡ true → is_ready items ≡ true
+ready_on : (items : List Arrival) (c : Text) → is_on (readings_of items) c ≡ true
+    → is_ready items ≡ true
 ready_on items c on =
-    elim (name_on (readings_of items) c) as (λ o. name_on (readings_of items) c ≡ o → is_some o ≡ true → is_ready items ≡ true) [
+    elim (name_on (readings_of items) c) as (λ o. name_on (readings_of items) c ≡ o
+    → is_some o ≡ true → is_ready items ≡ true) [
       | None ↦ λ e h. absurd (no_true h)
-      | Some name ↦ λ e h. ((sound_back items).channels c (channel_named (readings_of items) c name) (channels_get (readings_of items) c ∙ ap (option_map (channel_named (readings_of items) c)) e)).ready
+      | Some name ↦ λ e
+          h. ((sound_back items).channels c (channel_named (readings_of items) c name)
+          (channels_get (readings_of items) c
+          ∙ ap (option_map (channel_named (readings_of items) c)) e)).ready
     ] refl on
 
-pub unready_off : (items : List Arrival) (c : Text) → is_ready items ≡ false → is_on (readings_of items) c ≡ false
-unready_off items c e = false_unless (is_on (readings_of items) c) (λ on. no_true (sym e ∙ ready_on items c on))
+pub unready_off : (items : List Arrival) (c : Text) → is_ready items ≡ false
+    → is_on (readings_of items) c ≡ false
+unready_off items c e =
+    false_unless (is_on (readings_of items) c) (λ on. no_true (sym e ∙ ready_on items c on))
 
 module _ {A : Type 0} (front : List (Kept A)) (k : Kept A) where
   -- the last line as it is read
   abbrev here : Reading
-  here = record { before = standing (tape_of front); told = told (settings_of (tape_of front)) (Received k.line) }
+  here = record {
+    before = standing (tape_of front);
+    told =
+        told (settings_of (tape_of front)) (Received k.line);
+  }
 
   pub standing_here : standing (tape_of (front ++ k ∷ [])) ≡ standing_after here.told here.before
   standing_here = ap standing (tape_push front k) ∙ standing_line k.lost k.line (tape_of front)
 
   -- the mark of the settings
   pub fixed_here : IsMarkedTape (front ++ k ∷ []) → is_ready (tape_of (front ++ k ∷ [])) ≡ k.fixed
-  fixed_here m = ap (λ (s : Standing). s.ready) standing_here ∙ sym ((marked_split front k m).0).fixed
+  fixed_here m =
+      ap (λ (s : Standing). s.ready) standing_here ∙ sym ((marked_split front k m).0).fixed
 
-  off_here : IsMarkedTape (front ++ k ∷ []) → (c : Text) → (k.lost ≡ true) ⊎ (k.fixed ≡ false) → is_on (readings_of (tape_of (front ++ k ∷ []))) c ≡ false
-  off_here m c (inl lost) = ap (λ items. is_on (readings_of items) c) (tape_push front k ∙ ap (λ b. with_lost b (Received k.line ∷ tape_of front)) lost) ∙ off_lost k.line (tape_of front) c
+  off_here : IsMarkedTape (front ++ k ∷ []) → (c : Text) → (k.lost ≡ true) ⊎ (k.fixed ≡ false)
+      → is_on (readings_of (tape_of (front ++ k ∷ []))) c ≡ false
+  off_here m c (inl lost) =
+      ap (λ items. is_on (readings_of items) c) (tape_push front k
+      ∙ ap (λ b. with_lost b (Received k.line ∷ tape_of front)) lost)
+      ∙ off_lost k.line (tape_of front) c
   off_here m c (inr fixed) = unready_off (tape_of (front ++ k ∷ [])) c (fixed_here m ∙ fixed)
 
-  module _ (settings : List Token) (h : IsReadable settings (front ++ k ∷ [])) (fixed : k.fixed ≡ true) where
+  module _ (settings : List Token) (h : IsReadable settings (front ++ k ∷ [])) (fixed : k.fixed
+      ≡ true) where
     -- once the settings are fixed, the line was read by those in force
     read_here : settings_of (tape_of front) ≡ settings
     read_here =
         let ready = fixed_here h.marked ∙ fixed in
-        sym (steady here.told here.before (sym (ap (λ (s : Standing). s.ready) standing_here) ∙ ready))
+        sym (steady here.told here.before (sym (ap (λ (s : Standing). s.ready) standing_here)
+        ∙ ready))
         ∙ sym (ap (λ (s : Standing). s.settings) standing_here)
         ∙ h.read ready
 
     readable_front : IsReadable settings front
     readable_front = record { marked = (marked_split front k h.marked).1; read = λ _. read_here }
 
-    is_last_here : (s : Bor (List Token)) (r : Telling A) → s.now ≡ settings → k.lost ≡ false → ((s : List Token) → meant s r ≡ told s (Received k.line)) →
-        IsLast (record { settings = s.now; readings = readings_of (tape_of (front ++ k ∷ [])) }) (record { support = s; telling = r; marks = k.marks }) (record { settings = s.now; readings = readings_of (tape_of front) })
+    is_last_here : (s : Bor (List Token)) (r : Telling A) → s.now ≡ settings → k.lost ≡ false
+        → ((s : List Token) → meant s r ≡ told s (Received k.line)) →
+        IsLast (record {
+          settings = s.now;
+          readings =
+              readings_of (tape_of (front ++ k ∷ []));
+        }) (record {
+          support = s;
+          telling = r;
+          marks =
+              k.marks;
+        }) (record { settings = s.now; readings = readings_of (tape_of front) })
     unfolding told
     is_last_here s r e lost tells =
-        let tell : meant s.now r ≡ here.told = tells s.now ∙ ap (λ q. told q (Received k.line)) (e ∙ sym read_here) in
+        let tell : meant s.now r ≡ here.told =
+        tells s.now ∙ ap (λ q. told q (Received k.line)) (e ∙ sym read_here) in
         record {
           reading = here;
-          whole = ap readings_of (tape_push front k ∙ ap (λ b. with_lost b (Received k.line ∷ tape_of front)) lost);
+          whole = ap readings_of (tape_push front k
+              ∙ ap (λ b. with_lost b (Received k.line ∷ tape_of front)) lost);
           told = tell;
-          marks = subst (λ t. IsMarked (ours here) t k.marks) (sym tell) ((marked_split front k h.marked).0).marks;
+          marks = subst (λ t. IsMarked (ours here) t k.marks) (sym tell)
+              ((marked_split front k h.marked).0).marks;
           settings = refl;
           same_settings = refl;
         }
 
 own_by : (t : Told) (s : Standing) → own_after t s ≡ option_or (own_said (is_us s) t) s.own
 own_by (Welcomed nick) s = refl
-own_by (Renamed old new) s = elim (is_us s old) as (λ b. cond b (Some new.spelled) s.own ≡ option_or (cond b (Some new.spelled) None) s.own) [ true ↦ refl | false ↦ refl ]
+own_by (Renamed old new) s =
+    elim (is_us s old) as (λ b. cond b (Some new.spelled) s.own
+    ≡ option_or (cond b (Some new.spelled) None) s.own) [ true ↦ refl | false ↦ refl ]
 own_by _ s = refl
 
 pub own_none : (A : Type 0) → own_nick (tape_of {A = A} []) ≡ None
@@ -129,30 +169,51 @@ pub ready_none : (A : Type 0) → is_ready (tape_of {A = A} []) ≡ false
 unfolding tape_of
 ready_none A = refl
 
-module _ {A : Type 0} (ks : List (Kept A)) (k : Kept A) (some : 1 ≤ length ks) (last : k ≡ get_or ks (length ks - 1) k) where
+module _ {A : Type 0} (ks : List (Kept A)) (k : Kept A) (some : 1 ≤ length ks) (last : k
+    ≡ get_or ks (length ks - 1) k) where
   abbrev older : List (Kept A)
   older = take (length ks - 1) ks
 
-  pub off_after : IsMarkedTape ks → (k.lost ≡ true) ⊎ (k.fixed ≡ false) → (c : Text) → is_on (readings_of (tape_of ks)) c ≡ false
+  pub off_after : IsMarkedTape ks → (k.lost ≡ true) ⊎ (k.fixed ≡ false) → (c : Text)
+      → is_on (readings_of (tape_of ks)) c ≡ false
   off_after m either c =
       let e = ends_with ks k some last in
-      ap (λ l. is_on (readings_of (tape_of l)) c) e ∙ off_here older k (subst IsMarkedTape e m) c either
+      ap (λ l. is_on (readings_of (tape_of l)) c) e
+      ∙ off_here older k (subst IsMarkedTape e m) c either
 
-  pub readable_older : (settings : List Token) → IsReadable settings ks → k.fixed ≡ true → IsReadable settings (take (length ks - 1) ks)
-  readable_older settings h fixed = readable_front older k settings (subst (IsReadable settings) (ends_with ks k some last) h) fixed
+  pub readable_older : (settings : List Token) → IsReadable settings ks → k.fixed ≡ true
+      → IsReadable settings (take (length ks - 1) ks)
+  readable_older settings h fixed =
+      readable_front older k settings (subst (IsReadable settings) (ends_with ks k some last) h)
+      fixed
 
-  pub is_last : (s : Bor (List Token)) (r : Telling A) (t : Heard) → record { settings = s.now; readings = readings_of (tape_of ks) } ≡ t → IsReadable s.now ks → k.lost ≡ false → k.fixed ≡ true → ((s : List Token) → meant s r ≡ told s (Received k.line)) →
-      IsLast t (record { support = s; telling = r; marks = k.marks }) (record { settings = s.now; readings = readings_of (tape_of (take (length ks - 1) ks)) })
+  pub is_last : (s : Bor (List Token)) (r : Telling A) (t : Heard)
+      → record { settings = s.now; readings = readings_of (tape_of ks) } ≡ t → IsReadable s.now ks
+      → k.lost ≡ false → k.fixed ≡ true
+      → ((s : List Token) → meant s r ≡ told s (Received k.line)) →
+      IsLast t (record { support = s; telling = r; marks = k.marks }) (record {
+        settings =
+            s.now;
+        readings = readings_of (tape_of (take (length ks - 1) ks));
+      })
   is_last s r t is h lost fixed tells =
       let e = ends_with ks k some last in
-      subst (λ t. IsLast t (record { support = s; telling = r; marks = k.marks }) (record { settings = s.now; readings = readings_of (tape_of older) }))
+      subst (λ t. IsLast t (record {
+        support = s;
+        telling = r;
+        marks =
+            k.marks;
+      }) (record { settings = s.now; readings = readings_of (tape_of older) }))
       (ap (λ l. record { settings = s.now; readings = readings_of (tape_of l) }) (sym e) ∙ is)
       (is_last_here older k s.now (subst (IsReadable s.now) e h) fixed s r refl lost tells)
 
   pub marked_older : IsMarkedTape ks → IsMarkedTape (take (length ks - 1) ks)
   marked_older m = (marked_split older k (subst IsMarkedTape (ends_with ks k some last) m)).1
 
-  pub own_last : (r : Telling A) (own : Option Text) → ((s : List Token) → meant s r ≡ told s (Received k.line)) → IsMarkedTape ks → ((s : List Token) (us : Text → Bool) → IsMarked us (meant s r) k.marks → own ≡ own_said us (meant s r)) →
+  pub own_last : (r : Telling A) (own : Option Text)
+      → ((s : List Token) → meant s r ≡ told s (Received k.line)) → IsMarkedTape ks
+      → ((s : List Token) (us : Text → Bool) → IsMarked us (meant s r) k.marks
+      → own ≡ own_said us (meant s r)) →
       own_nick (tape_of ks) ≡ option_or own (own_nick (tape_of (take (length ks - 1) ks)))
   own_last r own tells m read =
       let e = ends_with ks k some last in
@@ -163,17 +224,21 @@ module _ {A : Type 0} (ks : List (Kept A)) (k : Kept A) (some : 1 ≤ length ks)
       ∙ ap (λ (s : Standing). s.own) (standing_here older k)
       ∙ ap (λ t. own_after t (standing items)) (sym tell)
       ∙ own_by (meant (settings_of items) r) (standing items)
-      ∙ ap (λ o. option_or o (own_nick items)) (sym (read (settings_of items) (is_us (standing items)) (subst (λ t. IsMarked (is_us (standing items)) t k.marks) (sym tell) marks.marks)))
+      ∙ ap (λ o. option_or o (own_nick items))
+      (sym (read (settings_of items) (is_us (standing items))
+      (subst (λ t. IsMarked (is_us (standing items)) t k.marks) (sym tell) marks.marks)))
 
   pub command_last : IsMarkedTape ks → state_command k.line ≡ Some k.command
-  command_last m = ((marked_split older k (subst IsMarkedTape (ends_with ks k some last) m)).0).command
+  command_last m =
+      ((marked_split older k (subst IsMarkedTape (ends_with ks k some last) m)).0).command
 
   pub ready_last : IsMarkedTape ks → is_ready (tape_of ks) ≡ k.fixed
   ready_last m =
       let e = ends_with ks k some last in
       ap (λ l. is_ready (tape_of l)) e ∙ fixed_here older k (subst IsMarkedTape e m)
 
-pub last_shorter : {A : Type 0} (tape older : Heard) (said : Said A) → IsLast tape said older → length older.readings < length tape.readings
+pub last_shorter : {A : Type 0} (tape older : Heard) (said : Said A) → IsLast tape said older
+    → length older.readings < length tape.readings
 last_shorter tape older said line = let e = ap length line.whole in omega (arith, e)
 
 pub no_lines : {X : Type 0} (ks : List X) → length ks < 1 → ks ≡ []
@@ -190,9 +255,17 @@ pub record EndsWith {A : Type 0} (ks : List A) (i : ℕ) (x : A) : Type 0 where
 
 pub split_last : {A : Type 0} (ks : List A) (i : ℕ) (x : A) → suc i ≡ length ks → EndsWith ks i x
 split_last [] i x e = absurd (omega arith)
-split_last (k ∷ []) zero x e = record { front = []; last = k; whole = refl; marked = refl; is = refl }
+split_last (k ∷ []) zero x e =
+    record { front = []; last = k; whole = refl; marked = refl; is = refl }
 split_last (k ∷ []) (suc i) x e = absurd (omega arith)
 split_last (k ∷ j ∷ ks) zero x e = absurd (omega arith)
 split_last (k ∷ j ∷ ks) (suc i) x e =
     let r = split_last (j ∷ ks) i x (omega arith) in
-    record { front = k ∷ r.front; last = r.last; whole = ap (λ s. k ∷ s) r.whole; marked = ap (λ s. k ∷ s) r.marked; is = r.is }
+    record {
+      front = k ∷ r.front;
+      last = r.last;
+      whole = ap (λ s. k ∷ s) r.whole;
+      marked =
+          ap (λ s. k ∷ s) r.marked;
+      is = r.is;
+    }

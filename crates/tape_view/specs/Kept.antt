@@ -21,7 +21,8 @@ played_back (k ∷ older) = with_lost k.lost (Received k.line ∷ played_back ol
 unfoldable pub tape_of : {A : Type 0} → List (Kept A) → List Arrival
 tape_of kept = played_back (reverse kept)
 
--- A kept line is marked by its command, by who we were before it, and by whether the settings are fixed after it.
+-- A kept line is marked by its command, by who we were before it, and by whether the settings are
+-- fixed after it.
 pub record IsMarkedLine {A : Type 0} (older : List Arrival) (k : Kept A) : Type 0 where
   pub command : state_command k.line ≡ Some k.command
   pub marks : IsMarked (is_us (standing older)) (told (settings_of older) (Received k.line)) k.marks

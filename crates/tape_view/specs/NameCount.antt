@@ -1,5 +1,5 @@
--- How many names of channels and persons kept lines bring up, which bounds how many channels or members are
--- shown.
+-- How many names of channels and persons kept lines bring up, which bounds how many channels or
+-- members are shown.
 use Rattle.std.specs.Prelude.{ℕ, ◌<◌, ◌≤◌, ◌^◌, List, length}
 use Rattle.tape_view.specs.declared.places.Table.{Table}
 use Rattle.tape_view.specs.declared.kept.Kept.{Kept}
@@ -19,4 +19,5 @@ name_count _ = 0
 -- a number of 64 bits; the kept lines bring up no more channels than this, and no more persons
 pub record IsCounted {A : Type 0} (kept : List (Kept A)) (count : ℕ) : Type 0 where
   pub small : count < 2 ^ 64
-  pub enough : (table : Table) → length (named (names_in table) (readings_of (tape_of kept))) ≤ count
+  pub enough : (table : Table)
+      → length (named (names_in table) (readings_of (tape_of kept))) ≤ count

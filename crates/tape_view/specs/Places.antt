@@ -20,7 +20,8 @@ use Rattle.tape_view.specs.declared.places.Table.TheVariants.{Channels, Members}
 
 -- the keys of the members that a 353 names
 abbrev pub keys_listed : List Token → Parts → List Text
-keys_listed settings line = map_list (λ l. l.person.key) (filter_map (listing settings) (words_in settings line))
+keys_listed settings line =
+    map_list (λ l. l.person.key) (filter_map (listing settings) (words_in settings line))
 
 -- the keys that an item names
 abbrev pub names_in : Table → Told → List Text
@@ -34,10 +35,14 @@ is_there tape (Members channel) k = is_member tape.readings (key tape channel.no
 
 -- the key at a place
 abbrev pub key_at : Heard → Table → ℕ → Option Text
-key_at tape Channels i = option_map (λ e. e.0) (slice_get (map.entries (channels_of tape.readings)) i)
-key_at tape (Members channel) i = option_map (λ e. e.0) (slice_get (map.entries (members_of tape.readings (key tape channel.now))) i)
+key_at tape Channels i =
+    option_map (λ e. e.0) (slice_get (map.entries (channels_of tape.readings)) i)
+key_at tape (Members channel) i =
+    option_map (λ e. e.0)
+    (slice_get (map.entries (members_of tape.readings (key tape channel.now))) i)
 
 -- how many there are
 abbrev pub table_len : Heard → Table → ℕ
 table_len tape Channels = length (map.entries (channels_of tape.readings))
-table_len tape (Members channel) = length (map.entries (members_of tape.readings (key tape channel.now)))
+table_len tape (Members channel) =
+    length (map.entries (members_of tape.readings (key tape channel.now)))

@@ -7,10 +7,11 @@ use Rattle.tape_view.specs.declared.kept.Kept.{Kept}
 use Rattle.tape_view.specs.Kept.{tape_of, IsMarkedTape}
 use Rattle.tape_view.specs.NameCount.{IsCounted}
 
--- each is marked by what was before it, these settings are in force after them, they bring up at most so many
--- names, and each can be written
-pub record IsWhole {A : Type 0} (kept : List (Kept A)) (settings : List Token) (names : ℕ) : Type 0 where
-  pub marked : IsMarkedTape kept
-  pub in_force : settings_of (tape_of kept) ≡ settings
-  pub counted : IsCounted kept names
-  pub written : AreWritten (tape_of kept)
+-- each is marked by what was before it, these settings are in force after them, they bring up at
+-- most so many names, and each can be written
+pub record IsWhole {A : Type 0} (kept : List (Kept A)) (settings : List Token) (names : ℕ) : Type 0
+  where
+    pub marked : IsMarkedTape kept
+    pub in_force : settings_of (tape_of kept) ≡ settings
+    pub counted : IsCounted kept names
+    pub written : AreWritten (tape_of kept)

@@ -44,8 +44,8 @@ impl<'a, A: Allocator> Tape<'a, A> {
         self.name_on(channel).is_some()
     }
 
-    /// Whether the person is a member of some channel that we are on. The channels that are asked are
-    /// those of our own JOINs.
+    /// Whether the person is a member of some channel that we are on. The channels that are asked
+    /// are those of our own JOINs.
     fn is_in_sight(&self, nick: &[u8]) -> bool
         ensures { result ≡ in_sight self.now.readings (key self.now nick.now) }
     {
@@ -100,8 +100,8 @@ impl<'a, A: Allocator> Tape<'a, A> {
         }
     }
 
-    /// What the last line, which tells this, says of a person's account: nothing, that there is none,
-    /// or the account.
+    /// What the last line, which tells this, says of a person's account: nothing, that there is
+    /// none, or the account.
     fn says_account(&self, telling: &Telling<'a, A>, nick: &[u8]) -> Option<Option<&'a [u8]>>
         ensures { (us : Text → Bool) → option_map (option_map (λ name. name.now)) result
             ≡ says_account us (is_on self.now.readings) (meant self.now.settings telling.now)
@@ -148,9 +148,9 @@ impl<'a, A: Allocator> Tape<'a, A> {
         }
     }
 
-    /// What is known of a person: what was said last, where the person has been in sight ever since.
-    /// The person is followed back under earlier names. Whoever is in sight after a line that does not
-    /// spell the nick was in sight before it.
+    /// What is known of a person: what was said last, where the person has been in sight ever
+    /// since. The person is followed back under earlier names. Whoever is in sight after a line
+    /// that does not spell the nick was in sight before it.
     pub(crate) fn fact(&self, nick: &[u8], fact: Fact) -> Option<&'a [u8]>
         ensures { option_map (λ text. text.now) result
             ≡ known (says_of fact) self.now.readings (key self.now nick.now) }

@@ -23,8 +23,8 @@ pub(crate) struct Marks {
     pub(crate) names_us: bool,
 }
 
-/// A state line with its command, whether it comes from us or names us, whether the settings are fixed
-/// after it, and whether the connection was lost before the next one.
+/// A state line with its command, whether it comes from us or names us, whether the settings are
+/// fixed after it, and whether the connection was lost before the next one.
 #[derive(Drop)]
 pub(crate) struct Kept<A: Allocator> {
     pub(crate) command: StateCommand,

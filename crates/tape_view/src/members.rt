@@ -119,8 +119,8 @@ impl<'a, A: Allocator> Said<'a, A> {
 }
 
 impl<'a, A: Allocator> Tape<'a, A> {
-    /// Whether the last line that speaks of the channel, on which we are, and of the person makes the
-    /// person a member. The person is followed back under earlier names.
+    /// Whether the last line that speaks of the channel, on which we are, and of the person makes
+    /// the person a member. The person is followed back under earlier names.
     fn was_made_member(&self, channel: &[u8], nick: &[u8]) -> bool
         requires { is_on self.now.readings (key self.now channel.now) ≡ true }
         ensures { result

@@ -1,5 +1,5 @@
-//! The modes of a channel on which we are: what the kept lines say of a letter, and the letters that
-//! are on, in the order of their bytes.
+//! The modes of a channel on which we are: what the kept lines say of a letter, and the letters
+//! that are on, in the order of their bytes.
 
 ghost use Rattle.std.specs.Prelude.{◌≡◌, Bool, true, option_map};
 ghost use Rattle.std.specs.List.{filter_map};

@@ -1,5 +1,5 @@
-//! What stands at a place: the channels that we are on, and the members of one, in the order of their
-//! keys.
+//! What stands at a place: the channels that we are on, and the members of one, in the order of
+//! their keys.
 
 ghost use Rattle.std.specs.Prelude.{◌≡◌, ◌<◌, ◌^◌, length, option_map};
 ghost use Rattle.std.specs.Ordering.{is_lt};

@@ -15,8 +15,8 @@ use net_view::{Telling, told_as};
 use std::alloc::Allocator;
 use std::marker::Model;
 
-/// A line of a tape: the settings that it is read by, what it tells, and whether it comes from us or
-/// names us.
+/// A line of a tape: the settings that it is read by, what it tells, and whether it comes from us
+/// or names us.
 #[derive(Drop)]
 pub(crate) struct Said<'a, A: Allocator> {
     pub(crate) support: &'a Support<A>,
@@ -103,8 +103,8 @@ impl<'a, A: Allocator> Tape<'a, A> {
         is_same(self.support, a, b)
     }
 
-    /// The last line, and the tape before it; `None` where nothing was told since the connection was
-    /// lost, or since the network took us in. Then we are on no channel.
+    /// The last line, and the tape before it; `None` where nothing was told since the connection
+    /// was lost, or since the network took us in. Then we are on no channel.
     pub(crate) fn split_last(&self) -> Option<(Said<'a, A>, Tape<'a, A>)>
         ensures last { IfSome result (λ r. IsLast self.now r.0 r.1) }
         ensures shorter { IfSome result (λ r. length r.1.readings < length self.now.readings) }

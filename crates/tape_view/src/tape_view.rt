@@ -14,12 +14,12 @@ use net_view::{Channel, Item, Member, NetworkView, OutOfMemory, StateCommand, Te
 use std::alloc::{Allocator, Global};
 use std::marker::Model;
 
-/// A view that keeps the state lines in a list, and searches them backwards. A loss of the connection
-/// is a mark beside the last kept line.
+/// A view that keeps the state lines in a list, and searches them backwards. A loss of the
+/// connection is a mark beside the last kept line.
 ///
-/// Readers take no memory. They are slow: the time of one by place grows with a power of the number of
-/// the kept lines, and that of `take` of a state line with their number. All lines are kept, however
-/// long the network is connected.
+/// Readers take no memory. They are slow: the time of one by place grows with a power of the number
+/// of the kept lines, and that of `take` of a state line with their number. All lines are kept,
+/// however long the network is connected.
 #[derive(Drop)]
 pub struct TapeView<A: Allocator = Global> {
     kept: Vec<Kept<A>, A>,

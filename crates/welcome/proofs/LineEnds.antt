@@ -16,16 +16,26 @@ no_end b h = grind (arith, nat_tests)
 
 no_ends : (text : List ℕ) → IsClean text → filter (λ b. b == 10) text ≡ []
 no_ends [] c = refl
-no_ends (b ∷ text) c = ap (λ v. cond v (b ∷ filter (λ b. b == 10) text) (filter (λ b. b == 10) text)) (no_end b c.0) ∙ no_ends text c.1
+no_ends (b ∷ text) c =
+    ap (λ v. cond v (b ∷ filter (λ b. b == 10) text) (filter (λ b. b == 10) text)) (no_end b c.0)
+    ∙ no_ends text c.1
 
-line_ends : (lines : List Parts) → AreLines lines → length (filter (λ b. b == 10) (flat_map written lines)) ≡ length lines
+line_ends : (lines : List Parts) → AreLines lines
+    → length (filter (λ b. b == 10) (flat_map written lines)) ≡ length lines
 line_ends [] w = refl
 line_ends (l ∷ ls) w =
-    let text : filter (λ b. b == 10) (written l) ≡ 10 ∷ [] = filter-append (λ b. b == 10) (text_of l) (13 ∷ 10 ∷ []) ∙ ap (λ t. t ++ 10 ∷ []) (no_ends (text_of l) (writable-spells l w.0).clean) in
-    ap length (filter-append (λ b. b == 10) (written l) (flat_map written ls) ∙ ap (λ t. t ++ filter (λ b. b == 10) (flat_map written ls)) text) ∙ more (length (filter (λ b. b == 10) (flat_map written ls))) (length ls) (line_ends ls w.1) where
+    let text : filter (λ b. b == 10) (written l) ≡ 10 ∷ [] =
+    filter-append (λ b. b == 10) (text_of l) (13 ∷ 10 ∷ [])
+    ∙ ap (λ t. t ++ 10 ∷ []) (no_ends (text_of l) (writable-spells l w.0).clean) in
+    ap length (filter-append (λ b. b == 10) (written l) (flat_map written ls)
+    ∙ ap (λ t. t ++ filter (λ b. b == 10) (flat_map written ls)) text)
+    ∙ more (length (filter (λ b. b == 10) (flat_map written ls))) (length ls)
+    (line_ends ls w.1) where
       more : (m n : ℕ) → m ≡ n → suc m ≡ suc n
       more m n e = ap suc e
 
 -- a packet has as many lines as LFs
-pub ends_counted : (bytes : List ℕ) (count : ℕ) → IsPacket bytes count → length (filter (λ b. b == 10) bytes) ≡ length (lines_of bytes)
-ends_counted bytes count p = ap (λ t. length (filter (λ b. b == 10) t)) (sym p.whole) ∙ line_ends (lines_of bytes) p.lines
+pub ends_counted : (bytes : List ℕ) (count : ℕ) → IsPacket bytes count
+    → length (filter (λ b. b == 10) bytes) ≡ length (lines_of bytes)
+ends_counted bytes count p =
+    ap (λ t. length (filter (λ b. b == 10) t)) (sym p.whole) ∙ line_ends (lines_of bytes) p.lines

@@ -13,21 +13,31 @@ use Rattle.welcome.proofs.Places.{take_next}
 
 -- the bytes of some persons' lines
 abbrev pub persons_said : Caps → List Member → List ℕ
-persons_said caps ms = flat_map written (flat_map (λ (m : Member). person_lines caps (person_lent m)) ms)
+persons_said caps ms =
+    flat_map written (flat_map (λ (m : Member). person_lines caps (person_lent m)) ms)
 
 -- of those before a place
 abbrev pub persons_before : Caps → List Member → ℕ → List ℕ
 persons_before caps ms i = persons_said caps (take i ms)
 
 -- one person more
-pub person_pushed : (caps : Caps) (ms : List Member) (i : ℕ) (m : Member) (before now then : List ℕ) → slice_get ms i ≡ Some m → now ≡ before ++ persons_before caps ms i → then ≡ now ++ flat_map written (person_lines caps (person_lent m)) → then ≡ before ++ persons_before caps ms (i + 1)
+pub person_pushed : (caps : Caps) (ms : List Member) (i : ℕ) (m : Member) (before now then : List ℕ)
+    → slice_get ms i ≡ Some m → now ≡ before ++ persons_before caps ms i
+    → then ≡ now ++ flat_map written (person_lines caps (person_lent m))
+    → then ≡ before ++ persons_before caps ms (i + 1)
 person_pushed caps ms i m before now then at is e =
     let lines = λ (m : Member). person_lines caps (person_lent m) in
     let next = flat_map written (lines m) in
     e ∙ ap (λ t. t ++ next) is ∙ append_assoc before (persons_before caps ms i) next
-    ∙ ap (λ t. before ++ t) (sym (ap (persons_said caps) (take_next ms i ∙ ap (λ o. take i ms ++ option_to_list o) at)
-    ∙ ap (flat_map written) (flat_map-append lines (take i ms) (m ∷ [])) ∙ flat_map-append written (flat_map lines (take i ms)) (flat_map lines (m ∷ []))
+    ∙ ap (λ t. before
+    ++ t) (sym
+    (ap (persons_said caps) (take_next ms i ∙ ap (λ o. take i ms ++ option_to_list o) at)
+    ∙ ap (flat_map written) (flat_map-append lines (take i ms) (m ∷ []))
+    ∙ flat_map-append written (flat_map lines (take i ms)) (flat_map lines (m ∷ []))
     ∙ ap (λ ls. persons_before caps ms i ++ flat_map written ls) (append-nil (lines m))))
 
-pub persons_all : (caps : Caps) (ms : List Member) (i : ℕ) → i ≡ length ms → persons_before caps ms i ≡ persons_said caps ms
-persons_all caps ms i e = ap (λ k. persons_before caps ms k) e ∙ ap (persons_said caps) (take_all (length ms) ms (omega arith))
+pub persons_all : (caps : Caps) (ms : List Member) (i : ℕ) → i ≡ length ms
+    → persons_before caps ms i ≡ persons_said caps ms
+persons_all caps ms i e =
+    ap (λ k. persons_before caps ms k) e
+    ∙ ap (persons_said caps) (take_all (length ms) ms (omega arith))

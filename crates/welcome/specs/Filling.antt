@@ -14,4 +14,8 @@ name_row v name row = reply v (codes "353") (codes "=" ∷ name ∷ join_with_by
 
 -- the lines of the burst that tell of the network and its channels: all but those of persons
 abbrev pub network_lines : View → Caps → List Parts
-network_lines v caps = greeting_of v ++ (settings_lines v ++ (no_motd v ∷ flat_map (λ (e : Text × Channel). channel_lines v caps e.1) (fin.entries v.channels)))
+network_lines v caps =
+    greeting_of v
+    ++ (settings_lines v
+    ++ (no_motd v ∷ flat_map (λ (e : Text
+    × Channel). channel_lines v caps e.1) (fin.entries v.channels)))

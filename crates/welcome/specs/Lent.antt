@@ -24,7 +24,8 @@ modes_at v i = option_map_or (λ (ch : view.Channel). fin.entries ch.modes) (cha
 
 -- the members of the channel at this place, in the order of their keys, with their ranks
 abbrev pub members_at : view.View → ℕ → List (Text × List ℕ)
-members_at v i = option_map_or (λ (ch : view.Channel). fin.entries ch.members) (channel_shown v i) []
+members_at v i =
+    option_map_or (λ (ch : view.Channel). fin.entries ch.members) (channel_shown v i) []
 
 -- a person, from what is lent of a member
 abbrev pub person_lent : Member → view.Person

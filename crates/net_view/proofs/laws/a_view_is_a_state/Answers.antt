@@ -4,7 +4,8 @@ use Rattle.net_view.specs.View.{view_of}
 use Rattle.net_view.proofs.StepLaw.{view_is_state}
 use Rattle.net_view.proofs.laws.a_view_is_a_state.Goals as goal
 
-stay : (items others more : List Arrival) → view_of items ≡ view_of others → view_of (items ++ more) ≡ view_of (others ++ more)
+stay : (items others more : List Arrival) → view_of items ≡ view_of others
+    → view_of (items ++ more) ≡ view_of (others ++ more)
 stay items others [] e = ap view_of (append-nil items) ∙ e ∙ sym (ap view_of (append-nil others))
 stay items others (x ∷ more) e =
     sym (ap view_of (append_assoc items (x ∷ []) more))

@@ -9,5 +9,7 @@ returns-else-eq c =
     let text = c.args.text.now in
     let word : is_word text ≡ true = sym c.is_word.ensures ∙ c.if-not-is_word.false in
     let other : same text (codes "*") ≡ false =
-    ap (same text) (sym c.as_slice.ensures) ∙ sym (texts_ties text c.as_slice.result.now) ∙ sym c.eq.ensures ∙ c.if-eq.false in
-    sym (ap (λ b. cond b (Some (cond (same text (codes "*")) None (Some text))) None) word ∙ ap (λ b. Some (cond b None (Some text))) other)
+    ap (same text) (sym c.as_slice.ensures) ∙ sym (texts_ties text c.as_slice.result.now)
+    ∙ sym c.eq.ensures ∙ c.if-eq.false in
+    sym (ap (λ b. cond b (Some (cond (same text (codes "*")) None (Some text))) None) word
+    ∙ ap (λ b. Some (cond b None (Some text))) other)

@@ -11,5 +11,8 @@ returns g c =
     let a = key_by c.args.support.now c.args.a.now in
     let b = key_by c.args.support.now c.args.b.now in
     both_or_neither c.same.result (same a b)
-    (λ e. ap (same a) (sym (subst (λ m. key_of m c.args.a.now ≡ key_of m c.args.b.now) c.mapping.ensures (c.same.ensures.0 e))) ∙ same_refl a)
-    (λ e. c.same.ensures.1 (subst (λ m. key_of m c.args.a.now ≡ key_of m c.args.b.now) (sym c.mapping.ensures) (is_same a b e)))
+    (λ e. ap (same a)
+    (sym (subst (λ m. key_of m c.args.a.now
+    ≡ key_of m c.args.b.now) c.mapping.ensures (c.same.ensures.0 e))) ∙ same_refl a)
+    (λ e. c.same.ensures.1 (subst (λ m. key_of m c.args.a.now
+    ≡ key_of m c.args.b.now) (sym c.mapping.ensures) (is_same a b e)))

@@ -10,4 +10,5 @@ use Rattle.tape_view.proofs.members.word_of.Given as goal
 abbrev pub invariant-loop-ranks : goal.invariant-loop-ranks
 invariant-loop-ranks g l =
     last_in (word_said l.support (key_by l.support l.nick)) (words_in l.support l.line)
-    ≡ option_or (last_in (word_said l.support (key_by l.support l.nick)) l.ranks-iterator) (option_map (λ w. shown_member (w.ranks, w.nick)) l.last)
+    ≡ option_or (last_in (word_said l.support (key_by l.support l.nick)) l.ranks-iterator)
+    (option_map (λ w. shown_member (w.ranks, w.nick)) l.last)

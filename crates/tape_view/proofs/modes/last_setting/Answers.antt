@@ -9,7 +9,8 @@ use Rattle.tape_view.proofs.modes.last_setting.Goals as goal
 
 pub loop-change-init : goal.loop-change-init
 loop-change-init g c =
-    last_begun (sets c.args.support.now c.args.letter) (changes_in c.args.support.now c.args.line.now) c.into_iter-change-iterator.result
+    last_begun (sets c.args.support.now c.args.letter)
+    (changes_in c.args.support.now c.args.line.now) c.into_iter-change-iterator.result
     (c.into_iter-change-iterator.ensures.into_iter_gives ∙ c.changes-change-items.ensures)
 
 pub loop-change-preserved-then-change-letter : goal.loop-change-preserved-then-change-letter
@@ -18,10 +19,24 @@ loop-change-preserved-then-change-letter g c =
     let x = c.in-Some.change in
     let param = option_map (λ t. t.now) x.param in
     let now = option_map (option_map (option_map (λ t. t.now))) in
-    last_step says (last_in says (changes_in c.args.support.now c.args.line.now)) (now c.loop-change.last) (now c.or-last.result) c.loop-change.change-iterator c.next.new.self
-    (record { plus = x.plus; letter = x.letter; param = param }) c.loop-change.invariant c.in-Some.ensures.steps
+    last_step says (last_in says (changes_in c.args.support.now c.args.line.now))
+    (now c.loop-change.last) (now c.or-last.result) c.loop-change.change-iterator
+    c.next.new.self
+    (record {
+      plus = x.plus;
+      letter = x.letter;
+      param =
+          param;
+    }) c.loop-change.invariant c.in-Some.ensures.steps
     (ap (λ o. option_or o (now c.loop-change.last))
-    (sets_it c.args.support.now c.args.letter (record { plus = x.plus; letter = x.letter; param = param }) c.if-change-letter.true ∙ ap (λ k. setting_by k x.plus param) (sym c.kind-kind.ensures) ∙ sym c.setting_by.ensures)
+    (sets_it c.args.support.now c.args.letter (record {
+      plus = x.plus;
+      letter = x.letter;
+      param =
+          param;
+    }) c.if-change-letter.true
+    ∙ ap (λ k. setting_by k x.plus param) (sym c.kind-kind.ensures)
+    ∙ sym c.setting_by.ensures)
     ∙ sym (or_mapped (option_map (option_map (λ t. t.now))) c.setting_by.result c.loop-change.last)
     ∙ ap now (sym c.or-last.ensures))
 
@@ -31,9 +46,22 @@ loop-change-preserved g c =
     let x = c.in-Some.change in
     let param = option_map (λ t. t.now) x.param in
     let now = option_map (option_map (option_map (λ t. t.now))) in
-    last_step says (last_in says (changes_in c.args.support.now c.args.line.now)) (now c.loop-change.last) (now c.loop-change.last) c.loop-change.change-iterator c.next.new.self
-    (record { plus = x.plus; letter = x.letter; param = param }) c.loop-change.invariant c.in-Some.ensures.steps
-    (ap (λ o. option_or o (now c.loop-change.last)) (sets_none c.args.support.now c.args.letter (record { plus = x.plus; letter = x.letter; param = param }) c.if-change-letter.false))
+    last_step says (last_in says (changes_in c.args.support.now c.args.line.now))
+    (now c.loop-change.last) (now c.loop-change.last) c.loop-change.change-iterator
+    c.next.new.self
+    (record {
+      plus = x.plus;
+      letter = x.letter;
+      param =
+          param;
+    }) c.loop-change.invariant c.in-Some.ensures.steps
+    (ap (λ o. option_or o (now c.loop-change.last))
+    (sets_none c.args.support.now c.args.letter (record {
+      plus = x.plus;
+      letter =
+          x.letter;
+      param = param;
+    }) c.if-change-letter.false))
 
 pub returns : goal.returns
 returns g c =

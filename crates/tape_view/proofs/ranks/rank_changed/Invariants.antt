@@ -7,4 +7,7 @@ use Rattle.tape_view.proofs.NameWords.{rank_set}
 use Rattle.tape_view.proofs.ranks.rank_changed.Given as goal
 
 abbrev pub invariant-loop-change : goal.invariant-loop-change
-invariant-loop-change g l = last_in (rank_set l.support (key_by l.support l.nick) l.rank) (changes_in l.support l.line) ≡ option_or (last_in (rank_set l.support (key_by l.support l.nick) l.rank) l.change-iterator) l.last
+invariant-loop-change g l =
+    last_in (rank_set l.support (key_by l.support l.nick) l.rank) (changes_in l.support l.line)
+    ≡ option_or
+    (last_in (rank_set l.support (key_by l.support l.nick) l.rank) l.change-iterator) l.last

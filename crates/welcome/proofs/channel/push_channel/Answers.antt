@@ -13,8 +13,15 @@ returns-in_ok-push_names_end g c =
     let caps = c.args.caps in
     let i = c.args.i in
     let ch = lent c.in-Some.channel in
-    let rows = map (name_row v ch.name) (rows_of is_short (map (member_word v caps.multi_prefix) (members_at v i))) in
+    let rows =
+    map (name_row v ch.name)
+    (rows_of is_short (map (member_word v caps.multi_prefix) (members_at v i))) in
     let shown = rw c.in-Some.is at c.channel_at.ensures in
-    block_said c.args.text.now.items c.push_join.new.text.items c.push_topic.new.text.items c.push_modes.new.text.items c.push_names.new.text.items c.push_names_end.new.text.items (join_line v caps ch) (names_end v ch) (topic_lines v ch) (mode_lines v ch (modes_at v i)) rows
-    c.in_ok-push_join.ensures c.in_ok-push_topic.ensures c.in_ok-push_modes.ensures c.in_ok-push_names.ensures c.in_ok-push_names_end.ensures
-    ∙ ap (λ t. c.args.text.now.items ++ t) (lines_of_lent v caps i c.in-Some.channel shown.name shown.topic)
+    block_said c.args.text.now.items c.push_join.new.text.items c.push_topic.new.text.items
+    c.push_modes.new.text.items c.push_names.new.text.items c.push_names_end.new.text.items
+    (join_line v caps ch) (names_end v ch) (topic_lines v ch)
+    (mode_lines v ch (modes_at v i)) rows
+    c.in_ok-push_join.ensures c.in_ok-push_topic.ensures c.in_ok-push_modes.ensures
+    c.in_ok-push_names.ensures c.in_ok-push_names_end.ensures
+    ∙ ap (λ t. c.args.text.now.items
+    ++ t) (lines_of_lent v caps i c.in-Some.channel shown.name shown.topic)

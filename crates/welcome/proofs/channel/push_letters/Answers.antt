@@ -7,10 +7,12 @@ use Rattle.welcome.proofs.channel.push_letters.Goals as goal
 
 pub place_behind-j-requires : goal.place_behind-j-requires
 place_behind-j-requires g c =
-    letter_at_place (g.V.NetworkView.view c.args.view.now) c.args.i c.loop-letter.j c.in-Some.letter (option_map (λ p. p.now) c.in-Some.field-0-1) (sym c.in-Some.ensures)
+    letter_at_place (g.V.NetworkView.view c.args.view.now) c.args.i c.loop-letter.j c.in-Some.letter
+    (option_map (λ p. p.now) c.in-Some.field-0-1) (sym c.in-Some.ensures)
 
 pub loop-letter-smaller : goal.loop-letter-smaller
-loop-letter-smaller g c = omega (c.place_behind-j.ensures.next, c.place_behind-j.ensures.small, arith)
+loop-letter-smaller g c =
+    omega (c.place_behind-j.ensures.next, c.place_behind-j.ensures.small, arith)
 
 pub loop-letter-preserved : goal.loop-letter-preserved
 loop-letter-preserved g c =
@@ -19,12 +21,19 @@ loop-letter-preserved g c =
     record {
       few = c.place_behind-j.ensures.small;
       so_far = c.in_ok-push.ensures.items
-          ∙ letter_pushed v i c.loop-letter.j c.in-Some.letter (option_map (λ p. p.now) c.in-Some.field-0-1) c.args.letters.now.items c.loop-letter.letters.items (sym c.in-Some.ensures) c.loop-letter.invariant.so_far
-          ∙ ap (λ k. c.args.letters.now.items ++ map (λ (m : Mode). m.0) (take k (modes_at v i))) (sym c.place_behind-j.ensures.next);
+          ∙ letter_pushed v i c.loop-letter.j c.in-Some.letter
+          (option_map (λ p. p.now) c.in-Some.field-0-1) c.args.letters.now.items
+          c.loop-letter.letters.items (sym c.in-Some.ensures) c.loop-letter.invariant.so_far
+          ∙ ap (λ k. c.args.letters.now.items
+          ++ map (λ (m : Mode). m.0) (take k (modes_at v i)))
+          (sym c.place_behind-j.ensures.next);
     }
 
 pub returns : goal.returns
 returns g c =
     let v = g.V.NetworkView.view c.args.view.now in
-    let none : mode_shown v c.args.i c.loop-letter.j ≡ None = sym c.mode_at.ensures ∙ ap (option_map mode_parts) c.in_default.is in
-    c.loop-letter.invariant.so_far ∙ ap (λ ms. c.args.letters.now.items ++ map (λ (m : Mode). m.0) ms) (modes_all v c.args.i c.loop-letter.j none)
+    let none : mode_shown v c.args.i c.loop-letter.j ≡ None =
+    sym c.mode_at.ensures ∙ ap (option_map mode_parts) c.in_default.is in
+    c.loop-letter.invariant.so_far
+    ∙ ap (λ ms. c.args.letters.now.items
+    ++ map (λ (m : Mode). m.0) ms) (modes_all v c.args.i c.loop-letter.j none)

@@ -16,8 +16,12 @@ returns g c =
     let one = from_bouncer (codes "001") (n ∷ codes "Welcome to the bouncer" ∷ []) in
     let two = from_bouncer (codes "002") (n ∷ codes "Your host is bnc, running version 1" ∷ []) in
     let three = from_bouncer (codes "003") (n ∷ codes "This server was created for you" ∷ []) in
-    let four = from_bouncer (codes "004") (n ∷ codes "bnc" ∷ codes "1" ∷ codes "i" ∷ codes "biklmnopstv" ∷ []) in
+    let four =
+    from_bouncer (codes "004")
+    (n ∷ codes "bnc" ∷ codes "1" ∷ codes "i" ∷ codes "biklmnopstv" ∷ []) in
     said_next t0 t3 t4 (one ∷ two ∷ three ∷ []) four
     (said_next t0 t2 t3 (one ∷ two ∷ []) three
-    (said_next t0 t1 t2 (one ∷ []) two (said_next t0 t0 t1 [] one (sym (append-nil t0)) c.in_ok-push_reply.ensures) c.in_ok-push_reply-2.ensures) c.in_ok-push_reply-3.ensures) c.in_ok-push_reply-4.ensures
+    (said_next t0 t1 t2 (one ∷ []) two
+    (said_next t0 t0 t1 [] one (sym (append-nil t0)) c.in_ok-push_reply.ensures)
+    c.in_ok-push_reply-2.ensures) c.in_ok-push_reply-3.ensures) c.in_ok-push_reply-4.ensures
     ∙ ap (λ nick. t0 ++ flat_map written (greeting_to nick)) c.own_nick-nick.ensures

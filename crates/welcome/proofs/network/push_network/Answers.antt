@@ -18,5 +18,11 @@ returns g c =
     let end = no_motd v in
     said_all t0 t3 t4 ((greeting_of v ++ settings_lines v) ++ end ∷ []) channels
     (said_next t0 t2 t3 (greeting_of v ++ settings_lines v) end
-    (said_all t0 t1 t2 (greeting_of v) (settings_lines v) (said_all t0 t0 t1 [] (greeting_of v) (sym (append-nil t0)) c.in_ok-push_greeting.ensures) c.in_ok-push_settings.ensures) c.in_ok-push_no_motd.ensures) c.in_ok-push_channels.ensures
-    ∙ ap (λ ls. t0 ++ flat_map written ls) (append_assoc (greeting_of v ++ settings_lines v) (end ∷ []) channels ∙ append_assoc (greeting_of v) (settings_lines v) (end ∷ channels))
+    (said_all t0 t1 t2 (greeting_of v) (settings_lines v)
+    (said_all t0 t0 t1 [] (greeting_of v) (sym (append-nil t0)) c.in_ok-push_greeting.ensures)
+    c.in_ok-push_settings.ensures) c.in_ok-push_no_motd.ensures)
+    c.in_ok-push_channels.ensures
+    ∙ ap (λ ls. t0
+    ++ flat_map written ls)
+    (append_assoc (greeting_of v ++ settings_lines v) (end ∷ []) channels
+    ∙ append_assoc (greeting_of v) (settings_lines v) (end ∷ channels))

@@ -10,10 +10,18 @@ returns g c =
     let nick = c.args.nick.now in
     let tokens = c.args.tokens.now in
     let before = c.args.text.now.items in
-    let line = written (from_bouncer (codes "005") (nick ∷ (map (λ t. t.items) tokens ++ codes "are supported by this server" ∷ []))) in
-    let end : c.loop-token.token-index ≡ length tokens = omega (c.loop-token-test.false, c.loop-token.auto.token-index-end, arith) in
-    let all : take c.loop-token.token-index tokens ≡ tokens = ap (λ k. take k tokens) end ∙ take_all (length tokens) tokens (omega arith) in
-    let params = ap (map (λ p. p.now)) (c.deref.ensures.value ∙ c.in_ok-push-3.ensures.items) ∙ map-append (λ p. p.now) c.loop-token.params.items (_ ∷ [])
-    ∙ ap (λ ps. ps ++ codes "are supported by this server" ∷ []) (c.loop-token.invariant ∙ ap (λ ts. nick ∷ map (λ t. t.items) ts) all) in
+    let line =
+    written (from_bouncer (codes "005")
+    (nick ∷ (map (λ t. t.items) tokens ++ codes "are supported by this server" ∷ []))) in
+    let end : c.loop-token.token-index ≡ length tokens =
+    omega (c.loop-token-test.false, c.loop-token.auto.token-index-end, arith) in
+    let all : take c.loop-token.token-index tokens ≡ tokens =
+    ap (λ k. take k tokens) end ∙ take_all (length tokens) tokens (omega arith) in
+    let params =
+    ap (map (λ p. p.now)) (c.deref.ensures.value ∙ c.in_ok-push-3.ensures.items)
+    ∙ map-append (λ p. p.now) c.loop-token.params.items (_ ∷ [])
+    ∙ ap (λ ps. ps ++ codes "are supported by this server" ∷ []) (c.loop-token.invariant
+    ∙ ap (λ ts. nick ∷ map (λ t. t.items) ts) all) in
     let some : nat_eq (length tokens) 0 ≡ false = sym c.is_empty.ensures ∙ c.if-is_empty.false in
-    c.in_ok-push_reply.ensures ∙ ap (λ ps. before ++ written (from_bouncer (codes "005") ps)) params ∙ ap (λ b. before ++ (if b then [] else line)) (sym some)
+    c.in_ok-push_reply.ensures ∙ ap (λ ps. before ++ written (from_bouncer (codes "005") ps)) params
+    ∙ ap (λ b. before ++ (if b then [] else line)) (sym some)

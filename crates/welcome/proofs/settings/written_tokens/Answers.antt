@@ -15,9 +15,12 @@ loop-place-preserved g c =
       | in-Some+in_ok-text+in_ok-push w ↦
           let token : Token = (w.in-Some.name.now, option_map (λ v. v.now) w.in-Some.value) in
           let next = texts_next settings i (Some token) (rw w.in-Some.is at c.token.ensures) in
-          rw w.texts-is (ap (map (λ t. t.items)) w.in_ok-push.ensures.items ∙ map-append (λ t. t.items) c.loop-place.texts.items (_ ∷ [])
-          ∙ ap (λ t. map (λ t. t.items) c.loop-place.texts.items ++ t ∷ []) w.in_ok-text.ensures ∙ ap (λ ts. ts ++ token_text token ∷ []) c.loop-place.invariant ∙ sym next)
+          rw w.texts-is (ap (map (λ t. t.items)) w.in_ok-push.ensures.items
+          ∙ map-append (λ t. t.items) c.loop-place.texts.items (_ ∷ [])
+          ∙ ap (λ t. map (λ t. t.items) c.loop-place.texts.items ++ t ∷ []) w.in_ok-text.ensures
+          ∙ ap (λ ts. ts ++ token_text token ∷ []) c.loop-place.invariant ∙ sym next)
       | in_default w ↦
           let next = texts_next settings i None (rw w.in_default.is at c.token.ensures) in
-          rw w.texts-is (c.loop-place.invariant ∙ sym (append-nil (map token_text (take i settings))) ∙ sym next)
+          rw w.texts-is (c.loop-place.invariant
+          ∙ sym (append-nil (map token_text (take i settings))) ∙ sym next)
     ]

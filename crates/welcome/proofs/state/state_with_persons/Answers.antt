@@ -15,5 +15,8 @@ packet_of_state-requires-clause-whole g c =
     let caps = c.args.caps in
     let ms = c.args.persons.now in
     let persons = flat_map (λ (m : Member). person_lines caps (person_lent m)) ms in
-    c.in_ok-push_persons.ensures ∙ ap (λ t. t ++ flat_map written persons) (c.in_ok-push_network.ensures ∙ ap (λ t. t ++ flat_map written (network_lines v caps)) c.new-text.ensures.items)
-    ∙ sym (flat_map-append written (network_lines v caps) persons) ∙ ap (flat_map written) (state_whole v caps ms c.requires.persons)
+    c.in_ok-push_persons.ensures
+    ∙ ap (λ t. t ++ flat_map written persons) (c.in_ok-push_network.ensures
+    ∙ ap (λ t. t ++ flat_map written (network_lines v caps)) c.new-text.ensures.items)
+    ∙ sym (flat_map-append written (network_lines v caps) persons)
+    ∙ ap (flat_map written) (state_whole v caps ms c.requires.persons)

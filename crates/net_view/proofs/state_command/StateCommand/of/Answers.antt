@@ -13,17 +13,30 @@ pub returns-in_err-likely-clause-value : goal.returns-in_err-likely-clause-value
 returns-in_err-likely-clause-value g c =
     c.from_residual.ensures
     ∙ is_none c.args.line.now (λ it e.
-    let none : ◌≡◌ {A = Option StateCommand} None (Some it) = sym c.in_err-likely.was ∙ c.likely.ensures it (ap (λ t. str_eq_ignore_ascii_case t (command_text it)) c.command.ensures.value ∙ e) in
+    let none : ◌≡◌ {A = Option StateCommand} None (Some it) =
+    sym c.in_err-likely.was
+    ∙ c.likely.ensures it
+    (ap (λ t. str_eq_ignore_ascii_case t (command_text it)) c.command.ensures.value
+    ∙ e) in
     cc)
 
 pub returns-then-is-clause-value : goal.returns-then-is-clause-value
 returns-then-is-clause-value g c =
-    is_one c.args.line.now c.in_ok-likely.likely (λ it e. c.in_ok-likely.ensures it (ap (λ t. str_eq_ignore_ascii_case t (command_text it)) c.command.ensures.value ∙ e)) (sym (ap (has_command c.args.line.now) c.text.ensures) ∙ sym c.is.ensures ∙ c.if-is.true)
+    is_one c.args.line.now c.in_ok-likely.likely
+    (λ it e. c.in_ok-likely.ensures it
+    (ap (λ t. str_eq_ignore_ascii_case t (command_text it)) c.command.ensures.value ∙ e))
+    (sym (ap (has_command c.args.line.now) c.text.ensures) ∙ sym c.is.ensures
+    ∙ c.if-is.true)
 
 pub returns-else-is-clause-value : goal.returns-else-is-clause-value
 returns-else-is-clause-value g c =
     let line = c.args.line.now in
     is_none line (λ it e.
-    let is : ◌≡◌ {A = Option StateCommand} (Some c.in_ok-likely.likely) (Some it) = c.in_ok-likely.ensures it (ap (λ t. str_eq_ignore_ascii_case t (command_text it)) c.command.ensures.value ∙ e) in
-    let other : has_command line (command_text c.in_ok-likely.likely) ≡ false = sym (ap (has_command line) c.text.ensures) ∙ sym c.is.ensures ∙ c.if-is.false in
-    false_true (has_command line (command_text it)) (sym (ap (λ (o : Option StateCommand). option_map_or (λ x. has_command line (command_text x)) o false) is) ∙ other) e)
+    let is : ◌≡◌ {A = Option StateCommand} (Some c.in_ok-likely.likely) (Some it) =
+    c.in_ok-likely.ensures it
+    (ap (λ t. str_eq_ignore_ascii_case t (command_text it)) c.command.ensures.value ∙ e) in
+    let other : has_command line (command_text c.in_ok-likely.likely) ≡ false =
+    sym (ap (has_command line) c.text.ensures) ∙ sym c.is.ensures ∙ c.if-is.false in
+    false_true (has_command line (command_text it))
+    (sym (ap (λ (o : Option StateCommand). option_map_or
+    (λ x. has_command line (command_text x)) o false) is) ∙ other) e)

@@ -8,5 +8,7 @@ use Rattle.tape_view.proofs.tape.Tape.best_listed.Given as goal
 
 abbrev pub invariant-loop-change : goal.invariant-loop-change
 invariant-loop-change g l =
-    considered_by nat_cmp (is_set l.self.readings (key l.self l.channel)) l.after l.fn.best (letters_listed l.self.settings l.line)
-    ≡ considered_by nat_cmp (is_set l.self.readings (key l.self l.channel)) l.after l.best (letters l.change-iterator)
+    considered_by nat_cmp (is_set l.self.readings (key l.self l.channel)) l.after l.fn.best
+    (letters_listed l.self.settings l.line)
+    ≡ considered_by nat_cmp (is_set l.self.readings (key l.self l.channel)) l.after l.best
+    (letters l.change-iterator)

@@ -13,7 +13,10 @@ loop-ranks-init g c =
     let s = c.args.self.now.settings in
     let there = is_there c.args.self.now c.args.table in
     let after = key_in s (option_map (λ a. a.now) c.args.after) in
-    ap (λ ws. considered there after (key_in s (option_map (λ b. b.now) c.args.best)) (keys_of_words s ws)) (sym (c.into_iter-ranks-iterator.ensures.into_iter_gives ∙ c.names-ranks-items.ensures ∙ ap (λ s. words_in s c.args.line.now) c.support.ensures))
+    ap (λ ws. considered there after (key_in s (option_map (λ b. b.now) c.args.best))
+    (keys_of_words s ws))
+    (sym (c.into_iter-ranks-iterator.ensures.into_iter_gives ∙ c.names-ranks-items.ensures
+    ∙ ap (λ s. words_in s c.args.line.now) c.support.ensures))
 
 pub loop-ranks-preserved-then-is_nameable : goal.loop-ranks-preserved-then-is_nameable
 loop-ranks-preserved-then-is_nameable g c =
@@ -25,8 +28,11 @@ loop-ranks-preserved-then-is_nameable g c =
     c.loop-ranks.invariant
     ∙ ap (λ ws. considered there after best (keys_of_words s ws)) c.in-Some.ensures.steps
     ∙ considered_word there after best s word c.next.new.self
-    ∙ ap (λ b. considered there after (cond b (better there after best (key_by s c.in-Some.name.now)) best) (keys_of_words s c.next.new.self)) (sym c.is_nameable.ensures ∙ c.if-is_nameable.true)
-    ∙ ap (λ b. considered there after b (keys_of_words s c.next.new.self)) (sym c.better-best.ensures)
+    ∙ ap (λ b. considered there after
+    (cond b (better there after best (key_by s c.in-Some.name.now)) best)
+    (keys_of_words s c.next.new.self)) (sym c.is_nameable.ensures ∙ c.if-is_nameable.true)
+    ∙ ap (λ b. considered there after b (keys_of_words s c.next.new.self))
+    (sym c.better-best.ensures)
 
 pub loop-ranks-preserved : goal.loop-ranks-preserved
 loop-ranks-preserved g c =
@@ -38,7 +44,9 @@ loop-ranks-preserved g c =
     c.loop-ranks.invariant
     ∙ ap (λ ws. considered there after best (keys_of_words s ws)) c.in-Some.ensures.steps
     ∙ considered_word there after best s word c.next.new.self
-    ∙ ap (λ b. considered there after (cond b (better there after best (key_by s c.in-Some.name.now)) best) (keys_of_words s c.next.new.self)) (sym c.is_nameable.ensures ∙ c.if-is_nameable.false)
+    ∙ ap (λ b. considered there after
+    (cond b (better there after best (key_by s c.in-Some.name.now)) best)
+    (keys_of_words s c.next.new.self)) (sym c.is_nameable.ensures ∙ c.if-is_nameable.false)
 
 pub returns : goal.returns
 returns g c =
@@ -46,4 +54,5 @@ returns g c =
     let there = is_there c.args.self.now c.args.table in
     let after = key_in s (option_map (λ a. a.now) c.args.after) in
     let best = key_in s (option_map (λ b. b.now) c.loop-ranks.best) in
-    sym (c.loop-ranks.invariant ∙ ap (λ ws. considered there after best (keys_of_words s ws)) (c.in-None.ensures.steps).0)
+    sym (c.loop-ranks.invariant
+    ∙ ap (λ ws. considered there after best (keys_of_words s ws)) (c.in-None.ensures.steps).0)

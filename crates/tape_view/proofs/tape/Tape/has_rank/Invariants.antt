@@ -7,7 +7,8 @@ use Rattle.tape_view.proofs.tape.Tape.has_rank.Given as goal
 abbrev pub invariant-loop-said : goal.invariant-loop-said
 invariant-loop-said g l = record {
   on : is_on l.tape.readings (key l.tape l.channel) ≡ true;
-  rest : rank_decided l.self.readings (key l.self l.channel) (key l.self l.nick) l.rank ≡ rank_decided l.tape.readings (key l.tape l.channel) (key l.tape l.name) l.rank;
+  rest : rank_decided l.self.readings (key l.self l.channel) (key l.self l.nick) l.rank
+      ≡ rank_decided l.tape.readings (key l.tape l.channel) (key l.tape l.name) l.rank;
 }
 
 abbrev pub decreases-loop-said : goal.decreases-loop-said

@@ -6,4 +6,9 @@ use Rattle.net_view.specs.Names.{bytes_cmp}
 use Rattle.tape_view.proofs.tape.Tape.is_before.Goals as goal
 
 pub returns : goal.returns
-returns g c = c.is_lt.ensures ∙ ap is_lt (c.order.ensures ∙ ap (λ m. bytes_cmp (key_of m c.args.a.now) (key_of m c.args.b.now)) c.mapping.ensures) ∙ ap (λ s. is_lt (bytes_cmp (key_by s c.args.a.now) (key_by s c.args.b.now))) c.support.ensures
+returns g c =
+    c.is_lt.ensures
+    ∙ ap is_lt (c.order.ensures
+    ∙ ap (λ m. bytes_cmp (key_of m c.args.a.now) (key_of m c.args.b.now)) c.mapping.ensures)
+    ∙ ap (λ s. is_lt (bytes_cmp (key_by s c.args.a.now) (key_by s c.args.b.now)))
+    c.support.ensures

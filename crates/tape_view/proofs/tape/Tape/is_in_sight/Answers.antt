@@ -5,7 +5,9 @@ use Rattle.tape_view.proofs.SightLine.{none_seen, none_joined, one_joined}
 use Rattle.tape_view.proofs.tape.Tape.is_in_sight.Goals as goal
 
 pub returns-then-is_member : goal.returns-then-is_member
-returns-then-is_member g c = sym (sees c.args.self.now.readings (key c.args.self.now c.in-Some-joined_by_us.channel.now) (key c.args.self.now c.args.nick.now) (sym c.is_member.ensures ∙ c.if-is_member.true))
+returns-then-is_member g c =
+    sym (sees c.args.self.now.readings (key c.args.self.now c.in-Some-joined_by_us.channel.now)
+    (key c.args.self.now c.args.nick.now) (sym c.is_member.ensures ∙ c.if-is_member.true))
 
 pub loop-said-preserved-else-is_member : goal.loop-said-preserved-else-is_member
 loop-said-preserved-else-is_member g c =
@@ -13,7 +15,10 @@ loop-said-preserved-else-is_member g c =
     let last = c.in-Some.ensures.last in
     record {
       same_settings = last.same_settings ∙ i.same_settings;
-      left = one_joined last c.args.self.now.readings (key c.args.self.now c.args.nick.now) c.in-Some-joined_by_us.channel.now c.args.self.now.settings i.same_settings c.in-Some-joined_by_us.ensures (sym c.is_member.ensures ∙ c.if-is_member.false) i.left;
+      left = one_joined last c.args.self.now.readings (key c.args.self.now c.args.nick.now)
+          c.in-Some-joined_by_us.channel.now c.args.self.now.settings i.same_settings
+          c.in-Some-joined_by_us.ensures (sym c.is_member.ensures
+          ∙ c.if-is_member.false) i.left;
     }
 
 pub loop-said-preserved : goal.loop-said-preserved
@@ -22,8 +27,11 @@ loop-said-preserved g c =
     let last = c.in-Some.ensures.last in
     record {
       same_settings = last.same_settings ∙ i.same_settings;
-      left = none_joined last c.args.self.now.readings (key c.args.self.now c.args.nick.now) c.in_default-joined_by_us.ensures i.left;
+      left = none_joined last c.args.self.now.readings (key c.args.self.now c.args.nick.now)
+          c.in_default-joined_by_us.ensures i.left;
     }
 
 pub returns : goal.returns
-returns g c = sym (none_seen c.args.self.now.readings c.loop-said.tape.readings (key c.args.self.now c.args.nick.now) c.loop-said.invariant.left c.in_default.ensures.none)
+returns g c =
+    sym (none_seen c.args.self.now.readings c.loop-said.tape.readings
+    (key c.args.self.now c.args.nick.now) c.loop-said.invariant.left c.in_default.ensures.none)

@@ -7,7 +7,8 @@ use Rattle.tape_view.proofs.tape.Tape.mode.Given as goal
 abbrev pub invariant-loop-said : goal.invariant-loop-said
 invariant-loop-said g l = record {
   on : is_on l.tape.readings (key l.tape l.channel) ≡ true;
-  rest : mode_of l.self.readings (key l.self l.channel) l.letter ≡ mode_of l.tape.readings (key l.tape l.channel) l.letter;
+  rest : mode_of l.self.readings (key l.self l.channel) l.letter
+      ≡ mode_of l.tape.readings (key l.tape l.channel) l.letter;
 }
 
 abbrev pub decreases-loop-said : goal.decreases-loop-said

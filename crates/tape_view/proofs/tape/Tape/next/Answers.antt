@@ -12,11 +12,18 @@ loop-said-preserved g c =
     let last = c.in-Some.ensures.last in
     record {
       same_settings = last.same_settings ∙ i.same_settings;
-      so_far = next_line last s (is_there c.args.self.now c.args.table) c.args.table (key_in s (option_map (λ a. a.now) c.args.after)) (key_in s (option_map (λ b. b.now) c.loop-said.best)) (key_in s (option_map (λ b. b.now) c.best_told-best.result)) i.same_settings c.best_told-best.ensures i.so_far;
+      so_far = next_line last s (is_there c.args.self.now c.args.table) c.args.table
+          (key_in s (option_map (λ a. a.now) c.args.after))
+          (key_in s (option_map (λ b. b.now) c.loop-said.best))
+          (key_in s (option_map (λ b. b.now) c.best_told-best.result)) i.same_settings
+          c.best_told-best.ensures i.so_far;
     }
 
 pub returns : goal.returns
 returns g c =
     let s = c.args.self.now.settings in
     let tape = c.loop-said.tape in
-    next_all (is_there c.args.self.now c.args.table) (is_there tape c.args.table) (key_in s (option_map (λ a. a.now) c.args.after)) (key_in s (option_map (λ b. b.now) c.loop-said.best)) (gone tape c.args.table c.in_default.ensures.none) c.loop-said.invariant.so_far
+    next_all (is_there c.args.self.now c.args.table) (is_there tape c.args.table)
+    (key_in s (option_map (λ a. a.now) c.args.after))
+    (key_in s (option_map (λ b. b.now) c.loop-said.best))
+    (gone tape c.args.table c.in_default.ensures.none) c.loop-said.invariant.so_far

@@ -6,4 +6,6 @@ use Rattle.tape_view.proofs.GatheredRanks.{below}
 use Rattle.tape_view.proofs.tape.Tape.ranks.Given as goal
 
 abbrev pub invariant-loop-rank : goal.invariant-loop-rank
-invariant-loop-rank g l = l.ranks ≡ ranks_that (below (rank_decided l.self.readings (key l.self l.channel) (key l.self l.nick)) l.rank)
+invariant-loop-rank g l =
+    l.ranks ≡ ranks_that (below
+    (rank_decided l.self.readings (key l.self l.channel) (key l.self l.nick)) l.rank)

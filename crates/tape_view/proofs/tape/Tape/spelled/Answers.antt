@@ -11,12 +11,17 @@ returns-then-not-is_on g c us marked =
     let tape = c.args.self.now in
     let n = key tape c.args.nick.now in
     sym (ap (λ t. says_spelling us (is_on tape.readings) (meant tape.settings t) n) c.in-Joined.is
-    ∙ ap (λ b. cond (b && same n (key tape c.in-Joined.who.now)) (Some (Some c.in-Joined.who.now)) None) (sym c.is_on.ensures ∙ c.if-not-is_on.true))
+    ∙ ap (λ b. cond (b
+    && same n (key tape c.in-Joined.who.now)) (Some (Some c.in-Joined.who.now)) None)
+    (sym c.is_on.ensures ∙ c.if-not-is_on.true))
 
 pub returns-then-is_same : goal.returns-then-is_same
 returns-then-is_same g c us marked =
     let tape = c.args.self.now in
     let n = key tape c.args.nick.now in
     sym (ap (λ t. says_spelling us (is_on tape.readings) (meant tape.settings t) n) c.in-Joined.is
-    ∙ ap (λ b. cond (b && same n (key tape c.in-Joined.who.now)) (Some (Some c.in-Joined.who.now)) None) (sym c.is_on.ensures ∙ c.if-not-is_on.false)
-    ∙ ap (λ b. cond b (Some (Some c.in-Joined.who.now)) None) (sym c.is_same.ensures ∙ c.if-is_same.true))
+    ∙ ap (λ b. cond (b
+    && same n (key tape c.in-Joined.who.now)) (Some (Some c.in-Joined.who.now)) None)
+    (sym c.is_on.ensures ∙ c.if-not-is_on.false)
+    ∙ ap (λ b. cond b (Some (Some c.in-Joined.who.now)) None) (sym c.is_same.ensures
+    ∙ c.if-is_same.true))

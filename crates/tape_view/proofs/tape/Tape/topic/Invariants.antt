@@ -7,7 +7,8 @@ use Rattle.tape_view.proofs.tape.Tape.topic.Given as goal
 abbrev pub invariant-loop-said : goal.invariant-loop-said
 invariant-loop-said g l = record {
   on : is_on l.tape.readings (key l.tape l.channel) ≡ true;
-  rest : topic_of l.self.readings (key l.self l.channel) ≡ topic_of l.tape.readings (key l.tape l.channel);
+  rest : topic_of l.self.readings (key l.self l.channel)
+      ≡ topic_of l.tape.readings (key l.tape l.channel);
 }
 
 abbrev pub decreases-loop-said : goal.decreases-loop-said

@@ -7,7 +7,8 @@ use Rattle.tape_view.proofs.tape.Tape.was_made_member.Given as goal
 abbrev pub invariant-loop-said : goal.invariant-loop-said
 invariant-loop-said g l = record {
   on : is_on l.tape.readings (key l.tape l.channel) ≡ true;
-  rest : was_made l.self.readings (key l.self l.channel) (key l.self l.nick) ≡ was_made l.tape.readings (key l.tape l.channel) (key l.tape l.name);
+  rest : was_made l.self.readings (key l.self l.channel) (key l.self l.nick)
+      ≡ was_made l.tape.readings (key l.tape l.channel) (key l.tape l.name);
 }
 
 abbrev pub decreases-loop-said : goal.decreases-loop-said

@@ -13,7 +13,11 @@ returns g c = ap tape_of c.new-2.ensures.items ∙ tape_none _
 pub invariant_of-result : goal.invariant_of-result
 invariant_of-result g c = record {
   marked = subst IsMarkedTape (sym c.new-2.ensures.items) (none_marked _);
-  in_force = ap (λ ks. settings_of (tape_of ks)) c.new-2.ensures.items ∙ no_settings_yet _ ∙ sym c.in_ok-support.ensures;
+  in_force =
+      ap (λ ks. settings_of (tape_of ks)) c.new-2.ensures.items ∙ no_settings_yet _
+      ∙ sym c.in_ok-support.ensures;
   counted = subst (λ ks. IsCounted ks 0) (sym c.new-2.ensures.items) (none_counted _);
-  written = subst (λ ks. AreWritten (tape_of ks)) (sym c.new-2.ensures.items) (subst AreWritten (sym (tape_none _)) tt);
+  written =
+      subst (λ ks. AreWritten (tape_of ks)) (sym c.new-2.ensures.items)
+      (subst AreWritten (sym (tape_none _)) tt);
 }

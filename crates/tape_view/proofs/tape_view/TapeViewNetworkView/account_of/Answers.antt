@@ -13,4 +13,5 @@ returns g c =
     c.fact.ensures
     ∙ ap (λ (t : Heard). account_of t.readings (key t c.args.nick.now)) c.tape.ensures.value
     ∙ sym (account_known c.args.self.now (key_by (settings_of c.args.self.now) c.args.nick.now))
-    ∙ sym (account_named (view_back c.args.self.now) c.args.nick.now (sym c.is_nameable.ensures ∙ c.if-not-is_nameable.false))
+    ∙ sym (account_named (view_back c.args.self.now) c.args.nick.now (sym c.is_nameable.ensures
+    ∙ c.if-not-is_nameable.false))
