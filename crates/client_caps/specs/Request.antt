@@ -1,6 +1,8 @@
 -- What a client asks for by CAP REQ (IRCv3 capability negotiation): words with spaces between, each
--- the name of a capability, with a minus before it where the client gives it up.
-use Rattle.std.specs.Prelude.{ℕ, Bool, true, false, ◌==◌, List, [], ◌∷◌, is_some, position, cond, if◌then◌else◌}
+-- the name of a capability, with a minus before it where the client gives it up. Names are
+-- compared byte for byte.
+use Rattle.std.specs.Prelude.{ℕ, Bool, true, false, ◌==◌, List, [], ◌∷◌, is_some, position, cond}
+use Rattle.std.specs.Prelude.{if◌then◌else◌}
 use Rattle.std.specs.List.{list_all, filter_map}
 use Rattle.std.specs.Option.{option_map, unwrap_or}
 use Rattle.std.specs.Str.{bytes_eq}

@@ -1,6 +1,7 @@
 //! What a client is sent in place of a line, and for a loss of the connection.
 
-ghost use Rattle.std.specs.Prelude.{◌≡◌, true, false, ◌∷◌, [], ◌++◌, ◌&&◌, cond, not, IsTrue, IfOk, OnOk, codes, option_map, option_to_list, map, slice_get, take};
+ghost use Rattle.std.specs.Prelude.{◌≡◌, true, false, ◌∷◌, [], ◌++◌, ◌&&◌, cond, not, IsTrue, IfOk};
+ghost use Rattle.std.specs.Prelude.{OnOk, codes, option_map, option_to_list, map, slice_get, take};
 ghost use Rattle.std.specs.List.{list_any, list_all, join_with_byte};
 ghost use Rattle.irc_support.specs.Written.{highest_text};
 ghost use Rattle.irc_support.specs.Line.{split_words_in};
@@ -12,7 +13,8 @@ ghost use Rattle.irc_support.specs.NamesReply.{words_between};
 ghost use Rattle.net_view.specs.StateLines.{actor_nick};
 ghost use Rattle.client_caps.specs.Images.{account_joined, is_passed_on, link_commands, symbols_of};
 ghost use Rattle.client_caps.specs.Images.{image_of, part_lines_of};
-ghost use Rattle.client_caps.specs.Images.{image_params, join_params, names_with_highest, with_param, word_at};
+ghost use Rattle.client_caps.specs.Images.{image_params, join_params, names_with_highest};
+ghost use Rattle.client_caps.specs.Images.{with_param, word_at};
 
 use crate::caps::Caps;
 use crate::moment::Moment;
@@ -161,11 +163,13 @@ fn joined<V: NetworkView, A: Allocator, B: Allocator + Drop>(
     tags: Option<&[u8]>,
     channel: &[u8],
 ) -> Result<Line<B>, OutOfMemory>
-    requires written { IsTrue (is_writable (line_of_parts (option_map (λ t. t.now) tags) line.now.source
+    requires written { IsTrue (is_writable (line_of_parts (option_map (λ t. t.now) tags)
+        line.now.source
         line.now.command (join_params (V.view view.now) caps line.now channel.now))) }
     requires tags { IsTrue (is_part (option_map (λ t. t.now) tags)) }
     ensures { IfOk result (λ image. image ≡ line_of_parts (option_map (λ t. t.now) tags.entry)
-        line.now.source line.now.command (join_params (V.view view.now) caps line.now channel.now)) }
+        line.now.source line.now.command
+        (join_params (V.view view.now) caps line.now channel.now)) }
 {
     if !caps.extended_join {
         return with_params(alloc, line, tags, &[channel]);

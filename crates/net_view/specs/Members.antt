@@ -7,7 +7,8 @@ use Rattle.std.proofs.Common.{Option, Some, None}
 use Rattle.irc_support.specs.Text.{Text}
 use Rattle.irc_support.specs.Ranks.{has_rank}
 use Rattle.net_view.specs.Names.{same}
-use Rattle.net_view.specs.Told.{Told, LetterChange, Listing, Joined, Parted, Kicked, Changed, Present}
+use Rattle.net_view.specs.Told.{Told, LetterChange, Listing, Joined, Parted, Kicked, Changed}
+use Rattle.net_view.specs.Told.{Present}
 use Rattle.net_view.specs.Transcript.{Reading}
 use Rattle.net_view.specs.LookBack.{last_of, last_in}
 use Rattle.net_view.specs.Presence.{anew_or, is_on}

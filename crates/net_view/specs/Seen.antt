@@ -1,5 +1,6 @@
 -- What a client knows of a network that holds some of the capabilities, and came at some boundary.
-use Rattle.std.specs.Prelude.{ℕ, ◌-◌, Bool, true, false, not, ◌&&◌, ◌||◌, nat_lt, ◌==◌, List, [], ◌∷◌, length, reverse, if◌then◌else◌}
+use Rattle.std.specs.Prelude.{ℕ, ◌-◌, Bool, true, false, not, ◌&&◌, ◌||◌, nat_lt, ◌==◌, List, []}
+use Rattle.std.specs.Prelude.{◌∷◌, length, reverse, if◌then◌else◌}
 use Rattle.std.specs.List.{list_any, range_with_len}
 use Rattle.std.specs.Option.{option_map, unwrap_or}
 use Rattle.std.specs.FinMap as map
@@ -111,8 +112,7 @@ thinned caps shown v =
       own = v.own;
       ready = v.ready;
       settings = v.settings;
-      channels =
-          thinned_channels caps shown v.channels;
+      channels = thinned_channels caps shown v.channels;
       people = v.people;
     }
 

@@ -7,7 +7,12 @@ use Rattle.std.proofs.Common.{Option, codes}
 use Rattle.irc_line.specs.Line.{Parts, has_command}
 use Rattle.irc_support.specs.Text.{Text}
 use Rattle.net_view.specs.declared.state_command.StateCommand.{StateCommand}
-use Rattle.net_view.specs.declared.state_command.StateCommand.TheVariants.{Welcome, Isupport, EndOfMotd, NoMotd, Join, Part, Kick, Quit, Nick, Mode, ModeReply, Topic, TopicReply, NoTopic, Names, Account, Away}
+use Rattle.net_view.specs.declared.state_command.StateCommand.TheVariants.{Welcome, Isupport}
+use Rattle.net_view.specs.declared.state_command.StateCommand.TheVariants.{EndOfMotd, NoMotd, Join}
+use Rattle.net_view.specs.declared.state_command.StateCommand.TheVariants.{Part, Kick, Quit, Nick}
+use Rattle.net_view.specs.declared.state_command.StateCommand.TheVariants.{Mode, ModeReply, Topic}
+use Rattle.net_view.specs.declared.state_command.StateCommand.TheVariants.{TopicReply, NoTopic}
+use Rattle.net_view.specs.declared.state_command.StateCommand.TheVariants.{Names, Account, Away}
 
 -- how a command is written
 abbrev pub command_text : StateCommand → Text

@@ -1,7 +1,8 @@
 -- What each line tells, read by the settings in force before it. Only this file knows commands and
 -- parameters; parameters count from 0. A nick that is not nameable is told nothing of, and an actor
 -- that is not is dropped before its key is asked (our own choice).
-use Rattle.std.specs.Prelude.{ℕ, suc, Bool, true, false, drop, List, [], ◌∷◌, slice_get, if◌then◌else◌}
+use Rattle.std.specs.Prelude.{ℕ, suc, Bool, true, false, drop, List, [], ◌∷◌, slice_get}
+use Rattle.std.specs.Prelude.{if◌then◌else◌}
 use Rattle.std.specs.List.{filter_map, list_any}
 use Rattle.std.specs.Option.{option_and_then, option_map, unwrap_or}
 use Rattle.std.proofs.Common.{Option, Some, None, codes}
@@ -17,7 +18,9 @@ use Rattle.irc_support.specs.NamesReply.{Word, words}
 use Rattle.irc_support.specs.declared.kind.Kind.{Kind}
 use Rattle.irc_support.specs.declared.kind.Kind.TheVariants.{Prefix, A, B, C, D, Unknown}
 use Rattle.net_view.specs.Names.{same, Name, name_of, nameable}
-use Rattle.net_view.specs.Told.{Told, LetterChange, ModeChange, Listing, Silent, Welcomed, Supports, Settles, Joined, Parted, Kicked, Quits, Renamed, Changed, Listed, Titled, Present, HasAccount, IsAway, Disconnected}
+use Rattle.net_view.specs.Told.{Told, LetterChange, ModeChange, Listing, Silent, Welcomed, Supports}
+use Rattle.net_view.specs.Told.{Settles, Joined, Parted, Kicked, Quits, Renamed, Changed, Listed}
+use Rattle.net_view.specs.Told.{Titled, Present, HasAccount, IsAway, Disconnected}
 use Rattle.net_view.specs.Arrival.{Arrival, Received, Lost}
 
 -- ---- parts of a line
@@ -58,8 +61,7 @@ letter_change settings change = option_and_then (λ rank.
     option_map (λ (nick : Name). record {
       plus = change.plus;
       rank = rank;
-      person =
-          nick.key;
+      person = nick.key;
     }) (option_and_then (nameable settings) change.param))
     (rank_of_letter settings change.letter)
 
@@ -89,8 +91,7 @@ abbrev pub mode_change : List Token → ChangeParts → Option ModeChange
 mode_change settings change =
     option_map (λ setting. record {
       letter = change.letter;
-      setting =
-          setting;
+      setting = setting;
     }) (setting_by (kind_of settings change.letter) change.plus change.param)
 
 -- a word of a name list, where its nick is nameable

@@ -10,7 +10,11 @@ use Rattle.net_view.specs.Names.{name_of}
 use Rattle.net_view.specs.Told as spec
 use Rattle.net_view.specs.StateLines.{letter_change, mode_change, listing}
 use Rattle.net_view.specs.declared.state_line.Telling.{Telling}
-use Rattle.net_view.specs.declared.state_line.Telling.TheVariants.{Silent, Welcomed, Supports, Settles, Joined, Parted, Kicked, Quits, Renamed, Changed, Listed, Titled, Present, HasAccount, IsAway}
+use Rattle.net_view.specs.declared.state_line.Telling.TheVariants.{Silent, Welcomed, Supports}
+use Rattle.net_view.specs.declared.state_line.Telling.TheVariants.{Settles, Joined, Parted, Kicked}
+use Rattle.net_view.specs.declared.state_line.Telling.TheVariants.{Quits, Renamed, Changed, Listed}
+use Rattle.net_view.specs.declared.state_line.Telling.TheVariants.{Titled, Present, HasAccount}
+use Rattle.net_view.specs.declared.state_line.Telling.TheVariants.{IsAway}
 
 -- what it means under these settings
 abbrev pub meant : {A : Type 0} → List Token → Telling A → spec.Told

@@ -1,6 +1,7 @@
 //! Facts that hold of every network view, for the crates above.
 
-ghost use Rattle.std.specs.Prelude.{◌≡◌, ◌≢◌, ◌↔◌, IsTrue, ℕ, List, [], ◌∷◌, ◌++◌, Bool, true, false, Option, Some, reverse};
+ghost use Rattle.std.specs.Prelude.{◌≡◌, ◌≢◌, ◌↔◌, IsTrue, ℕ, List, [], ◌∷◌, ◌++◌, Bool, true};
+ghost use Rattle.std.specs.Prelude.{false, Option, Some, reverse};
 ghost use Rattle.std.specs.FinMap.{get};
 ghost use Rattle.irc_names.specs.Nick.{is_nameable};
 ghost use Rattle.irc_support.specs.Text.{Text};
@@ -66,7 +67,8 @@ pub fn a_name_is_a_person()
         account_shown (view_of items) nick ≡ Some account → IsTrue (is_nameable nick) ×
         IsTrue (is_seen (view_of items).channels (key_by (view_of items).settings nick)) }
     ensures there_and_back { (s : Standing) (a : Text) (b c : Name) (n : Text) →
-        key_by s.settings b.spelled ≡ b.key → c.key ≡ a → IsTrue (counts (is_us s) a b.key) → n ≢ b.key →
+        key_by s.settings b.spelled ≡ b.key → c.key ≡ a → IsTrue (counts (is_us s) a b.key) →
+        n ≢ b.key →
         name_traced (
         record { before = standing_after (Renamed a b) s; told = Renamed b.key c }
         ∷ record { before = s; told = Renamed a b }
@@ -75,7 +77,8 @@ pub fn a_name_is_a_person()
         → told (view_of items).settings x ≡ Quits n →
         is_seen (view_of (items ++ x ∷ [])).channels n ≡ false }
     ensures welcome { (items : List Arrival) (x : Arrival) (nick : Text) →
-        told (view_of items).settings x ≡ Welcomed nick → view_of (items ++ x ∷ []) ≡ welcomed_view nick }
+        told (view_of items).settings x ≡ Welcomed nick →
+        view_of (items ++ x ∷ []) ≡ welcomed_view nick }
 {}
 
 /// A client that holds all four capabilities sees the whole view, whenever it came.
@@ -86,7 +89,8 @@ pub fn all_capabilities_see_all()
 /// Name lists add up: a list tells what two tell that have its words, one list after the other. So
 /// it can be cut into lines between any words.
 pub fn name_lists_add_up()
-    ensures lists { (items : List Arrival) (whole first second : Arrival) (c : Text) (a b : List Listing) →
+    ensures lists { (items : List Arrival) (whole first second : Arrival) (c : Text)
+        (a b : List Listing) →
         told (view_of items).settings whole ≡ Present c (a ++ b) →
         told (view_of items).settings first ≡ Present c a →
         told (view_of items).settings second ≡ Present c b →

@@ -5,7 +5,8 @@ ghost use Rattle.std.specs.Option.{option_map};
 ghost use Rattle.net_view.specs.Arrival.{Arrival, arrival_of};
 ghost use Rattle.net_view.specs.StateLines.{may_need_memory};
 ghost use Rattle.net_view.specs.View.{View, view_of};
-ghost use Rattle.net_view.specs.Readers.{channels_shown, channel_shown, members_shown, member_shown};
+ghost use Rattle.net_view.specs.Readers.{channels_shown, channel_shown, members_shown};
+ghost use Rattle.net_view.specs.Readers.{member_shown};
 ghost use Rattle.net_view.specs.Written.{AreWritten};
 ghost use Rattle.net_view.specs.Readers.{account_shown, mode_parts, mode_shown};
 

@@ -57,7 +57,8 @@ fn show_fact(mark: u8, fact: Option<&[u8]>, text: &mut Vec<u8>) -> Result<(), Fa
     Ok(())
 }
 
-/// The members of a channel, in order: symbols, nick, an account behind `=`, an away text behind `~`.
+/// The members of a channel, in order: symbols, nick, an account behind `=`, an away text behind
+/// `~`.
 fn show_members<V: NetworkView>(view: &V, channel: usize, text: &mut Vec<u8>) -> Result<(), Fail> {
     for place in 0..view.member_count(channel) {
         if let Some(member) = view.member_at(channel, place) {

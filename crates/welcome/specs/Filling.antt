@@ -17,5 +17,5 @@ abbrev pub network_lines : View → Caps → List Parts
 network_lines v caps =
     greeting_of v
     ++ (settings_lines v
-    ++ (no_motd v ∷ flat_map (λ (e : Text
-    × Channel). channel_lines v caps e.1) (fin.entries v.channels)))
+    ++ (no_motd v
+    ∷ flat_map (λ (e : Text × Channel). channel_lines v caps e.1) (fin.entries v.channels)))
