@@ -1,6 +1,6 @@
 //! Lines as RFC 2812, section 2.3.1, and IRCv3 message-tags have them.
 
-use irc_line::{FeedError, LINE_LIMIT, Line, MakeError, Splitter};
+use irc_line::{FeedError, LINE_LIMIT, Line, MakeError, Splitter, write_line};
 use std::alloc::Global;
 use std::test::Fail;
 
@@ -268,5 +268,20 @@ fn a_copy_is_written_behind_what_is_there(rt: HostRuntime) -> Result<(), Fail> {
     line.clone()?.write(&mut out)?;
     line.copy_in(rt.alloc())?.write(&mut out)?;
     assert!(rt; out.as_slice() == b"PING\r\n:a PRIVMSG #a :\r\n:a PRIVMSG #a :\r\n".as_slice());
+    Ok(())
+}
+
+#[test]
+fn parts_appended_as_a_line(rt: HostRuntime) -> Result<(), Fail> {
+    let mut out = Vec::new(rt.alloc());
+    write_line(
+        Some(b"x=1"),
+        Some(b"a"),
+        b"PRIVMSG",
+        &[b"#a", b""],
+        &mut out,
+    )?;
+    write_line(None, None, b"PING", &[b"b"], &mut out)?;
+    assert!(&rt; out.as_slice() == b"@x=1 :a PRIVMSG #a :\r\nPING b\r\n".as_slice());
     Ok(())
 }

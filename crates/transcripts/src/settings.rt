@@ -2,7 +2,7 @@
 
 use irc_line::Line;
 use irc_names::CaseMapping;
-use irc_support::{Kind, OutOfMemory, Ranks, Support, changes, name_words, names};
+use irc_support::{Kind, OutOfMemory, Ranks, Support, changes, cut, name_words, names, next_word};
 use std::alloc::Global;
 use std::test::Fail;
 
@@ -346,4 +346,19 @@ fn ranks_one_after_another(rt: HostRuntime) {
     assert_eq!(rt; ranks.next(), Some(3));
     assert_eq!(rt; ranks.next(), Some(15));
     assert_eq!(rt; ranks.next(), None);
+}
+
+#[test]
+fn words_and_cuts_of_a_text(rt: HostRuntime) -> Result<(), Fail> {
+    let text = b"  one two";
+    let (first, rest) = next_word(text).ok_or("a word")?;
+    assert!(&rt; first == b"one".as_slice());
+    let (second, rest) = next_word(rest).ok_or("another word")?;
+    assert!(&rt; second == b"two".as_slice());
+    assert!(&rt; next_word(rest).is_none());
+    let (before, behind) = cut(b'=', b"A=x=y");
+    assert!(&rt; before == b"A".as_slice());
+    assert!(&rt; behind == Some(b"x=y".as_slice()));
+    assert!(&rt; cut(b'=', b"A").1.is_none());
+    Ok(())
 }

@@ -2,7 +2,7 @@
 
 use irc_line::Line;
 use irc_support::Ranks;
-use net_view::{Item, NetworkView};
+use net_view::{Item, NetworkView, StateCommand, Telling, is_state_line, is_word, told};
 use std::alloc::Global;
 use std::process::Abort;
 use std::test::Fail;
@@ -440,5 +440,32 @@ fn no_account_of_what_is_no_nick(rt: HostRuntime) -> Result<(), Fail> {
     }
     assert!(&rt; view.account_of(b"^x") == Some(b"xacc".as_slice()));
     assert!(&rt; view.account_of(b"~x").is_none());
+    Ok(())
+}
+
+fn line(alloc: Global, text: &[u8]) -> Result<Line, Fail> {
+    let line = Line::<Global>::read(alloc, text)?;
+    Ok(line.ok_or("the text is a line")?)
+}
+
+/// The command of a line, and what the line tells.
+#[test]
+fn what_one_line_tells(rt: HostRuntime) -> Result<(), Fail> {
+    let part = line(rt.alloc(), b":bob!b@h part #c")?;
+    assert!(&rt; is_state_line(&part));
+    let command = StateCommand::of(&part).ok_or("a command")?;
+    assert!(&rt; command == StateCommand::Part);
+    assert!(&rt; command.text() == b"PART".as_slice());
+    let is_told = match told(&part) {
+        Telling::Parted { channel, who } => {
+            channel == b"#c".as_slice() && who == b"bob".as_slice()
+        }
+        _ => false,
+    };
+    assert!(&rt; is_told);
+    let message = line(rt.alloc(), b":bob!b@h PRIVMSG #c :PART #c")?;
+    assert!(&rt; !is_state_line(&message));
+    assert!(&rt; StateCommand::of(&message).is_none());
+    assert!(&rt; is_word(b"a:b") && !is_word(b":a") && !is_word(b"") && !is_word(b"a b"));
     Ok(())
 }
