@@ -10,7 +10,7 @@ use Rattle.irc_line.specs.Line.{Parts, is_space, is_line_byte, is_command}
 use Rattle.irc_line.specs.Reading.{line_of, parts_of, is_line}
 use Rattle.irc_line.specs.Grammar.{IsToken, SpellsMarked, SpellsParams, Spells}
 use Rattle.irc_line.specs.Writing.{is_word, param_text, marked_text, text_of, is_clean, is_token}
-use Rattle.irc_line.specs.Writing.{is_part, are_params, is_writable, retagged}
+use Rattle.irc_line.specs.Writing.{is_part, are_params, is_writable, retagged, untagged_line}
 use Rattle.irc_line.proofs.Grammar.{both, either, spelled-read, read-spelled, line-spelled}
 use Rattle.irc_line.proofs.Grammar.{clean-all, all-clean}
 use Rattle.irc_line.proofs.Again.{IsClean, IsAgain, clean-append, clean-front, clean-back}
@@ -187,6 +187,19 @@ retagged-writable line tags e t =
     both (is_part line.tags)
     (is_part line.source && (is_command line.command && are_params line.params)) e in
     rw (t, others.1) refl
+
+-- a line of the same parameters with another source and command, without tags
+pub renamed-writable : (line : Parts) (source : Option (List ℕ)) (command : List ℕ)
+    → is_writable line ≡ true → is_part source ≡ true → is_command command ≡ true
+    → is_writable (untagged_line source command line.params) ≡ true
+renamed-writable line source command e s c =
+    let others =
+    both (is_part line.tags)
+    (is_part line.source && (is_command line.command && are_params line.params)) e in
+    let rest =
+    both (is_part line.source) (is_command line.command && are_params line.params) others.1 in
+    let params = both (is_command line.command) (are_params line.params) rest.1 in
+    rw (s, c, params.1) refl
 
 -- the value of a text that is a line can be written
 pub value-writable : (text : List ℕ) (line : Parts) → is_line text ≡ true → parts_of text ≡ line →

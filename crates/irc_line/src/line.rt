@@ -4,7 +4,7 @@ ghost use Rattle.std.specs.Prelude.{◌≡◌, ◌≤◌, ◌↔◌, ◌++◌, �
 ghost use Rattle.std.specs.Prelude.{length, map, slice_get, option_map, IfOk, IfSome, IfNone, OnOk};
 ghost use Rattle.std.specs.Prelude.{OnErr, IsErrOf};
 ghost use Rattle.std.specs.List.{flat_map};
-ghost use Rattle.irc_line.specs.Line.{Parts, nick_of, has_command};
+ghost use Rattle.irc_line.specs.Line.{Parts, nick_of, has_command, is_command};
 ghost use Rattle.irc_line.specs.Grammar.{Spells};
 ghost use Rattle.irc_line.specs.Reading.{body, line_of};
 ghost use Rattle.irc_line.specs.Tags.{time_of};
@@ -199,6 +199,33 @@ impl<A: Allocator> Line<A> {
         Ok(Line { text, command_at })
     }
 
+    /// A line of the same parameters over another allocator, with this source, or none, this command
+    /// and no tags. That the source is no empty text and holds no space, NUL, CR or LF, and that the
+    /// command is one, is for the caller to see to. One allocation.
+    pub fn copy_as_in<B: Allocator>(
+        &self,
+        alloc: B,
+        source: Option<&[u8]>,
+        command: &[u8],
+    ) -> Result<Line<B>, OutOfMemory>
+    where
+        B: Drop,
+        requires source { IsTrue (is_part (option_map (λ s. s.now) source)) }
+        requires command { IsTrue (is_command command.now) }
+        ensures { IfOk result (λ line. line ≡ untagged_line
+            (option_map (λ s. s.now) source.entry) command.now self.now.params) }
+    {
+        let room = part_room(source)
+            .saturating_add(command.len())
+            .saturating_add(self.text.len());
+        let mut text = Vec::with_capacity(alloc, room)?;
+        push_marked(b':', source, &mut text)?;
+        text.extend_from_slice(command)?;
+        self.write_params(&mut text)?;
+        let command_at = body_place(&text);
+        Ok(Line { text, command_at })
+    }
+
     /// What stands behind the `@`.
     pub fn tags(&self) -> Option<&[u8]>
         ensures { option_map (λ part. part.now) result ≡ self.now.tags }
@@ -268,6 +295,16 @@ impl<A: Allocator> Line<A> {
     {
         let value = tag_value(b"time=", self.tags()?)?;
         if is_time(value) { Some(value) } else { None }
+    }
+
+    /// Adds the parameters.
+    fn write_params<B: Allocator>(&self, out: &mut Vec<u8, B>) -> Result<(), OutOfMemory>
+        ensures ok { OnOk result
+            (out.new.items ≡ out.old.items ++ flat_map param_text self.now.params) }
+    {
+        let (_, params) = split_token(&self.text[self.command_at..]);
+        push_params(params, out)?;
+        Ok(())
     }
 
     /// Adds the command and the parameters.
