@@ -26,6 +26,8 @@ pub mod AfterOwnPart
 pub mod AfterFacts
 pub mod AfterModes
 pub mod AfterQuit
+pub mod AfterRename
+pub mod AfterVoidJoin
 pub mod AfterOwnJoin
 pub mod AfterPresent
 pub mod TokensWritten
