@@ -1,0 +1,12 @@
+pub mod Sorted
+pub mod Places
+pub mod TableLemmas
+pub mod ShownLemmas
+pub mod SwapLemmas
+pub mod EachLemmas
+pub mod Outcomes
+pub mod ViewLemmas
+pub mod LastLemmas
+pub mod NamesLaw
+pub mod TakeLemmas
+pub mod ReadLemmas

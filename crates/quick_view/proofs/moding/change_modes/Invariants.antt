@@ -1,0 +1,16 @@
+use Rattle.std.proofs.Common.{◌≡◌, ℕ}
+use Rattle.std.specs.List.{filter_map}
+use Rattle.std.specs.Option.{unwrap_or}
+use Rattle.std.specs.FinMap as fin
+use Rattle.irc_support.specs.Line.{changes_in}
+use Rattle.net_view.specs.LookBack.{last_in}
+use Rattle.net_view.specs.Modes.{setting_of}
+use Rattle.net_view.specs.StateLines.{mode_change}
+use Rattle.quick_view.proofs.moding.change_modes.Given as goal
+
+abbrev pub invariant-loop-change : goal.invariant-loop-change
+invariant-loop-change g l = (letter : ℕ) →
+    unwrap_or (last_in (setting_of letter) (filter_map (mode_change l.support) (changes_in
+    l.support l.line))) (fin.get l.fn.modes letter)
+    ≡ unwrap_or (last_in (setting_of letter) (filter_map (mode_change l.support)
+    l.change-iterator)) (fin.get l.modes letter)

@@ -1,0 +1,46 @@
+use Rattle.std.proofs.Common.{Some, None, option_map, ap, sym, ◌∙◌}
+use Rattle.std.specs.FinMap as fin
+use Rattle.irc_names.specs.CaseMapping.{key_of}
+use Rattle.irc_support.specs.ChangeShown.{shown_change}
+use Rattle.net_view.specs.Told.{LetterChange}
+use Rattle.quick_view.specs.Moding.{rank_after}
+use Rattle.quick_view.proofs.LastLemmas.{rank_none, rank_some, change_said}
+use Rattle.quick_view.proofs.moding.change_rank.Goals as goal
+
+pub returns-in_default-get : goal.returns-in_default-get
+returns-in_default-get g c = λ n.
+    let s = c.args.support.now in
+    let m = c.args.members.now.all in
+    let l : LetterChange = record {
+      plus = c.args.change.plus;
+      rank = c.in-Some.rank;
+      person =
+          key_of c.mapping.result c.in-Some-param.nick.now;
+    } in
+    let said = change_said s (shown_change c.args.change) c.in-Some.rank c.in-Some-param.nick.now
+    c.mapping.result
+    (sym c.in-Some.is ∙ c.rank_of_letter.ensures.value)
+    (ap (option_map (λ t. t.now)) (sym c.in-Some-param.is))
+    (sym c.if-not-is_nameable.false ∙ c.is_nameable.ensures) c.mapping.ensures in
+    rank_none l m (ap (option_map (λ t. t.now)) (sym c.in_default-get.is) ∙ c.get.ensures) n
+    ∙ ap (λ o. option_map (rank_after o n) (fin.get m n)) said
+
+pub returns : goal.returns
+returns g c = λ n.
+    let s = c.args.support.now in
+    let m = c.args.members.now.all in
+    let l : LetterChange = record {
+      plus = c.args.change.plus;
+      rank = c.in-Some.rank;
+      person =
+          key_of c.mapping.result c.in-Some-param.nick.now;
+    } in
+    let said = change_said s (shown_change c.args.change) c.in-Some.rank c.in-Some-param.nick.now
+    c.mapping.result
+    (sym c.in-Some.is ∙ c.rank_of_letter.ensures.value)
+    (ap (option_map (λ t. t.now)) (sym c.in-Some-param.is))
+    (sym c.if-not-is_nameable.false ∙ c.is_nameable.ensures) c.mapping.ensures in
+    rank_some l m c.swap.new.self.all c.in-Some-get.ranks.now c.with_change-changed.result
+    (ap (option_map (λ t. t.now)) (sym c.in-Some-get.is) ∙ c.get.ensures)
+    c.swap.ensures.all c.with_change-changed.ensures n
+    ∙ ap (λ o. option_map (rank_after o n) (fin.get m n)) said

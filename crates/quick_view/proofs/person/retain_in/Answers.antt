@@ -1,0 +1,15 @@
+use Rattle.std.proofs.lemmas.Fn.{filter_same}
+use Rattle.std.proofs.Common.{ap, ◌∙◌}
+use Rattle.net_view.specs.Step.{is_seen}
+use Rattle.quick_view.specs.Rooms.{rooms_of}
+use Rattle.quick_view.proofs.person.retain_in.Goals as goal
+
+pub returns : goal.returns
+returns g c =
+    filter_same _ (λ entry. is_seen (rooms_of c.args.rooms.now.all) entry.key.items) _
+    (λ x b f' k. (
+      k.called.met.1 ∙ ap (λ entry. is_seen (rooms_of c.args.rooms.now.all)
+          entry.key.items) k.shows,
+      λ j. record { 0 = k.called.met.0 j },
+    )) _ _
+    c.retain.ensures.filtered

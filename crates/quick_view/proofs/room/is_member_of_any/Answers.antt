@@ -1,0 +1,12 @@
+use Rattle.std.proofs.Common.{sym, ◌∙◌}
+use Rattle.quick_view.specs.Sought.{sought_key}
+use Rattle.quick_view.specs.Rooms.{room_entry, is_in}
+use Rattle.quick_view.proofs.EachLemmas.{any_at}
+use Rattle.quick_view.proofs.room.is_member_of_any.Goals as goal
+
+pub returns-then-contains : goal.returns-then-contains
+returns-then-contains g c =
+    any_at (is_in (sought_key c.args.who)) room_entry c.args.rooms.now c.loop-room.room-index
+    c.room-item.result
+    c.loop-room-test.true c.room-item.is
+    (sym c.contains.ensures ∙ c.if-contains.true)

@@ -1,0 +1,56 @@
+use Rattle.std.proofs.Common.{
+  ◌≡◌,
+  ◌<◌,
+  ◌+◌,
+  ◌++◌,
+  ◌∷◌,
+  [],
+  List,
+  Some,
+  map,
+  refl,
+  ap,
+  get_or,
+  length,
+  length-append,
+  sym,
+  subst,
+  arith,
+  ◌∙◌,
+}
+use Rattle.std.specs.List.{All}
+use Rattle.std.proofs.lemmas.List.Elements.{All-pop}
+use Rattle.net_view.specs.Changes.{renamed_channel, renamed_in}
+use Rattle.quick_view.specs.Sought.{sought_key}
+use Rattle.quick_view.specs.Rooms.{room_entry, channel_of}
+use Rattle.quick_view.proofs.EachLemmas.{changed_more}
+use Rattle.quick_view.proofs.room.rename_each.Goals as goal
+
+pub loop-room-preserved : goal.loop-room-preserved
+loop-room-preserved g c =
+    let s = c.loop-room.rooms in
+    let i = c.loop-room.room-index in
+    let x = get_or s i c.room-item.result in
+    let k = sought_key c.args.old in
+    let popped = All-pop (λ key. key.items ≡ c.args.new.now) c.loop-room.keys.items
+    c.pop.new.self.items (Some c.in-Some.key) c.in-Some.ensures.items
+    c.loop-room.invariant.copies in
+    let less : length c.loop-room.keys.items ≡ length c.pop.new.self.items + 1 = ap length
+    c.in-Some.ensures.items ∙ length-append c.pop.new.self.items (c.in-Some.key ∷ []) in
+    let enough = c.loop-room.invariant.enough in
+    record {
+      changed = changed_more (λ e. (e.0, renamed_channel k c.args.new.now e.1)) room_entry (map
+          room_entry c.args.rooms.now) s i x _
+          (subst (λ n. i < n) (sym c.loop-room.auto.rooms) c.loop-room-test.true)
+          c.loop-room.invariant.changed
+          (ap (λ z. get_or s i z) c.room-item.is)
+          (λ j. (
+            x.key.items,
+            record (channel_of x.value) {
+              members = (c.rename_member.ensures ∙ ap (λ n. renamed_in (λ ranks. ranks) k n
+                  x.value.members.all) (popped.1)) j;
+            },
+          ));
+      enough = omega (arith, less, enough);
+      copies = popped.0;
+    }

@@ -1,0 +1,18 @@
+use Rattle.std.proofs.Common.{map, refl, ap, get_or, length, sym, subst, ◌<◌}
+use Rattle.net_view.specs.Changes.{without_member}
+use Rattle.quick_view.specs.Sought.{sought_key}
+use Rattle.quick_view.specs.Rooms.{room_entry, channel_of}
+use Rattle.quick_view.proofs.EachLemmas.{changed_more}
+use Rattle.quick_view.proofs.room.unseat_each.Goals as goal
+
+pub loop-room-preserved : goal.loop-room-preserved
+loop-room-preserved g c =
+    let s = c.loop-room.rooms in
+    let i = c.loop-room.room-index in
+    let x = get_or s i c.room-item.result in
+    changed_more (λ e. (e.0, without_member (sought_key c.args.who) e.1)) room_entry (map
+    room_entry c.args.rooms.now) s i x _
+    (subst (λ n. i < n) (sym c.loop-room.auto.rooms) c.loop-room-test.true)
+    c.loop-room.invariant
+    (ap (λ z. get_or s i z) c.room-item.is)
+    (λ j. (x.key.items, record (channel_of x.value) { members = c.remove.ensures.all j }))

@@ -1,0 +1,61 @@
+use Rattle.std.proofs.Common.{
+  ◌≡◌,
+  is_some,
+  option_map,
+  true,
+  false,
+  cond,
+  Some,
+  None,
+  sym,
+  ap,
+  ◌∙◌,
+  refl,
+  [],
+}
+use Rattle.std.specs.FinMap as fin
+use Rattle.std.specs.Cmp.Lexicographic.{nat_list_cmp_total}
+use Rattle.irc_names.specs.CaseMapping.{key_of}
+use Rattle.net_view.specs.Names.{bytes_cmp}
+use Rattle.net_view.specs.Step.{is_seen}
+use Rattle.net_view.specs.Changes.{joined_view, parted_view, told_person, with_ranks}
+use Rattle.net_view.proofs.Keys.{bytes_exact}
+use Rattle.quick_view.specs.Kept.{view_kept}
+use Rattle.quick_view.specs.Rooms.{channel_of, rooms_of}
+use Rattle.quick_view.specs.People.{known_of, people_of, changed_at}
+use Rattle.quick_view.proofs.ShownLemmas.{empty-shown, contains-shown, remove-shown}
+use Rattle.quick_view.proofs.ViewLemmas.{joined_is, joined_none, parted_is, parted_nobody}
+use Rattle.quick_view.proofs.state.State.join.Goals as goal
+
+pub returns-then-not-contains-clause-taken : goal.returns-then-not-contains-clause-taken
+returns-then-not-contains-clause-taken g c =
+    let v = view_kept c.args.self.now in
+    let who = c.args.who.now in
+    let told = option_map (option_map (λ t. t.now)) c.args.account in
+    joined_none v (key_of c.mapping-mapping.result c.args.channel.now) (key_of
+    c.mapping-mapping.result who) who told
+    (contains-shown bytes_cmp channel_of c.args.self.now.rooms.all (key_of c.mapping-mapping.result
+    c.args.channel.now)
+    ∙ sym c.contains.ensures ∙ c.if-not-contains.true)
+    ∙ ap (λ m. joined_view v (key_of m c.args.channel.now) (key_of m who) who told)
+    c.mapping-mapping.ensures
+
+pub returns-clause-taken : goal.returns-clause-taken
+returns-clause-taken g c =
+    let v = view_kept c.args.self.now in
+    let who = c.args.who.now in
+    let told = option_map (option_map (λ t. t.now)) c.args.account in
+    let chan = key_of c.mapping-mapping.result c.args.channel.now in
+    joined_is v chan (key_of c.mapping-mapping.result who) who told (rooms_of c.seat.new.rooms.all)
+    (people_of c.name_person.new.people.all)
+    (contains-shown bytes_cmp channel_of c.args.self.now.rooms.all chan
+    ∙ sym c.contains.ensures ∙ c.if-not-contains.false)
+    (c.in_ok-seat.ensures.added
+    ∙ (λ i. changed_at (rooms_of c.args.self.now.rooms.all) chan (with_ranks
+    (c.in_ok-member.ensures i) (c.none.ensures i))))
+    (c.name_person.ensures.named
+    ∙ (λ i. fin.insert (people_of (c.in_ok-reserve.ensures.all i)) (c.in_ok-key.ensures i)
+    (told_person (Some (Some (c.in_ok-nick.ensures.items i))) (c.in_ok-account.ensures i) None
+    (fin.get (people_of (c.in_ok-reserve.ensures.all i)) (c.in_ok-key.ensures i)))))
+    ∙ ap (λ m. joined_view v (key_of m c.args.channel.now) (key_of m who) who told)
+    c.mapping-mapping.ensures

@@ -1,0 +1,44 @@
+use Rattle.std.proofs.Common.{
+  ◌≡◌,
+  is_some,
+  option_map,
+  true,
+  false,
+  cond,
+  Some,
+  None,
+  Option,
+  sym,
+  ap,
+  ◌∙◌,
+  refl,
+  [],
+}
+use Rattle.std.specs.FinMap as fin
+use Rattle.std.specs.Cmp.Lexicographic.{nat_list_cmp_total}
+use Rattle.irc_names.specs.CaseMapping.{key_of}
+use Rattle.net_view.specs.Names.{bytes_cmp}
+use Rattle.net_view.specs.Step.{is_seen}
+use Rattle.net_view.specs.View.{Channel}
+use Rattle.net_view.specs.Changes.{told_person, fresh_channel}
+use Rattle.net_view.proofs.Keys.{bytes_exact}
+use Rattle.net_view.proofs.AfterAlike.{removed_none, IsKnowing}
+use Rattle.quick_view.specs.Kept.{view_kept}
+use Rattle.quick_view.specs.Rooms.{channel_of, rooms_of}
+use Rattle.quick_view.specs.People.{known_of, people_of}
+use Rattle.quick_view.specs.Views.{quitted_view, left_view, entered_view}
+use Rattle.quick_view.proofs.ShownLemmas.{contains-shown, get-shown, insert-shown, remove-shown}
+use Rattle.quick_view.proofs.SwapLemmas.{none_is, none_of}
+use Rattle.quick_view.proofs.ViewLemmas.{all_still_seen, entered_seen}
+use Rattle.quick_view.proofs.state.State.quit.Goals as goal
+
+pub returns : goal.returns
+returns g c =
+    let v = view_kept c.args.self.now in
+    let n = key_of c.mapping.result c.args.who.now in
+    (λ i. record v {
+      channels = c.unseat_all.ensures i;
+      people = (ap people_of c.remove.ensures.all ∙ remove-shown bytes_cmp known_of
+          nat_list_cmp_total bytes_exact c.args.self.now.people.all n) i;
+    })
+    ∙ ap (λ m. quitted_view v (key_of m c.args.who.now)) c.mapping.ensures

@@ -1,0 +1,129 @@
+use Rattle.std.proofs.Common.{
+  ◌≡◌,
+  is_some,
+  true,
+  false,
+  cond,
+  Some,
+  None,
+  Option,
+  List,
+  sym,
+  ap,
+  ◌∙◌,
+  refl,
+  option_map,
+}
+use Rattle.std.specs.Prelude.{◌&&◌, ◌||◌, not}
+use Rattle.std.specs.FinMap as fin
+use Rattle.irc_support.specs.Settings.{key_by, is_channel}
+use Rattle.irc_support.specs.Tokens.{set_tokens}
+use Rattle.net_view.specs.Arrival.{Received}
+use Rattle.net_view.specs.Names.{bytes_cmp, name_of}
+use Rattle.net_view.specs.Step.{after_told, standing_of}
+use Rattle.net_view.specs.StateLines.{told}
+use Rattle.net_view.specs.Tells.{meant}
+use Rattle.net_view.specs.Told as spec
+use Rattle.net_view.specs.Transcript.{is_us}
+use Rattle.net_view.specs.Changes.{readied, without_member, renamed_channel}
+use Rattle.net_view.proofs.AfterFacts.{after_supports, after_settled, after_account, after_away}
+use Rattle.net_view.proofs.AfterModes.{after_topic}
+use Rattle.net_view.proofs.AfterJoin.{after_join}
+use Rattle.net_view.proofs.AfterVoidJoin.{after_void_join}
+use Rattle.net_view.proofs.AfterOwnJoin.{after_own_join}
+use Rattle.net_view.proofs.AfterPart.{after_part, kick_is_part}
+use Rattle.net_view.proofs.AfterOwnPart.{after_own_part}
+use Rattle.net_view.proofs.AfterQuit.{after_quit}
+use Rattle.net_view.proofs.AfterRename.{after_rename, after_no_rename}
+use Rattle.net_view.proofs.Emptied.{emptied}
+use Rattle.net_view.proofs.Commands.{told_of_isupport}
+use Rattle.net_view.proofs.ReadCommands.{supports_said}
+use Rattle.quick_view.specs.Kept.{view_kept}
+use Rattle.quick_view.specs.Listing.{listings_in}
+use Rattle.quick_view.proofs.Outcomes.{on_ok, on_err}
+use Rattle.quick_view.proofs.ShownLemmas.{get-shown}
+use Rattle.quick_view.proofs.TakeLemmas.{after_silent, own_there, names_sound, names_set, view_none}
+use Rattle.quick_view.proofs.NamesLaw.{names_law}
+use Rattle.quick_view.proofs.state.State.take_line.Goals as goal
+
+pub take_supports-requires : goal.take_supports-requires
+take_supports-requires g c =
+    let s = c.args.self.now.support in
+    supports_said s c.args.line.now c.in-Supports.line.now.params (sym (ap (meant s) (sym
+    c.in-Supports.is) ∙ c.told_as.ensures s))
+
+pub returns-in-Silent-clause-taken : goal.returns-in-Silent-clause-taken
+returns-in-Silent-clause-taken g c = λ sound sets.
+    let v = view_kept c.args.self.now in
+    let s = c.args.self.now.support in
+    let said = ap (meant s) (sym c.in-Silent.is) ∙ c.told_as.ensures s in
+    sym (after_silent v sets sound.known) ∙ ap (after_told v) said
+
+pub returns-in-Welcomed-clause-taken : goal.returns-in-Welcomed-clause-taken
+returns-in-Welcomed-clause-taken g c = on_ok c.welcome.result c.welcome.ensures.welcomed (λ e sound
+    sets.
+    let v = view_kept c.args.self.now in
+    let s = c.args.self.now.support in
+    let said = ap (meant s) (sym c.in-Welcomed.is) ∙ c.told_as.ensures s in
+    e ∙ sym (emptied v (spec.Welcomed c.in-Welcomed.nick.now) (λ d. refl)) ∙ ap (after_told v) said)
+
+pub returns-in-Supports-clause-taken : goal.returns-in-Supports-clause-taken
+returns-in-Supports-clause-taken g c = on_ok c.take_supports.result c.take_supports.ensures.taken
+    (λ e sound sets.
+    let v = view_kept c.args.self.now in
+    let s = c.args.self.now.support in
+    let said = ap (meant s) (sym c.in-Supports.is) ∙ c.told_as.ensures s in
+    e sound sets ∙ ap (after_told v) (sym (told_of_isupport s c.args.line.now (supports_said s
+    c.args.line.now c.in-Supports.line.now.params (sym said)))))
+
+pub returns-in-Settles-clause-taken : goal.returns-in-Settles-clause-taken
+returns-in-Settles-clause-taken g c = λ sound sets.
+    let v = view_kept c.args.self.now in
+    let s = c.args.self.now.support in
+    let said = ap (meant s) (sym c.in-Settles.is) ∙ c.told_as.ensures s in
+    c.settle.ensures ∙ sym (after_settled v sets sound.known) ∙ ap (after_told v) said
+
+pub returns-in-Kicked-clause-taken : goal.returns-in-Kicked-clause-taken
+returns-in-Kicked-clause-taken g c = λ sound sets.
+    let v = view_kept c.args.self.now in
+    let s = c.args.self.now.support in
+    let said = ap (meant s) (sym c.in-Kicked.is) ∙ c.told_as.ensures s in
+    c.take_part-in-Kicked.ensures sound sets ∙ sym (kick_is_part v (key_by s
+    c.in-Kicked.channel.now) (key_by s c.in-Kicked.who.now)) ∙ ap (after_told v) said
+
+pub returns-in-Titled-clause-taken : goal.returns-in-Titled-clause-taken
+returns-in-Titled-clause-taken g c = on_ok c.take_topic.result c.take_topic.ensures.taken (λ e
+    sound sets.
+    let v = view_kept c.args.self.now in
+    let s = c.args.self.now.support in
+    let said = ap (meant s) (sym c.in-Titled.is) ∙ c.told_as.ensures s in
+    e ∙ sym (after_topic v sets sound.known (key_by s c.in-Titled.channel.now) (option_map (λ t.
+    t.now) c.in-Titled.topic)) ∙ ap (after_told v) said)
+
+pub returns-in-Present-clause-taken : goal.returns-in-Present-clause-taken
+returns-in-Present-clause-taken g c = on_ok c.take_names.result c.take_names.ensures.taken (λ e
+    sound sets.
+    let v = view_kept c.args.self.now in
+    let s = c.args.self.now.support in
+    let said = ap (meant s) (sym c.in-Present.is) ∙ c.told_as.ensures s in
+    let listed = c.in-Present.line.now in
+    e ∙ sym (names_law (listings_in s listed) v (key_by s c.in-Present.channel.now) sound sets
+    (names_sound s listed) (names_set s listed)) ∙ ap (after_told v) said)
+
+pub returns-in-HasAccount-clause-taken : goal.returns-in-HasAccount-clause-taken
+returns-in-HasAccount-clause-taken g c = on_ok c.take_account.result c.take_account.ensures.taken
+    (λ e sound sets.
+    let v = view_kept c.args.self.now in
+    let s = c.args.self.now.support in
+    let said = ap (meant s) (sym c.in-HasAccount.is) ∙ c.told_as.ensures s in
+    e ∙ sym (after_account v sets sound.known (key_by s c.in-HasAccount.who.now) (option_map (λ t.
+    t.now) c.in-HasAccount.account)) ∙ ap (after_told v) said)
+
+pub returns-in-IsAway-clause-taken : goal.returns-in-IsAway-clause-taken
+returns-in-IsAway-clause-taken g c = on_ok c.take_away.result c.take_away.ensures.taken (λ e sound
+    sets.
+    let v = view_kept c.args.self.now in
+    let s = c.args.self.now.support in
+    let said = ap (meant s) (sym c.in-IsAway.is) ∙ c.told_as.ensures s in
+    e ∙ sym (after_away v sets sound.known (key_by s c.in-IsAway.who.now) (option_map (λ t. t.now)
+    c.in-IsAway.text)) ∙ ap (after_told v) said)

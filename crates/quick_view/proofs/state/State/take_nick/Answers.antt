@@ -1,0 +1,95 @@
+use Rattle.std.proofs.Common.{
+  ◌≡◌,
+  is_some,
+  true,
+  false,
+  cond,
+  Some,
+  None,
+  Option,
+  List,
+  sym,
+  ap,
+  ◌∙◌,
+  refl,
+  option_map,
+}
+use Rattle.std.specs.Prelude.{◌&&◌, ◌||◌, not}
+use Rattle.std.specs.FinMap as fin
+use Rattle.irc_support.specs.Settings.{key_by, is_channel}
+use Rattle.irc_support.specs.Tokens.{set_tokens}
+use Rattle.net_view.specs.Arrival.{Received}
+use Rattle.net_view.specs.Names.{bytes_cmp, name_of}
+use Rattle.net_view.specs.Step.{after_told, standing_of}
+use Rattle.net_view.specs.StateLines.{told}
+use Rattle.net_view.specs.Tells.{meant}
+use Rattle.net_view.specs.Told as spec
+use Rattle.net_view.specs.Transcript.{is_us}
+use Rattle.net_view.specs.Changes.{readied, without_member, renamed_channel, renamed_in, spelled_as}
+use Rattle.net_view.proofs.AfterFacts.{after_supports, after_settled, after_account, after_away}
+use Rattle.net_view.proofs.AfterModes.{after_topic}
+use Rattle.net_view.proofs.AfterJoin.{after_join}
+use Rattle.net_view.proofs.AfterVoidJoin.{after_void_join}
+use Rattle.net_view.proofs.AfterOwnJoin.{after_own_join}
+use Rattle.net_view.proofs.AfterPart.{after_part, kick_is_part}
+use Rattle.net_view.proofs.AfterOwnPart.{after_own_part}
+use Rattle.net_view.proofs.AfterQuit.{after_quit}
+use Rattle.net_view.proofs.AfterRename.{after_rename, after_no_rename}
+use Rattle.net_view.proofs.Emptied.{emptied}
+use Rattle.net_view.proofs.Commands.{told_of_isupport}
+use Rattle.net_view.proofs.ReadCommands.{supports_said}
+use Rattle.quick_view.specs.Shown.{shown}
+use Rattle.quick_view.specs.Kept.{view_kept}
+use Rattle.quick_view.specs.Listing.{listings_in}
+use Rattle.quick_view.proofs.Outcomes.{on_ok, on_err}
+use Rattle.quick_view.proofs.ShownLemmas.{get-shown}
+use Rattle.quick_view.proofs.TakeLemmas.{own_there, names_sound, names_set, view_none}
+use Rattle.quick_view.proofs.NamesLaw.{names_law}
+use Rattle.quick_view.proofs.state.State.take_nick.Goals as goal
+
+pub returns-then-is_us-clause-taken : goal.returns-then-is_us-clause-taken
+returns-then-is_us-clause-taken g c = on_ok c.rename.result c.rename.ensures.taken (λ e sound sets.
+    let v = view_kept c.args.self.now in
+    let old = key_by v.settings c.args.old.now in
+    let new = name_of v.settings c.args.new.now in
+    let us = is_us (standing_of v) in
+    let ours : us old ≡ true = sym c.is_us.ensures ∙ c.if-is_us.true in
+    e
+    ∙ (λ i. record {
+      own = cond (sym ours i) (Some c.args.new.now) v.own;
+      ready = v.ready;
+      settings = v.settings;
+      channels = shown (renamed_channel old new.key) v.channels;
+      people = renamed_in (spelled_as c.args.new.now) old new.key v.people;
+    })
+    ∙ sym (after_rename v sets sound.known old new (ap (λ b. b || not (us new.key)) ours) _
+    (get-shown bytes_cmp (renamed_channel old new.key) v.channels)))
+
+pub returns-then-is_us-2-clause-taken : goal.returns-then-is_us-2-clause-taken
+returns-then-is_us-2-clause-taken g c = λ sound sets.
+    let v = view_kept c.args.self.now in
+    let old = key_by v.settings c.args.old.now in
+    let new = name_of v.settings c.args.new.now in
+    let us = is_us (standing_of v) in
+    let others : us old ≡ false = sym c.is_us.ensures ∙ c.if-is_us.false in
+    let onto_ours : us new.key ≡ true = sym c.is_us-2.ensures ∙ c.if-is_us-2.true in
+    sym (after_no_rename v sets sound.known old new (λ i. others i || not (onto_ours i)))
+
+pub returns-clause-taken : goal.returns-clause-taken
+returns-clause-taken g c = on_ok c.rename-2.result c.rename-2.ensures.taken (λ e sound sets.
+    let v = view_kept c.args.self.now in
+    let old = key_by v.settings c.args.old.now in
+    let new = name_of v.settings c.args.new.now in
+    let us = is_us (standing_of v) in
+    let ours : us old ≡ false = sym c.is_us.ensures ∙ c.if-is_us.false in
+    let not_ours : us new.key ≡ false = sym c.is_us-2.ensures ∙ c.if-is_us-2.false in
+    e
+    ∙ (λ i. record {
+      own = cond (sym ours i) (Some c.args.new.now) v.own;
+      ready = v.ready;
+      settings = v.settings;
+      channels = shown (renamed_channel old new.key) v.channels;
+      people = renamed_in (spelled_as c.args.new.now) old new.key v.people;
+    })
+    ∙ sym (after_rename v sets sound.known old new (λ i. ours i || not (not_ours i)) _ (get-shown
+    bytes_cmp (renamed_channel old new.key) v.channels)))

@@ -1,0 +1,11 @@
+use Rattle.std.proofs.Common.{◌≡◌, [], map, length, sym, ap, ◌∙◌, refl, arith}
+use Rattle.std.specs.FinMap as fin
+use Rattle.net_view.specs.Names.{bytes_cmp}
+use Rattle.quick_view.specs.Table.{entry_of}
+use Rattle.quick_view.specs.Sought.{sought_key}
+use Rattle.quick_view.proofs.TableLemmas.{no_entries}
+use Rattle.quick_view.proofs.table.Table.clear.Goals as goal
+
+pub returns : goal.returns
+returns g c = ap (λ l. fin.from_sorted {R = bytes_cmp} (map entry_of l)) c.clear.ensures.items ∙
+    no_entries

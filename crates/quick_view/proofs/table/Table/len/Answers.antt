@@ -1,0 +1,14 @@
+use Rattle.std.proofs.Common.{◌≡◌, [], map, length, sym, ap, ◌∙◌, refl, arith}
+use Rattle.std.specs.FinMap as fin
+use Rattle.net_view.specs.Names.{bytes_cmp}
+use Rattle.quick_view.specs.Table.{entry_of}
+use Rattle.quick_view.specs.Sought.{sought_key}
+use Rattle.std.proofs.lemmas.List.{length-map}
+use Rattle.quick_view.proofs.table.Table.len.Goals as goal
+
+pub returns : goal.returns
+returns g c =
+    c.len.ensures ∙ c.self.inside.entries.ok.0
+    ∙ sym (length-map c.self.inside.entries.items entry_of)
+    ∙ ap length (sym (fin.entries-from_sorted bytes_cmp _ c.self.invariant))
+    ∙ ap (λ t. length (fin.entries t.all)) c.self.view_is

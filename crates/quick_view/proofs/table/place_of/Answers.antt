@@ -1,0 +1,14 @@
+use Rattle.std.proofs.lemmas.Fn.{always_returns_same}
+use Rattle.net_view.specs.Names.{bytes_cmp}
+use Rattle.quick_view.specs.Sought.{sought_key}
+use Rattle.quick_view.proofs.table.place_of.Goals as goal
+
+pub returns-clause-place : goal.returns-clause-place
+returns-clause-place g c = c.binary_search_by.ensures.position (λ entry. bytes_cmp entry.key.items
+    (sought_key c.args.sought)) (always_returns_same _ _ _ (λ a r f' k. (
+      k.met.1,
+      λ j. record {
+        0 =
+            k.met.0 j;
+      },
+    )))

@@ -1,0 +1,12 @@
+pub mod Sought
+pub mod Table
+pub mod Modes
+pub mod Shown
+pub mod People
+pub mod Rooms
+pub mod Kept
+pub mod Views
+pub mod Moding
+pub mod Listing
+pub mod FromLines
+pub mod Coded

@@ -1,0 +1,47 @@
+-- Channels that we are on.
+use Rattle.std.specs.Prelude.{List, map, Bool}
+use Rattle.std.specs.Option.{option_map}
+use Rattle.std.specs.Ordering.{nat_cmp}
+use Rattle.std.specs.FinMap as fin
+use Rattle.std.proofs.Common.{Option}
+use Rattle.irc_support.specs.Text.{Text}
+use Rattle.net_view.specs.Names.{bytes_cmp}
+use Rattle.net_view.specs.View.{Channel}
+use Rattle.quick_view.specs.Shown.{shown}
+use Rattle.quick_view.specs.declared.room.Room.{Room}
+use Rattle.quick_view.specs.declared.table.Entry.{Entry}
+
+-- what is kept of a channel
+abbrev pub channel_of : {A : Type 0} → Room A → Channel
+channel_of room = record {
+  name = room.name.items;
+  topic = option_map (λ text. text.items) room.topic;
+  modes = room.modes;
+  members = room.members.all;
+}
+
+-- what is kept of all of them
+abbrev pub rooms_of : {A : Type 0} → fin.FinMap bytes_cmp (Room A) → fin.FinMap bytes_cmp Channel
+rooms_of rooms = shown channel_of rooms
+
+-- a channel under its key
+abbrev pub room_entry : {A : Type 0} → Entry (Room A) A → Text × Channel
+room_entry entry = (entry.key.items, channel_of entry.value)
+
+-- each channel changed
+abbrev pub each_changed : (Channel → Channel) → List (Text × Channel) → List (Text × Channel)
+each_changed change entries = map (λ e. (e.0, change e.1)) entries
+
+-- whether the person is a member of this one
+abbrev pub is_in : Text → Text × Channel → Bool
+is_in n entry = fin.contains_key entry.1.members n
+
+-- a channel with these modes
+abbrev pub with_modes : fin.FinMap nat_cmp (Option Text) → Channel → Channel
+with_modes modes ch = record {
+  name = ch.name;
+  topic = ch.topic;
+  modes = modes;
+  members =
+      ch.members;
+}

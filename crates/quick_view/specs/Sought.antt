@@ -1,0 +1,11 @@
+-- What is looked for in a table.
+use Rattle.std.specs.Prelude.{List}
+use Rattle.irc_names.specs.CaseMapping.{key_of}
+use Rattle.irc_support.specs.Text.{Text}
+use Rattle.quick_view.specs.declared.sought.Sought.{Sought}
+use Rattle.quick_view.specs.declared.sought.Sought.TheVariants.{Key, Name}
+
+-- the key under which it stands
+abbrev pub sought_key : Sought → Text
+sought_key (Key key) = key.now
+sought_key (Name mapping name) = key_of mapping name.now

@@ -1,0 +1,83 @@
+//! `353`, name lists (RFC 2812, section 5.1).
+
+ghost use Rattle.std.specs.Prelude.{◌≡◌, ◌≤◌, ◌<◌, ◌+◌, map, length, Some, None, IfOk, OnOk, OnErr};
+ghost use Rattle.std.specs.FinMap as fin;
+ghost use Rattle.net_view.specs.Changes.{told_person};
+ghost use Rattle.quick_view.specs.People.{people_of};
+ghost use Rattle.quick_view.specs.Listing.{listings_in, listing_of, members_listed, people_listed};
+
+use crate::OutOfMemory;
+use crate::listed::Listed;
+use crate::person::{People, name_person};
+use crate::room::Members;
+use irc_line::Line;
+use irc_names::is_nameable;
+use irc_support::{Support, names};
+use std::alloc::Allocator;
+
+/// The members that a line lists, as they are to be kept.
+pub(crate) fn listed_in<A: Allocator + Copy, B: Allocator, C: Allocator>(
+    alloc: A,
+    support: &Support<B>,
+    line: &Line<C>,
+) -> Result<Vec<Listed<A>, A>, OutOfMemory>
+    ensures { IfOk result (λ listed. map listing_of listed.items ≡ listings_in support.now
+        line.now) }
+{
+    let mapping = support.mapping();
+    let mut listed = Vec::new(alloc);
+    for (ranks, name) in names(support, line) {
+        if is_nameable(name) {
+            let member = mapping.key(alloc, name)?;
+            let key = mapping.key(alloc, name)?;
+            let nick = Vec::from_slice(alloc, name)?;
+            listed.push(Listed {
+                member,
+                key,
+                nick,
+                ranks,
+            })?;
+        }
+    }
+    Ok(listed)
+}
+
+/// Keeps a member that is listed.
+fn keep_listed<A: Allocator + Copy>(
+    alloc: A,
+    members: &mut Members<A>,
+    people: &mut People<A>,
+    listed: Listed<A>,
+)
+    requires members { 0 < members.old.spare }
+    requires people { 0 < people.old.spare }
+    ensures member { members.new.all ≡ fin.insert members.old.all listed.key.items listed.ranks }
+    ensures person { people_of people.new.all ≡ fin.insert (people_of people.old.all)
+        listed.key.items
+        (told_person (Some (Some listed.nick.items)) None None
+        (fin.get (people_of people.old.all) listed.key.items)) }
+    ensures member_room { members.old.spare ≤ members.new.spare + 1 }
+    ensures person_room { people.old.spare ≤ people.new.spare + 1 }
+{
+    members.insert(listed.member, listed.ranks);
+    name_person(alloc, people, listed.key, listed.nick, None);
+}
+
+/// Keeps all members that are listed; for the persons there is room.
+pub(crate) fn keep_all<A: Allocator + Copy>(
+    alloc: A,
+    members: &mut Members<A>,
+    people: &mut People<A>,
+    listed: Vec<Listed<A>, A>,
+)
+    requires members { length listed.items ≤ members.old.spare }
+    requires people { length listed.items ≤ people.old.spare }
+    ensures members { members.new.all ≡ members_listed members.old.all (map listing_of
+        listed.items) }
+    ensures people { people_of people.new.all
+        ≡ people_listed (people_of people.old.all) (map listing_of listed.items) }
+{
+    for one in listed {
+        keep_listed(alloc, members, people, one);
+    }
+}

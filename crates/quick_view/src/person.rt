@@ -1,0 +1,145 @@
+//! Persons in sight.
+
+ghost use Rattle.std.specs.Prelude.{◌≡◌, ◌+◌, ◌<◌, ◌≤◌, [], Some, None};
+ghost use Rattle.std.specs.Option.{option_map};
+ghost use Rattle.std.specs.FinMap as fin;
+ghost use Rattle.net_view.specs.Changes.{told_person, with_account, with_away, renamed_in};
+ghost use Rattle.net_view.specs.Changes.{spelled_as};
+ghost use Rattle.quick_view.specs.Sought.{sought_key};
+ghost use Rattle.std.specs.List.{filter};
+ghost use Rattle.net_view.specs.Step.{is_seen};
+ghost use Rattle.quick_view.specs.Rooms.{rooms_of};
+ghost use Rattle.quick_view.specs.People.{people_of, changed_at};
+
+use crate::room::Rooms;
+use crate::sought::Sought;
+use crate::table::{Entry, Table};
+use std::alloc::Allocator;
+
+/// What is known of a person in sight.
+#[derive(Drop)]
+pub(crate) struct Person<A: Allocator> {
+    /// As spelled last.
+    pub(crate) nick: Vec<u8, A>,
+    pub(crate) account: Option<Vec<u8, A>>,
+    pub(crate) away: Option<Vec<u8, A>>,
+}
+
+/// The persons in sight, by the keys of their nicks.
+pub(crate) type People<A> = Table<Person<A>, A>;
+
+/// Nobody, of whom nothing is known.
+pub(crate) fn nobody<A: Allocator>(alloc: A) -> Person<A>
+    ensures account { result.account ≡ None }
+    ensures away { result.away ≡ None }
+{
+    Person {
+        nick: Vec::new(alloc),
+        account: None,
+        away: None,
+    }
+}
+
+/// Names a person, who may come into sight, and tells the account, where one is told. What else is
+/// known of the person stays.
+pub(crate) fn name_person<A: Allocator + Copy>(
+    alloc: A,
+    people: &mut People<A>,
+    key: Vec<u8, A>,
+    nick: Vec<u8, A>,
+    account: Option<Option<Vec<u8, A>>>,
+)
+    requires { 0 < people.old.spare }
+    ensures named { people_of people.new.all ≡ fin.insert (people_of people.old.all) key.items
+        (told_person (Some (Some nick.items)) (option_map (option_map (λ t. t.items)) account) None
+        (fin.get (people_of people.old.all) key.items)) }
+    ensures room { people.old.spare ≤ people.new.spare + 1 }
+{
+    let mut old = nobody(alloc);
+    people.swap(Sought::Key(&key), &mut old);
+    let person = Person {
+        nick,
+        account: account.unwrap_or(old.account),
+        away: old.away,
+    };
+    people.insert(key, person);
+}
+
+/// Changes a person's account, where the person is in sight.
+pub(crate) fn set_account<A: Allocator + Copy>(
+    alloc: A,
+    people: &mut People<A>,
+    who: Sought<'_>,
+    account: Option<Vec<u8, A>>,
+)
+    ensures { people_of people.new.all ≡ changed_at (people_of people.old.all) (sought_key
+        who.entry)
+        (with_account (option_map (λ t. t.items) account)) }
+{
+    let mut person = nobody(alloc);
+    if people.swap(who, &mut person) {
+        person.account = account;
+        people.swap(who, &mut person);
+    }
+}
+
+/// Changes a person's away text, where the person is in sight.
+pub(crate) fn set_away<A: Allocator + Copy>(
+    alloc: A,
+    people: &mut People<A>,
+    who: Sought<'_>,
+    away: Option<Vec<u8, A>>,
+)
+    ensures { people_of people.new.all ≡ changed_at (people_of people.old.all) (sought_key
+        who.entry)
+        (with_away (option_map (λ t. t.items) away)) }
+{
+    let mut person = nobody(alloc);
+    if people.swap(who, &mut person) {
+        person.away = away;
+        people.swap(who, &mut person);
+    }
+}
+
+/// Gives a person another key and nick. Whoever stood under that key is gone.
+pub(crate) fn rename_person<A: Allocator>(
+    people: &mut People<A>,
+    old: Sought<'_>,
+    new: Vec<u8, A>,
+    nick: Vec<u8, A>,
+)
+    ensures { people_of people.new.all
+        ≡ renamed_in (spelled_as nick.items) (sought_key old.entry) new.items (people_of people.old.all) }
+{
+    match people.remove(old) {
+        Some(person) => {
+            let person = Person {
+                nick,
+                account: person.account,
+                away: person.away,
+            };
+            people.insert(new, person);
+        }
+        None => people.forget(&new),
+    }
+}
+
+/// Keeps those persons alone who are members of one of the channels.
+pub(crate) fn retain_seen<A: Allocator>(people: &mut People<A>, rooms: &Rooms<A>)
+    ensures { people_of people.new.all
+        ≡ fin.retain_keys (people_of people.old.all) (is_seen (rooms_of rooms.now.all)) }
+{
+    retain_in(&mut people.entries, rooms);
+}
+
+/// The same of the entries.
+fn retain_in<A: Allocator>(entries: &mut Vec<Entry<Person<A>, A>, A>, rooms: &Rooms<A>)
+    ensures { entries.new.items
+        ≡ filter (λ entry. is_seen (rooms_of rooms.now.all) entry.key.items) entries.old.items }
+{
+    entries.retain(
+        |entry: &Entry<Person<A>, A>| -> bool
+            ensures { result ≡ is_seen (rooms_of rooms.entry.now.all) entry.now.key.items }
+        { rooms.is_seen(Sought::Key(&entry.key)) },
+    );
+}

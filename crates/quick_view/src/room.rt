@@ -1,0 +1,272 @@
+//! Channels that we are on.
+
+ghost use Rattle.std.specs.Prelude.{◌≡◌, ◌≤◌, length, map, is_some, OnOk, OnErr, IfOk};
+ghost use Rattle.std.specs.Option.{option_map};
+ghost use Rattle.std.specs.List.{All, list_any};
+ghost use Rattle.std.specs.FinMap as fin;
+ghost use Rattle.net_view.specs.Step.{is_seen, old_member};
+ghost use Rattle.net_view.specs.Changes.{with_topic, with_ranks, without_member, fresh_channel};
+ghost use Rattle.net_view.specs.Changes.{renamed_in, renamed_channel};
+ghost use Rattle.irc_names.specs.CaseMapping.{key_of};
+ghost use Rattle.quick_view.specs.Shown.{shown};
+ghost use Rattle.quick_view.specs.Sought.{sought_key};
+ghost use Rattle.quick_view.specs.People.{changed_at};
+ghost use Rattle.quick_view.specs.Rooms.{channel_of, rooms_of, with_modes, room_entry};
+ghost use Rattle.quick_view.specs.Rooms.{each_changed, is_in};
+
+use crate::OutOfMemory;
+use crate::modes::Modes;
+use crate::sought::Sought;
+use crate::table::{Entry, Table};
+use irc_names::CaseMapping;
+use irc_support::Ranks;
+use std::alloc::Allocator;
+
+/// The members of a channel, by the keys of their nicks, each with the ranks held there.
+pub(crate) type Members<A> = Table<Ranks, A>;
+
+/// A channel that we are on.
+#[derive(Drop)]
+pub(crate) struct Room<A: Allocator> {
+    /// As spelled in our own last JOIN.
+    pub(crate) name: Vec<u8, A>,
+    pub(crate) topic: Option<Vec<u8, A>>,
+    pub(crate) modes: Modes<A>,
+    pub(crate) members: Members<A>,
+}
+
+/// The channels that we are on, by the keys of their names.
+pub(crate) type Rooms<A> = Table<Room<A>, A>;
+
+/// A channel without a name, a mode or a member, which stands for one that is being changed.
+pub(crate) fn no_room<A: Allocator + Copy>(alloc: A) -> Room<A> {
+    Room {
+        name: Vec::new(alloc),
+        topic: None,
+        modes: Modes::new(alloc),
+        members: Table::new(alloc),
+    }
+}
+
+/// A channel of this name, of which somebody is the one member.
+pub(crate) fn fresh_room<A: Allocator + Copy>(
+    alloc: A,
+    mapping: CaseMapping,
+    name: &[u8],
+    who: &[u8],
+) -> Result<Room<A>, OutOfMemory>
+    ensures { IfOk result (λ room. channel_of room ≡ fresh_channel name.now (key_of mapping
+        who.now)) }
+{
+    let name = Vec::from_slice(alloc, name)?;
+    let key = mapping.key(alloc, who)?;
+    let mut members = Table::new(alloc);
+    members.reserve(1)?;
+    members.insert(key, Ranks::none());
+    Ok(Room {
+        name,
+        topic: None,
+        modes: Modes::new(alloc),
+        members,
+    })
+}
+
+/// Changes a channel's topic, where we are on it.
+pub(crate) fn set_topic<A: Allocator + Copy>(
+    alloc: A,
+    rooms: &mut Rooms<A>,
+    channel: Sought<'_>,
+    topic: Option<Vec<u8, A>>,
+)
+    ensures { rooms_of rooms.new.all ≡ changed_at (rooms_of rooms.old.all) (sought_key
+        channel.entry)
+        (with_topic (option_map (λ t. t.items) topic)) }
+{
+    let mut room = no_room(alloc);
+    if rooms.swap(channel, &mut room) {
+        room.topic = topic;
+        rooms.swap(channel, &mut room);
+    }
+}
+
+/// Changes a channel's modes, where we are on it.
+pub(crate) fn set_modes<A: Allocator + Copy>(
+    alloc: A,
+    rooms: &mut Rooms<A>,
+    channel: Sought<'_>,
+    modes: Modes<A>,
+)
+    ensures { rooms_of rooms.new.all ≡ changed_at (rooms_of rooms.old.all) (sought_key
+        channel.entry)
+        (with_modes modes) }
+{
+    let mut room = no_room(alloc);
+    if rooms.swap(channel, &mut room) {
+        room.modes = modes;
+        rooms.swap(channel, &mut room);
+    }
+}
+
+/// Makes somebody a member who holds these ranks.
+fn add_member<A: Allocator>(
+    members: &mut Members<A>,
+    key: Vec<u8, A>,
+    ranks: Ranks,
+) -> Result<(), OutOfMemory>
+    ensures added { OnOk result (members.new.all ≡ fin.insert members.old.all key.items ranks) }
+    ensures kept { OnErr result (members.new.all ≡ members.old.all) }
+{
+    members.reserve(1)?;
+    members.insert(key, ranks);
+    Ok(())
+}
+
+/// Makes somebody a member of a channel who holds these ranks, where we are on it.
+pub(crate) fn seat<A: Allocator + Copy>(
+    alloc: A,
+    rooms: &mut Rooms<A>,
+    channel: Sought<'_>,
+    key: Vec<u8, A>,
+    ranks: Ranks,
+) -> Result<(), OutOfMemory>
+    ensures added { OnOk result (rooms_of rooms.new.all ≡ changed_at (rooms_of rooms.old.all)
+        (sought_key channel.entry) (with_ranks key.items ranks)) }
+    ensures kept { OnErr result (rooms_of rooms.new.all ≡ rooms_of rooms.old.all) }
+{
+    let mut room = no_room(alloc);
+    if rooms.swap(channel, &mut room) {
+        let added = add_member(&mut room.members, key, ranks);
+        rooms.swap(channel, &mut room);
+        added
+    } else {
+        Ok(())
+    }
+}
+
+/// Takes a member off a channel; whether somebody was a member.
+pub(crate) fn unseat<A: Allocator + Copy>(
+    alloc: A,
+    rooms: &mut Rooms<A>,
+    channel: Sought<'_>,
+    who: Sought<'_>,
+) -> bool
+    ensures left { rooms_of rooms.new.all ≡ changed_at (rooms_of rooms.old.all)
+        (sought_key channel.entry) (without_member (sought_key who.entry)) }
+    ensures was { result ≡ is_some (old_member
+        (fin.get (rooms_of rooms.old.all) (sought_key channel.entry)) (sought_key who.entry)) }
+{
+    let mut room = no_room(alloc);
+    if rooms.swap(channel, &mut room) {
+        let was = room.members.remove(who);
+        rooms.swap(channel, &mut room);
+        was.is_some()
+    } else {
+        false
+    }
+}
+
+/// Takes a member off each of the channels.
+fn unseat_each<A: Allocator>(rooms: &mut [Entry<Room<A>, A>], who: Sought<'_>)
+    ensures { map room_entry rooms.new
+        ≡ each_changed (without_member (sought_key who.entry)) (map room_entry rooms.old) }
+{
+    for room in rooms.iter_mut() {
+        let _ = room.value.members.remove(who);
+    }
+}
+
+/// Gives a member another key. Whoever stood under that one is gone.
+fn rename_member<A: Allocator>(members: &mut Members<A>, old: Sought<'_>, new: Vec<u8, A>)
+    ensures { members.new.all
+        ≡ renamed_in (λ ranks. ranks) (sought_key old.entry) new.items members.old.all }
+{
+    match members.remove(old) {
+        Some(ranks) => members.insert(new, ranks),
+        None => members.forget(&new),
+    }
+}
+
+/// Copies of a key.
+pub(crate) fn copies<A: Allocator + Copy>(
+    alloc: A,
+    key: &[u8],
+    count: usize,
+) -> Result<Vec<Vec<u8, A>, A>, OutOfMemory>
+    ensures { IfOk result (λ keys. (length keys.items ≡ count) × All (λ k. k.items ≡ key.now)
+        keys.items) }
+{
+    let mut keys = Vec::new(alloc);
+    for _made in 0..count {
+        keys.push(Vec::from_slice(alloc, key)?)?;
+    }
+    Ok(keys)
+}
+
+/// Gives a member another key in each of the channels, for each of which there is a copy of it.
+fn rename_each<A: Allocator>(
+    rooms: &mut [Entry<Room<A>, A>],
+    old: Sought<'_>,
+    new: &[u8],
+    keys: &mut Vec<Vec<u8, A>, A>,
+)
+    requires enough { length rooms.old ≤ length keys.old.items }
+    requires copies { All (λ k. k.items ≡ new.now) keys.old.items }
+    ensures { map room_entry rooms.new
+        ≡ each_changed (renamed_channel (sought_key old.entry) new.now) (map room_entry rooms.old) }
+{
+    for room in rooms.iter_mut() {
+        match keys.pop() {
+            Some(key) => rename_member(&mut room.value.members, old, key),
+            None => unreachable!(),
+        }
+    }
+}
+
+/// Whether somebody is a member of one of the channels.
+fn is_member_of_any<A: Allocator>(rooms: &[Entry<Room<A>, A>], who: Sought<'_>) -> bool
+    ensures { result ≡ list_any (is_in (sought_key who.entry)) (map room_entry rooms.now) }
+{
+    for room in rooms {
+        if room.value.members.contains(who) {
+            return true;
+        }
+    }
+    false
+}
+
+impl<A: Allocator> Table<Room<A>, A> {
+    ghost use Rattle.std.specs.Prelude.{◌≡◌, ◌≤◌, length};
+    ghost use Rattle.std.specs.List.{All};
+    ghost use Rattle.std.specs.FinMap as fin;
+    ghost use Rattle.net_view.specs.Changes.{renamed_channel};
+    ghost use Rattle.net_view.specs.Step.{is_seen};
+    ghost use Rattle.net_view.specs.Changes.{without_member};
+    ghost use Rattle.quick_view.specs.Shown.{shown};
+    ghost use Rattle.quick_view.specs.Sought.{sought_key};
+    ghost use Rattle.quick_view.specs.Rooms.{rooms_of};
+
+    /// Takes a member off all channels.
+    pub(crate) fn unseat_all(&mut self, who: Sought<'_>)
+        ensures { rooms_of self.new.all
+            ≡ shown (without_member (sought_key who.entry)) (rooms_of self.old.all) }
+    {
+        unseat_each(&mut self.entries, who);
+    }
+
+    /// Gives a member another key in all channels, for each of which there is a copy of it.
+    pub(crate) fn rename_all(&mut self, old: Sought<'_>, new: &[u8], keys: &mut Vec<Vec<u8, A>, A>)
+        requires enough { length (fin.entries self.old.all) ≤ length keys.old.items }
+        requires copies { All (λ k. k.items ≡ new.now) keys.old.items }
+        ensures { rooms_of self.new.all
+            ≡ shown (renamed_channel (sought_key old.entry) new.now) (rooms_of self.old.all) }
+    {
+        rename_each(&mut self.entries, old, new, keys);
+    }
+
+    /// Whether somebody is a member of one of the channels.
+    pub(crate) fn is_seen(&self, who: Sought<'_>) -> bool
+        ensures { result ≡ is_seen (rooms_of self.now.all) (sought_key who.entry) }
+    {
+        is_member_of_any(&self.entries, who)
+    }
+}
