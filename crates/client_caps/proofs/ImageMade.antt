@@ -1,12 +1,12 @@
 -- What the image of a line is made of, and the part lines one by one.
 use Rattle.std.specs.Prelude.{◌≡◌, ◌≤◌, ℕ, zero, suc, ◌+◌, true, false, List, [], ◌∷◌, ◌++◌, length, map, take, slice_get, codes}
-use Rattle.std.specs.Option.{option_map, option_to_list}
+use Rattle.std.specs.Option.{option_map, option_to_list, unwrap_or}
 use Rattle.std.specs.FinMap as fin
 use Rattle.std.proofs.Common.{Option, Some, None, refl, sym, ap, subst, ◌∙◌, arith, inl, inr, append-nil}
 use Rattle.std.proofs.lemmas.List.{take_all, take_more}
 use Rattle.std.proofs.lemmas.Option.{none-some, same_Some, slice_get_cases}
 use Rattle.irc_line.specs.Line.{Parts}
-use Rattle.irc_line.specs.Writing.{is_writable, are_params, line_of_parts}
+use Rattle.irc_line.specs.Writing.{is_writable, is_part, are_params, line_of_parts}
 use Rattle.irc_support.specs.Text.{Text}
 use Rattle.net_view.specs.Arrival.{Arrival}
 use Rattle.net_view.specs.View.{Channel, View, view_of}
@@ -16,35 +16,48 @@ use Rattle.net_view.proofs.PartsSound.{Each}
 use Rattle.net_view.proofs.SoundStep.{view_sound}
 use Rattle.net_view.proofs.WrittenViews.{views_are_clean}
 use Rattle.client_caps.specs.Caps.{Caps}
-use Rattle.client_caps.specs.Images.{image_of, image_params, is_passed_on, part_lines_of}
-use Rattle.client_caps.proofs.ImageWritten.{split_written, params_written, parts_written}
+use Rattle.irc_line.specs.Tags.{time_of}
+use Rattle.client_caps.specs.Images.{image_of, image_params, is_passed_on, part_lines_of, time_tags}
+use Rattle.client_caps.proofs.ImageWritten.{IsTagText, split_written, params_written, parts_written, tags_written}
 
 -- ---- the image
 
 pub image_passed : (v : View) (caps : Caps) (time : Text) (line : Parts)
-    → is_passed_on caps line ≡ true → caps.server_time ≡ false
+    → is_passed_on caps line ≡ true
     → image_of v caps time line
-    ≡ Some (line_of_parts None line.source line.command (image_params v caps line))
+    ≡ Some (line_of_parts (time_tags caps time line) line.source line.command
+    (image_params v caps line))
 unfolding image_of
-image_passed v caps time line e s = rw (e, s) refl
+image_passed v caps time line e = rw e refl
+
+-- its tags, with server-time and without
+pub timed : (caps : Caps) (time : Text) (line : Parts) → caps.server_time ≡ true
+    → Some (codes "time=" ++ unwrap_or (time_of line) time) ≡ time_tags caps time line
+timed caps time line s = rw s refl
+
+pub untimed : (caps : Caps) (time : Text) (line : Parts) → caps.server_time ≡ false
+    → None ≡ time_tags caps time line
+untimed caps time line s = rw s refl
 
 pub image_withheld : (v : View) (caps : Caps) (time : Text) (line : Parts)
     → is_passed_on caps line ≡ false → image_of v caps time line ≡ None
 unfolding image_of
 image_withheld v caps time line e = rw e refl
 
--- a line of these parameters can be written
-pub image_can : (v : View) (caps : Caps) (line : Parts)
+-- it can be written, and its tags too
+pub image_can : (v : View) (caps : Caps) (tags : Option Text) (time : Text) (line : Parts)
     → (items : List Arrival) × AreWritten items × (v ≡ view_of items) → is_writable line ≡ true
-    → is_writable (line_of_parts None line.source line.command (image_params v caps line))
-    ≡ true
-image_can v caps line from w =
+    → IsTagText time → tags ≡ time_tags caps time line
+    → (is_part tags ≡ true)
+    × (is_writable (line_of_parts tags line.source line.command (image_params v caps line)) ≡ true)
+image_can v caps tags time line from w ok e =
     let parts = split_written line w in
     let sound = view_sound from.0 in
     let clean = views_are_clean from.0 from.1 in
+    let tagged : is_part tags ≡ true = ap is_part e ∙ tags_written caps time line ok in
     let params : are_params (image_params (view_of from.0) caps line) ≡ true =
     params_written (view_of from.0) caps line sound clean parts.2 in
-    rw (from.2, parts.0, parts.1, params) refl
+    (tagged, rw (from.2, tagged, parts.0, parts.1, params) refl)
 
 -- ---- the part lines
 

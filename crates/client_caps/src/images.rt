@@ -8,16 +8,17 @@ ghost use Rattle.irc_support.specs.Line.{split_words_in};
 ghost use Rattle.std.specs.Str.{str_eq_ignore_ascii_case};
 ghost use Rattle.irc_line.specs.Line.{has_command};
 ghost use Rattle.irc_line.specs.Writing.{is_writable, is_part, line_of_parts, retagged};
-ghost use Rattle.irc_support.specs.Text.{Text};
 ghost use Rattle.irc_support.specs.NamesReply.{words_between};
 ghost use Rattle.net_view.specs.StateLines.{actor_nick};
 ghost use Rattle.client_caps.specs.Images.{account_joined, is_passed_on, link_commands, symbols_of};
 ghost use Rattle.client_caps.specs.Images.{image_of, part_lines_of};
 ghost use Rattle.client_caps.specs.Images.{image_params, join_params, names_with_highest};
 ghost use Rattle.client_caps.specs.Images.{with_param, word_at};
+ghost use Rattle.client_caps.specs.Moment.{time_text_of};
 
 use crate::caps::Caps;
 use crate::moment::Moment;
+use crate::time::time_tag;
 use irc_line::Line;
 use irc_names::is_nameable;
 use irc_support::{Ranks, Support, name_words};
@@ -250,8 +251,7 @@ fn sent_as<V: NetworkView, A: Allocator, B: Allocator + Copy + Drop>(
 }
 
 /// What a client with these capabilities is sent in place of a line; `None` where it is sent
-/// nothing. The view is the one before the line; the moment is when the line came. So far without
-/// server-time.
+/// nothing. The view is the one before the line; the moment is when the line came.
 ///
 /// | line | what is sent |
 /// |---|---|
@@ -262,26 +262,30 @@ fn sent_as<V: NetworkView, A: Allocator, B: Allocator + Copy + Drop>(
 /// | `353`, without multi-prefix | each word with the highest of its symbols alone |
 /// | any other | the line |
 ///
-/// Tags of the network go (IRCv3 multi-prefix, extended-join, account-notify, away-notify). A line
-/// that is sent as it is takes one allocation. `OutOfMemory` is told where an allocation was
-/// refused, and for no other cause.
+/// Tags of the network go; with server-time the tag `time` comes, as
+/// `@time=2020-01-02T03:04:05.678Z :bob!b@h PRIVMSG #c hi`: the line's own time, where it has one of
+/// that form, else the moment (IRCv3 multi-prefix, extended-join, account-notify, away-notify,
+/// server-time). A line that is sent as it is takes one allocation. `OutOfMemory` is told where an
+/// allocation was refused, and for no other cause.
 pub fn image<V: NetworkView, A: Allocator, B: Allocator + Copy + Drop>(
     alloc: B,
     view: &V,
     caps: Caps,
     line: &Line<A>,
-    _moment: Moment,
+    moment: Moment,
 ) -> Result<Option<Line<B>>, OutOfMemory>
-    requires { caps.server_time ≡ false }
-    ensures { (time : Text) → IfOk result (λ image.
-        image ≡ image_of (V.view view.now) caps time line.now) }
+    ensures { IfOk result (λ image.
+        image ≡ image_of (V.view view.now) caps (time_text_of moment.0) line.now) }
 {
     view.comes_from_lines();
     if !is_passed_on(caps, line) {
         return Ok(None);
     }
-    let tags = None;
-    Ok(Some(sent_as(alloc, view, caps, line, tags)?))
+    if caps.server_time {
+        let tag = time_tag(line, moment);
+        return Ok(Some(sent_as(alloc, view, caps, line, Some(&tag))?));
+    }
+    Ok(Some(sent_as(alloc, view, caps, line, None)?))
 }
 
 /// Adds that we leave the channel at a place, where there is one.

@@ -1,0 +1,115 @@
+-- The days of the calendar, counted one by one.
+use Rattle.std.proofs.Common.{◌≡◌, ℕ, zero, suc, ◌+◌, ◌<◌, ◌≤◌, inl, inr, true, false, refl, sym, ◌∙◌, arith, ℤ, pos, unsigned_abs, nat_lt, cond, subst, ap}
+use Rattle.std.proofs.lemmas.Int.{by_lt_z}
+use Rattle.std.proofs.lemmas.Bool.Decides.{nat_tests}
+use Rattle.std.specs.Int.{IsInRange}
+use Rattle.std.proofs.lemmas.Bool.{cases_order}
+use Rattle.jiff_core.specs.Calendar.{IsCivilDate, IsYear, day_count, days_from_civil, days_in_month}
+use Rattle.jiff_core.proofs.CalendarLemmas.{day_count-day, day_count-lt_month, day_count-lt_year, day_count-epoch, days_from_civil-day_count, days_in_month_bounds}
+use Rattle.jiff_core.proofs.DateLemmas.{days_from_civil-day, days_from_civil-next_month, days_from_civil-next_year}
+use Rattle.jiff_core.proofs.SignedLemmas.{signed_arith}
+use Rattle.jiff_core.specs.declared.civil.date.Date as civil
+use Rattle.jiff_core.specs.Date.{epoch_day}
+use Rattle.client_caps.specs.Moment.{Date, date_of, day_after}
+
+-- a date of the calendar, and its day number
+pub record IsDay (n : ℕ) (date : Date) : Type 0 where
+  pub number : days_from_civil (pos date.year) date.month date.day ≡ pos n
+  pub month : IsInRange 1 12 date.month
+  pub day : IsInRange 1 (days_in_month (pos date.year) date.month) date.day
+
+next_day : (n y m d : ℕ) → days_from_civil (pos y) m d ≡ pos n → IsInRange 1 12 m → 1 ≤ d
+    → d < days_in_month (pos y) m
+    → IsDay (suc n) (record { year = y; month = m; day = d + 1 })
+next_day n y m d e month first lt = record {
+  number = omega (arith, signed_arith, e, days_from_civil-day (pos y) m d (d + 1) first (omega arith));
+  month = month;
+  day = (omega arith, omega (arith, lt));
+}
+
+next_month : (n y m d : ℕ) → days_from_civil (pos y) m d ≡ pos n → 1 ≤ m → m < 12
+    → d ≡ days_in_month (pos y) m → IsDay (suc n) (record { year = y; month = m + 1; day = 1 })
+next_month n y m d e first lt last = record {
+  number = omega (arith, signed_arith, e, days_from_civil-next_month (pos y) m d first last);
+  month = (omega arith, omega (arith, lt));
+  day = (omega arith, omega (arith, days_in_month_bounds (pos y) (m + 1)));
+}
+
+next_year : (n y m d : ℕ) → days_from_civil (pos y) m d ≡ pos n → m ≡ 12
+    → d ≡ days_in_month (pos y) m → IsDay (suc n) (record { year = y + 1; month = 1; day = 1 })
+next_year n y m d e twelve last =
+    let long : days_in_month (pos y) 12 ≡ 31 = refl in
+    let d31 : d ≡ 31 = last ∙ ap (days_in_month (pos y)) twelve ∙ long in
+    let e' : days_from_civil (pos y) 12 31 ≡ pos n = rw (← twelve, ← d31) e in
+    record {
+      number = omega (arith, signed_arith, e', days_from_civil-next_year (pos y) (pos (y + 1)) (omega (arith, signed_arith)) (omega (arith, signed_arith)));
+      month = (omega arith, omega arith);
+      day = (omega arith, omega (arith, days_in_month_bounds (pos (y + 1)) 1));
+    }
+
+day_after_is : (n : ℕ) (date : Date) → IsDay n date → IsDay (suc n) (day_after date)
+day_after_is n date is =
+    let y = date.year in
+    let m = date.month in
+    let d = date.day in
+    let ds = days_in_month (pos y) m in
+    let month_is = is.month in
+    let day_is = is.day in
+    elim (nat_lt d ds) as (λ b. nat_lt d ds ≡ b
+    → IsDay (suc n) (cond b (record { year = y; month = m; day = d + 1 })
+    (cond (nat_lt m 12) (record { year = y; month = m + 1; day = 1 })
+    (record { year = y + 1; month = 1; day = 1 })))) [
+      | true ↦ λ e.
+          let lt : d < ds = grind (arith, nat_tests) in
+          next_day n y m d is.number is.month is.day.0 lt
+      | false ↦ λ e.
+          let last : d ≡ ds = grind (arith, nat_tests) in
+          elim (nat_lt m 12) as (λ b. nat_lt m 12 ≡ b
+          → IsDay (suc n) (cond b (record { year = y; month = m + 1; day = 1 })
+          (record { year = y + 1; month = 1; day = 1 }))) [
+            | true ↦ λ f.
+                let lt : m < 12 = grind (arith, nat_tests) in
+                next_month n y m d is.number is.month.0 lt last
+            | false ↦ λ f.
+                let twelve : m ≡ 12 = grind (arith, nat_tests) in
+                next_year n y m d is.number twelve last
+          ] refl
+    ] refl
+
+pub days_count : (n : ℕ) → IsDay n (date_of n)
+unfolding date_of
+days_count zero = record { number = omega (arith, signed_arith, days_from_civil-day_count (pos 1970) 1 1, day_count-epoch); month = (omega arith, omega arith); day = (omega arith, omega arith) }
+days_count (suc n) = day_after_is n (date_of n) (days_count n)
+
+-- the calendar's dates go by their day numbers
+pub same_day : (n : ℕ) (date : Date) (y : ℤ) (m d : ℕ) → IsDay n date → IsCivilDate y m d
+    → days_from_civil y m d ≡ pos n → (y ≡ pos date.year) × (m ≡ date.month) × (d ≡ date.day)
+same_day n date y m d is civil e =
+    let count = days_from_civil-day_count y m d in
+    let count' = days_from_civil-day_count (pos date.year) date.month date.day in
+    let one : day_count y m d ≡ day_count (pos date.year) date.month date.day = omega (arith, signed_arith, e, is.number) in
+    by_lt_z y (pos date.year)
+    (λ lt. absurd (omega (arith, one, day_count-lt_year y m d (pos date.year) date.month date.day civil is.day.0 lt)))
+    (λ ge. let year : IsYear (pos date.year) = (omega (arith, signed_arith, civil.0), omega (arith, signed_arith, civil.0)) in
+    let civil' : IsCivilDate (pos date.year) date.month date.day = (year, is.month, is.day) in
+    by_lt_z (pos date.year) y
+    (λ gt. absurd (omega (arith, one, day_count-lt_year (pos date.year) date.month date.day y m d civil' civil.2.0 gt)))
+    (λ le. let years : y ≡ pos date.year = omega (arith, signed_arith) in
+    let one' : day_count y m d ≡ day_count y date.month date.day = one ∙ ap (λ z. day_count z date.month date.day) (sym years) in
+    let civil'' : IsCivilDate y date.month date.day = subst (λ z. IsCivilDate z date.month date.day) (sym years) civil' in
+    elim (cases_order m date.month) [
+      | inr (inl lt) ↦ absurd (omega (arith, one', day_count-lt_month y m d date.month date.day civil is.day.0 lt))
+      | inl months ↦
+          let days : d ≡ date.day = omega (arith, one', ap (λ k. day_count y k date.day) months, day_count-day y m d date.day civil.2.0 is.day.0) in
+          (years, months, days)
+      | inr (inr gt) ↦ absurd (omega (arith, one', day_count-lt_month y date.month date.day m d civil'' civil.2.0 gt))
+    ]))
+
+-- so the calendar's date of a day number is the one that is counted to
+pub date_is : (n : ℕ) (date : civil.Date) → epoch_day date ≡ pos n
+    → (unsigned_abs date.year ≡ (date_of n).year) × (date.month ≡ (date_of n).month)
+    × (date.day ≡ (date_of n).day)
+date_is n date e =
+    let same = same_day n (date_of n) date.year date.month date.day (days_count n)
+    (date.year_in, date.month_in, date.day_in) e in
+    (ap unsigned_abs same.0, same.1, same.2)
