@@ -1,0 +1,4 @@
+pub mod Messages
+pub mod Missed
+pub mod NamedEntries
+pub mod LastMessages

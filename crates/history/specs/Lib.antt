@@ -1,0 +1,5 @@
+pub mod Entry
+pub mod Marks
+pub mod Messages
+pub mod Named
+pub mod Texts
