@@ -1,10 +1,13 @@
 -- Bytes that were written are a packet of their lines.
-use Rattle.std.specs.Prelude.{◌≡◌, ℕ, List, [], ◌∷◌, length}
+use Rattle.std.specs.Prelude.{◌≡◌, ◌<◌, ◌+◌, ◌++◌, ◌≤◌, ℕ, List, [], ◌∷◌, length, take, IsTrue}
 use Rattle.std.specs.List.{flat_map}
-use Rattle.std.proofs.Common.{sym, ap, subst, ◌∙◌, append-nil}
+use Rattle.std.proofs.Common.{sym, ap, subst, ◌∙◌, append-nil, get_or, refl}
+use Rattle.std.proofs.lemmas.List.{take_more, take_all}
+use Rattle.std.proofs.lemmas.Grind.{flat_map-append}
+use Rattle.std.proofs.SliceLists.{all_by_recursion_push}
 use Rattle.irc_line.specs.Line.{Parts}
 use Rattle.irc_line.specs.Lines.{lines_of}
-use Rattle.irc_line.specs.Writing.{written}
+use Rattle.irc_line.specs.Writing.{written, is_writable}
 use Rattle.irc_line.proofs.WrittenStream.{written-lines}
 use Rattle.welcome.specs.Packets.{AreLines, IsPacket}
 
@@ -24,3 +27,29 @@ is_packet bytes lines e w =
 
 pub one_line : (line : Parts) → written line ≡ flat_map written (line ∷ [])
 one_line line = sym (append-nil (written line))
+
+-- the bytes of the first lines
+pub record IsWrittenUpTo (text : List ℕ) (all : List Parts) (i : ℕ) : Type 0 where
+  pub whole : text ≡ flat_map written (take i all)
+  pub lines : AreLines (take i all)
+
+-- one more line was written
+pub one_more : (text more : List ℕ) (all : List Parts) (i : ℕ) (line : Parts) → i < length all
+    → line ≡ get_or all i line → IsWrittenUpTo text all i → IsTrue (is_writable line)
+    → more ≡ text ++ written line → IsWrittenUpTo more all (i + 1)
+one_more text more all i line less is before can e =
+    let on : take (i + 1) all ≡ take i all ++ line ∷ [] =
+    take_more all i line less ∙ ap (λ x. take i all ++ x ∷ []) (sym is) in
+    record {
+      whole = e ∙ (ap (λ s. s ++ written line) before.whole
+          ∙ rw (on, flat_map-append, append-nil (written line)) refl);
+      lines = subst AreLines (sym on)
+          (all_by_recursion_push (λ x. IsTrue (is_writable x)) (take i all) line before.lines can);
+    }
+
+-- all were written
+pub all_written : (text : List ℕ) (all : List Parts) (i : ℕ) → i ≤ length all → length all ≤ i
+    → IsWrittenUpTo text all i → (text ≡ flat_map written all) × AreLines all
+all_written text all i a b w =
+    let on : take i all ≡ all = take_all i all b in
+    (w.whole ∙ ap (flat_map written) on, subst AreLines on w.lines)

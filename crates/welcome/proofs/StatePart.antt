@@ -1,5 +1,5 @@
 -- The state part as bytes.
-use Rattle.std.proofs.Common.{◌≡◌, ℕ, true, List, [], ◌∷◌, ◌++◌, length, map, refl, sym, ap, subst, ◌∙◌, append_assoc}
+use Rattle.std.proofs.Common.{◌≡◌, ℕ, Bool, true, false, not, List, [], ◌∷◌, ◌++◌, length, map, refl, sym, ap, subst, ◌∙◌, append_assoc}
 use Rattle.std.specs.List.{flat_map}
 use Rattle.std.specs.FinMap as fin
 use Rattle.irc_line.specs.Line.{Parts}
@@ -11,7 +11,7 @@ use Rattle.net_view.specs.View.{Channel, Person, View, view_of}
 use Rattle.net_view.specs.Written.{AreWritten}
 use Rattle.client_caps.specs.declared.caps.Caps.{Caps}
 use Rattle.welcome.specs.Packets.{AreLines, IsPacket}
-use Rattle.net_view.specs.declared.channel.Member.{Member}
+use Rattle.welcome.specs.declared.persons.Person as lend
 use Rattle.welcome.specs.Burst.{channel_lines, greeting_of, no_motd, person_lines, settings_lines, state_part_of}
 use Rattle.welcome.specs.Filling.{network_lines}
 use Rattle.welcome.specs.Lent.{person_lent}
@@ -37,19 +37,34 @@ mapped : {X Y : Type 0} (f : Y → List Parts) (h : X → Y) (xs : List X)
 mapped f h [] = refl
 mapped f h (x ∷ xs) = ap (λ t. f (h x) ++ t) (mapped f h xs)
 
+-- the lines of persons that are these
+pub persons_same : (caps : Caps) (ps : List lend.Person) (v : View)
+    → map person_lent ps ≡ map (λ (e : Text × Person). e.1) (fin.entries v.people)
+    → flat_map (λ (p : lend.Person). person_lines caps (person_lent p)) ps
+    ≡ flat_map (λ (e : Text × Person). person_lines caps e.1) (fin.entries v.people)
+persons_same caps ps v e =
+    mapped (person_lines caps) person_lent ps ∙ ap (flat_map (person_lines caps)) e
+    ∙ sym (mapped (person_lines caps) (λ (e : Text × Person). e.1) (fin.entries v.people))
+
+-- a client that is told nothing of persons
+pub persons_untold : (caps : Caps) (es : List (Text × Person)) → not caps.account_notify ≡ true
+    → not caps.away_notify ≡ true
+    → flat_map (λ (e : Text × Person). person_lines caps e.1) es ≡ []
+persons_untold caps [] a w = refl
+persons_untold caps (e ∷ es) a w =
+    rw (off caps.account_notify a, off caps.away_notify w) (persons_untold caps es a w) where
+      off : (b : Bool) → not b ≡ true → b ≡ false
+      off true h = cc
+      off false h = refl
+
 -- the network's lines and those of all persons are the state part
-pub state_whole : (v : View) (caps : Caps) (ms : List Member)
-    → map person_lent ms ≡ map (λ (e : Text × Person). e.1) (fin.entries v.people)
-    → network_lines v caps ++ flat_map (λ (m : Member). person_lines caps (person_lent m)) ms
+pub state_whole : (v : View) (caps : Caps)
+    → network_lines v caps
+    ++ flat_map (λ (e : Text × Person). person_lines caps e.1) (fin.entries v.people)
     ≡ state_part_of v caps
 unfolding state_part_of
-state_whole v caps ms e =
+state_whole v caps =
     let cs = flat_map (λ (e : Text × Channel). channel_lines v caps e.1) (fin.entries v.channels) in
     let ps = flat_map (λ (e : Text × Person). person_lines caps e.1) (fin.entries v.people) in
-    let persons : flat_map (λ (m : Member). person_lines caps (person_lent m)) ms ≡ ps =
-    mapped (person_lines caps) person_lent ms ∙ ap (flat_map (person_lines caps)) e
-    ∙ sym (mapped (person_lines caps) (λ (e : Text × Person). e.1) (fin.entries v.people))
-    in
-    ap (λ ls. network_lines v caps ++ ls) persons
-    ∙ append_assoc (greeting_of v) (settings_lines v ++ (no_motd v ∷ cs)) ps
+    append_assoc (greeting_of v) (settings_lines v ++ (no_motd v ∷ cs)) ps
     ∙ ap (λ ls. greeting_of v ++ ls) (append_assoc (settings_lines v) (no_motd v ∷ cs) ps)

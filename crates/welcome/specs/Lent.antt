@@ -1,13 +1,19 @@
 -- What the readers of a view lend of a channel, as the lines of the burst take it.
-use Rattle.std.specs.Prelude.{ℕ, List, [], option_map}
+use Rattle.std.specs.Prelude.{ℕ, Bool, List, [], map, option_map}
+use Rattle.std.specs.List.{flat_map}
 use Rattle.std.specs.Option.{option_map_or}
 use Rattle.std.specs.FinMap as fin
+use Rattle.std.specs.Ordering.{is_eq}
+use Rattle.std.specs.declared.cmp.Ordering.{Ordering}
+use Rattle.irc_names.specs.declared.case_mapping.CaseMapping.{CaseMapping}
+use Rattle.irc_names.specs.CaseMapping.{key_of}
+use Rattle.net_view.specs.Names.{bytes_cmp}
 use Rattle.std.proofs.Common.{Option, Some, None}
 use Rattle.irc_support.specs.Text.{Text}
 use Rattle.net_view.specs.View as view
-use Rattle.net_view.specs.Readers.{channel_shown}
+use Rattle.net_view.specs.Readers.{MemberParts, channel_shown, member_parts}
 use Rattle.net_view.specs.declared.channel.Channel.{Channel}
-use Rattle.net_view.specs.declared.channel.Member.{Member}
+use Rattle.welcome.specs.declared.persons.Person.{Person}
 
 -- a channel of this name and topic, with no modes and no members
 abbrev pub lent : Channel → view.Channel
@@ -27,14 +33,37 @@ abbrev pub members_at : view.View → ℕ → List (Text × List ℕ)
 members_at v i =
     option_map_or (λ (ch : view.Channel). fin.entries ch.members) (channel_shown v i) []
 
--- a person, from what is lent of a member
-abbrev pub person_lent : Member → view.Person
-person_lent member = record {
-  spelled = Some member.nick.now;
-  account = option_map (λ name. name.now) member.account;
-  away = option_map (λ text. text.now) member.away;
+-- a person, from what is lent
+abbrev pub person_lent : Person → view.Person
+person_lent person = record {
+  spelled = Some person.nick.now;
+  account = option_map (λ name. name.now) person.account;
+  away = option_map (λ text. text.now) person.away;
 }
 
 -- a person of whom the nick alone is known
 abbrev pub person_named : Text → view.Person
 person_named nick = record { spelled = Some nick; account = None; away = None }
+
+-- a person, as a member is shown
+abbrev pub person_shown : MemberParts → view.Person
+person_shown member =
+    record { spelled = Some member.nick; account = member.account; away = member.away }
+
+-- the persons of the channel at this place, in the order of their keys
+abbrev pub persons_at : view.View → ℕ → List view.Person
+persons_at v i = map (λ m. person_shown (member_parts v m)) (members_at v i)
+
+-- the persons of all channels, channel by channel; who is on several stands there for each
+abbrev pub persons_on_channels : view.View → List view.Person
+persons_on_channels v =
+    flat_map (λ (e : Text × view.Channel).
+    map (λ m. person_shown (member_parts v m)) (fin.entries e.1.members)) (fin.entries v.channels)
+
+-- the order of persons: that of their keys
+abbrev pub by_key : CaseMapping → Person → Person → Ordering
+by_key mapping a b = bytes_cmp (key_of mapping a.nick.now) (key_of mapping b.nick.now)
+
+-- whether the two have one key
+abbrev pub is_one : CaseMapping → Person → Person → Bool
+is_one mapping a b = is_eq (by_key mapping a b)

@@ -69,6 +69,17 @@ impl<A: Allocator + Clone> Packet<A> {
         line.write(&mut text)?;
         Packet::of_text(text, 1)
     }
+
+    /// The packet of some lines, in order. Their bytes are written into one growing allocation.
+    pub fn all<B: Allocator>(alloc: A, lines: &[Line<B>]) -> Result<Packet<A>, OutOfMemory>
+        ensures { IfOk result (λ packet. packet ≡ lines.now) }
+    {
+        let mut text = Vec::new(alloc);
+        for line in lines {
+            line.write(&mut text)?;
+        }
+        Packet::of_text(text, lines.len())
+    }
 }
 
 impl<A: Allocator> Packet<A> {

@@ -8,8 +8,19 @@ ghost use Rattle.welcome.specs.Lent.{person_lent, person_named};
 
 use client_caps::Caps;
 use irc_line::write_line;
-use net_view::{Member, OutOfMemory};
+use net_view::OutOfMemory;
 use std::alloc::Allocator;
+
+/// A person in sight, a member of a channel that we are on.
+#[derive(Clone, Copy)]
+pub struct Person<'a> {
+    /// The nick, as spelled last.
+    pub nick: &'a [u8],
+    /// The account, where one is known.
+    pub account: Option<&'a [u8]>,
+    /// The away text, where the person is known to be away.
+    pub away: Option<&'a [u8]>,
+}
 
 /// Adds a line of a person, where there is something to say: as `:bob AWAY :gone fishing`.
 fn push_said<A: Allocator>(
@@ -32,7 +43,7 @@ fn push_said<A: Allocator>(
 pub fn push_person<A: Allocator>(
     text: &mut Vec<u8, A>,
     caps: Caps,
-    person: &Member<'_>,
+    person: &Person<'_>,
 ) -> Result<(), OutOfMemory>
     ensures { OnOk result (text.new.items
         ≡ text.old.items ++ flat_map written (person_lines caps (person_lent person.now))) }
@@ -50,7 +61,7 @@ pub fn push_person<A: Allocator>(
 pub fn push_persons<A: Allocator>(
     text: &mut Vec<u8, A>,
     caps: Caps,
-    persons: &[Member<'_>],
+    persons: &[Person<'_>],
 ) -> Result<(), OutOfMemory>
     ensures { OnOk result (text.new.items ≡ text.old.items ++ flat_map written
         (flat_map (λ person. person_lines caps (person_lent person)) persons.now)) }

@@ -1,0 +1,182 @@
+-- Entries are put into the groups of their channels.
+use Rattle.std.proofs.Common.{◌≡◌, ℕ, zero, suc, ◌+◌, ◌<◌, ◌≤◌, inl, inr, Bool, true, false, List}
+use Rattle.std.proofs.Common.{[], ◌∷◌, ◌++◌}
+use Rattle.std.proofs.Common.{Option, Some, None, refl, sym, ap, ◌∙◌, arith, map, take, drop}
+use Rattle.std.proofs.Common.{length, cond}
+use Rattle.std.proofs.Common.{◌↔◌, slice_index_or, slice_set}
+use Rattle.std.specs.Prelude.{IsTrue, option_to_list}
+use Rattle.std.specs.List.{fold, slice_get}
+use Rattle.std.specs.Borrow.{Bor}
+use Rattle.std.specs.Option.{option_map}
+use Rattle.std.specs.FinMap as fin
+use Rattle.std.proofs.lemmas.Grind.{fold-append}
+use Rattle.std.proofs.lemmas.List.{length-map, map-append}
+use Rattle.std.proofs.lemmas.Option.{slice_get_cases}
+use Rattle.irc_names.specs.CaseMapping.{AreOneName, key_of}
+use Rattle.irc_names.specs.declared.case_mapping.CaseMapping.{CaseMapping}
+use Rattle.irc_support.specs.Text.{Text}
+use Rattle.net_view.specs.Names.{same}
+use Rattle.net_view.specs.View.{Channel, View}
+use Rattle.net_view.specs.Readers.{channel_shown}
+use Rattle.net_view.proofs.Keys.{is_same, same_refl}
+use Rattle.history.specs.Entry.{EntryParts}
+use Rattle.welcome.specs.Arranged.{channel_names_of, grouped_by, place_among, push_at}
+use Rattle.welcome.proofs.Places.{take_next}
+
+-- ---- the names
+
+get_mapped : {X Y : Type 0} (f : X → Y) (xs : List X) (i : ℕ)
+    → slice_get (map f xs) i ≡ option_map f (slice_get xs i)
+get_mapped f [] i = refl
+get_mapped f (x ∷ xs) zero = refl
+get_mapped f (x ∷ xs) (suc i) = get_mapped f xs i
+
+twice : (o : Option (Text × Channel))
+    → option_map (λ (e : Text × Channel). e.1.name) o
+    ≡ option_map (λ (ch : Channel). ch.name) (option_map (λ (e : Text × Channel). e.1) o)
+twice None = refl
+twice (Some e) = refl
+
+pub name_next : (v : View) (i : ℕ) (before now : List Text)
+    → before ≡ take i (channel_names_of v)
+    → now ≡ before ++ option_to_list (option_map (λ (ch : Channel). ch.name) (channel_shown v i))
+    → now ≡ take (i + 1) (channel_names_of v)
+name_next v i before now is e =
+    e ∙ ap (λ t. t ++ option_to_list
+    (option_map (λ (ch : Channel). ch.name) (channel_shown v i))) is
+    ∙ ap (λ o. take i (channel_names_of v) ++ option_to_list o)
+    (sym (get_mapped (λ (e : Text × Channel). e.1.name) (fin.entries v.channels) i
+    ∙ twice (slice_get (fin.entries v.channels) i)))
+    ∙ sym (take_next (channel_names_of v) i)
+
+-- ---- the place of a target
+
+same_is : (mapping : CaseMapping) (a b : Text) (r : Bool)
+    → (IsTrue r ↔ AreOneName mapping a b) → same (key_of mapping a) (key_of mapping b) ≡ r
+same_is mapping a b true h =
+    ap (λ k. same (key_of mapping a) k) (sym (h.0 refl)) ∙ same_refl (key_of mapping a)
+same_is mapping a b false h = by (same (key_of mapping a) (key_of mapping b)) refl where
+  by : (s : Bool) → same (key_of mapping a) (key_of mapping b) ≡ s → s ≡ false
+  by true e = sym (h.1 (is_same (key_of mapping a) (key_of mapping b) e))
+  by false e = refl
+
+-- the texts that these are lent of
+abbrev pub texts_of : List (Bor Text) → List Text
+texts_of names = map (λ (name : Bor Text). name.now) names
+
+pub dropped : {X Y : Type 0} (f : X → Y) (xs : List X) (i : ℕ) (d : X) → i < length xs
+    → drop i (map f xs) ≡ f (slice_index_or xs i d) ∷ drop (i + 1) (map f xs)
+dropped f [] i d within = absurd (omega (within, arith))
+dropped f (x ∷ xs) zero d within = refl
+dropped f (x ∷ xs) (suc i) d within =
+    let next : suc (i + 1) ≡ suc i + 1 = omega arith in
+    dropped f xs i d (omega (within, arith))
+    ∙ ap (λ k. f (slice_index_or xs i d) ∷ drop k (map f (x ∷ xs))) next
+
+-- whether the name at a place is the target's decides
+pub place_here : (mapping : CaseMapping) (target : Text) (names : List (Bor Text)) (i all : ℕ)
+    (d : Bor Text) (is_one : Bool) → i < length names
+    → i + place_among mapping target (drop i (texts_of names)) ≡ all →
+    (IsTrue is_one ↔ AreOneName mapping target (slice_index_or names i d).now)
+    → is_one ≡ true → i ≡ all
+place_here mapping target names i all d is_one within is h one =
+    let rest : List Text = drop (i + 1) (texts_of names) in
+    let first : place_among mapping target (drop i (texts_of names)) ≡ 0 =
+    ap (place_among mapping target) (dropped (λ (name : Bor Text). name.now) names i d within)
+    ∙ ap (λ b. cond b 0 (place_among mapping target rest + 1))
+    (same_is mapping target (slice_index_or names i d).now is_one h ∙ one) in
+    omega (first, is, arith)
+
+pub place_later : (mapping : CaseMapping) (target : Text) (names : List (Bor Text)) (i all : ℕ)
+    (d : Bor Text) (is_one : Bool) → i < length names
+    → i + place_among mapping target (drop i (texts_of names)) ≡ all →
+    (IsTrue is_one ↔ AreOneName mapping target (slice_index_or names i d).now)
+    → is_one ≡ false → (i + 1) + place_among mapping target (drop (i + 1) (texts_of names)) ≡ all
+place_later mapping target names i all d is_one within is h other =
+    let rest : List Text = drop (i + 1) (texts_of names) in
+    let later : place_among mapping target (drop i (texts_of names))
+    ≡ place_among mapping target rest + 1 =
+    ap (place_among mapping target) (dropped (λ (name : Bor Text). name.now) names i d within)
+    ∙ ap (λ b. cond b 0 (place_among mapping target rest + 1))
+    (same_is mapping target (slice_index_or names i d).now is_one h ∙ other) in
+    omega (later, is, arith)
+
+-- ---- the group at a place
+
+pub pushed : {X Y : Type 0} (f : Y → List X) (gs : List Y) (place : ℕ) (g now : Y) (x : X)
+    → place < length gs → g ≡ slice_index_or gs place g → f now ≡ f g ++ x ∷ []
+    → map f (slice_set gs place now) ≡ push_at place x (map f gs)
+pushed f [] place g now x within at e = absurd (omega (within, arith))
+pushed f (h ∷ gs) zero g now x within at e =
+    ap (λ t. t ∷ map f gs) (e ∙ ap (λ y. f y ++ x ∷ []) at)
+pushed f (h ∷ gs) (suc place) g now x within at e =
+    ap (λ t. f h ∷ t) (pushed f gs place g now x (omega (within, arith)) at e)
+
+length_pushed : {X : Type 0} (place : ℕ) (x : X) (gs : List (List X))
+    → length (push_at place x gs) ≡ length gs
+length_pushed place x [] = refl
+length_pushed zero x (g ∷ gs) = refl
+length_pushed (suc place) x (g ∷ gs) = ap suc (length_pushed place x gs)
+
+length_folded : (mapping : CaseMapping) (names : List Text) (entries : List EntryParts)
+    (gs : List (List EntryParts)) →
+    length (fold (λ groups (e : EntryParts). push_at (place_among mapping e.target names) e groups)
+    gs entries) ≡ length gs
+length_folded mapping names [] gs = refl
+length_folded mapping names (e ∷ entries) gs =
+    length_folded mapping names entries (push_at (place_among mapping e.target names) e gs)
+    ∙ length_pushed (place_among mapping e.target names) e gs
+
+abbrev pub no_entries : List Text → List (List EntryParts)
+no_entries names = map (λ (name : Text). []) names ++ [] ∷ []
+
+one_more : (names : List Text) → length (no_entries names) ≡ length names + 1
+one_more [] = refl
+one_more (name ∷ names) =
+    let next : length (no_entries names) ≡ length names + 1 = one_more names in omega (next, arith)
+
+pub length_grouped : (mapping : CaseMapping) (names : List Text) (entries : List EntryParts)
+    → length (grouped_by mapping names entries) ≡ length names + 1
+length_grouped mapping names entries =
+    length_folded mapping names entries (map (λ (name : Text). []) names ++ [] ∷ [])
+    ∙ one_more names
+
+pub has_place : {Y : Type 0} (f : Y → List EntryParts) (gs : List Y) (mapping : CaseMapping)
+    (names : List (Bor Text)) (entries : List EntryParts) (place : ℕ)
+    → map f gs ≡ grouped_by mapping (map (λ (name : Bor Text). name.now) names) entries
+    → place ≤ length names → place < length gs
+has_place f gs mapping names entries place e within =
+    let texts : List Text = map (λ (name : Bor Text). name.now) names in
+    let count : length gs ≡ length texts + 1 =
+    sym (length-map gs f) ∙ ap length e ∙ length_grouped mapping texts entries in
+    let many : length texts ≡ length names = length-map names (λ (name : Bor Text). name.now) in
+    omega (count, many, within, arith)
+
+pub empties : (names : List (Bor Text))
+    → map (λ name. []) names ++ [] ∷ [] ≡ no_entries (map (λ (name : Bor Text). name.now) names)
+empties [] = refl
+empties (name ∷ names) = ap (λ t. [] ∷ t) (empties names)
+
+pub empty_next : (names : List (Bor Text)) (i : ℕ) (before now : List (List EntryParts))
+    → i < length names → before ≡ map (λ (name : Bor Text). []) (take i names)
+    → now ≡ before ++ [] ∷ [] → now ≡ map (λ (name : Bor Text). []) (take (i + 1) names)
+empty_next names i before now within is e = elim (slice_get_cases names i).1 [
+  | inl found ↦
+      e ∙ ap (λ t. t ++ [] ∷ []) is
+      ∙ sym (ap (map (λ (name : Bor Text). [])) (take_next names i
+      ∙ ap (λ o. take i names ++ option_to_list o) found.2)
+      ∙ map-append (λ (name : Bor Text). []) (take i names) (_ ∷ []))
+  | inr past ↦ absurd (omega (past.0, within, arith))
+]
+
+-- one entry more
+pub grouped_next : (mapping : CaseMapping) (names : List Text) (entries : List EntryParts)
+    (e : EntryParts) (place : ℕ) (gs now : List (List EntryParts))
+    → place ≡ place_among mapping e.target names → gs ≡ grouped_by mapping names entries
+    → now ≡ push_at place e gs → now ≡ grouped_by mapping names (entries ++ e ∷ [])
+grouped_next mapping names entries e place gs now p is next =
+    let add : List (List EntryParts) → EntryParts → List (List EntryParts) =
+    λ groups e. push_at (place_among mapping e.target names) e groups in
+    next ∙ ap (λ n. push_at n e gs) p
+    ∙ ap (push_at (place_among mapping e.target names) e) is
+    ∙ sym (fold-append add (map (λ (name : Text). []) names ++ [] ∷ []) entries (e ∷ []))

@@ -1,0 +1,14 @@
+use Rattle.std.proofs.Common.{◌≡◌, ◌++◌, drop, map}
+use Rattle.std.specs.List.{flat_map}
+use Rattle.irc_line.specs.Writing.{written}
+use Rattle.welcome.specs.Arranged.{backlogs_of}
+use Rattle.welcome.proofs.backlog.push_backlogs.Given as goal
+
+abbrev pub invariant-loop-place : goal.invariant-loop-place
+invariant-loop-place g l =
+    l.text.items ++ flat_map written
+    (backlogs_of l.caps l.place (drop l.place (map (λ name. name.now) l.names))
+    (drop l.place (map (λ group. map (λ entry. entry.now) group.items) l.groups)))
+    ≡ l.fn.text.items ++ flat_map written
+    (backlogs_of l.caps 0 (map (λ name. name.now) l.names)
+    (map (λ group. map (λ entry. entry.now) group.items) l.groups))

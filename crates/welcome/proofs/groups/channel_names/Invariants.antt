@@ -1,0 +1,7 @@
+use Rattle.std.proofs.Common.{◌≡◌, map, take}
+use Rattle.welcome.specs.Arranged.{channel_names_of}
+use Rattle.welcome.proofs.groups.channel_names.Given as goal
+
+abbrev pub invariant-loop-i : goal.invariant-loop-i
+invariant-loop-i g l =
+    map (λ name. name.now) l.names.items ≡ take l.i (channel_names_of (g.V.NetworkView.view l.view))

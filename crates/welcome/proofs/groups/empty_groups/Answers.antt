@@ -1,0 +1,16 @@
+use Rattle.std.proofs.Common.{[], ◌∷◌, ◌++◌, ap, ◌∙◌, map}
+use Rattle.std.proofs.lemmas.List.{map-append}
+use Rattle.welcome.proofs.Grouping.{empty_next}
+use Rattle.welcome.proofs.groups.empty_groups.Goals as goal
+
+pub loop-preserved : goal.loop-preserved
+loop-preserved g c =
+    empty_next c.args.names.now c.loop.index
+    (map (λ group. map (λ entry. entry.now) group.items) c.loop.groups.items)
+    (map (λ group. map (λ entry. entry.now) group.items) c.push.new.self.items)
+    c.loop-test.true c.loop.invariant
+    (ap (map (λ group. map (λ entry. entry.now) group.items)) c.in_ok-push.ensures.items
+    ∙ map-append (λ group. map (λ entry. entry.now) group.items) c.loop.groups.items
+    (c.new.result ∷ [])
+    ∙ ap (λ t. map (λ group. map (λ entry. entry.now) group.items) c.loop.groups.items
+    ++ map (λ entry. entry.now) t ∷ []) c.new.ensures.items)

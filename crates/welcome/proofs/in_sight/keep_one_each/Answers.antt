@@ -1,0 +1,9 @@
+use Rattle.std.proofs.Common.{rules}
+use Rattle.std.proofs.lemmas.Fn.{dedup_same}
+use Rattle.welcome.specs.Lent.{is_one}
+use Rattle.welcome.proofs.in_sight.keep_one_each.Goals as goal
+
+pub returns : goal.returns
+returns g c =
+    dedup_same _ (is_one c.args.mapping) _ (λ x y b f' x' y' k. search rules) _ _
+    c.dedup_by.ensures.filtered

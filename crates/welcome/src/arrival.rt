@@ -1,0 +1,57 @@
+//! What a client is sent when it comes.
+
+ghost use Rattle.std.specs.Prelude.{◌≡◌, ◌<◌, ◌^◌, IfOk, length, map, true};
+ghost use Rattle.std.specs.List.{AllByRecursion, flat_map};
+ghost use Rattle.std.specs.FinMap as fin;
+ghost use Rattle.irc_line.specs.Writing.{written};
+ghost use Rattle.history.specs.Entry.{IsWrittenEntry};
+ghost use Rattle.welcome.specs.Playback.{burst_of};
+
+use crate::backlog::push_playback;
+use crate::packet::Packet;
+use crate::state::push_state;
+use client_caps::Caps;
+use history::Entry;
+use net_view::{NetworkView, OutOfMemory};
+use std::alloc::Allocator;
+
+/// The packet of the burst, from its bytes. That its lines can be written follows from where the
+/// view and the messages come from.
+fn packet_of_burst<V: NetworkView, A: Allocator + Clone, B: Allocator>(
+    text: Vec<u8, A>,
+    view: &V,
+    caps: Caps,
+    entries: &[&Entry<B>],
+) -> Result<Packet<A>, OutOfMemory>
+    requires ready { (V.view view.now).ready ≡ true }
+    requires whole { text.items ≡ flat_map written
+        (burst_of (V.view view.now) caps (map (λ entry. entry.now) entries.now)) }
+    requires written { AllByRecursion (λ entry. IsWrittenEntry entry.now) entries.now }
+    requires few { length (fin.entries (V.view view.now).channels) < 2 ^ 64 }
+    ensures { IfOk result (λ packet.
+        packet ≡ burst_of (V.view view.now) caps (map (λ entry. entry.now) entries.now)) }
+{
+    view.comes_from_lines();
+    Packet::of_lines(text)
+}
+
+/// The welcome burst: what tells a client that comes where it stands on the network (see
+/// [`state_part`](crate::state_part)), and then the messages that it missed (see
+/// [`playback`](crate::playback)). The view is ready. One growing buffer holds its bytes.
+///
+/// `OutOfMemory` is told where an allocation was refused, and for no other cause.
+pub fn burst<V: NetworkView, A: Allocator + Copy, B: Allocator>(
+    alloc: A,
+    view: &V,
+    caps: Caps,
+    entries: &[&Entry<B>],
+) -> Result<Packet<A>, OutOfMemory>
+    requires { (V.view view.now).ready ≡ true }
+    ensures { IfOk result (λ packet.
+        packet ≡ burst_of (V.view view.now) caps (map (λ entry. entry.now) entries.now)) }
+{
+    let mut text = Vec::new(alloc);
+    push_state(&mut text, view, caps)?;
+    push_playback(&mut text, view, caps, entries)?;
+    packet_of_burst(text, view, caps, entries)
+}

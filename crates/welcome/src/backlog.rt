@@ -1,0 +1,279 @@
+//! The playback: the messages that a client missed, arranged by channels (IRCv3 batch,
+//! server-time).
+
+ghost use Rattle.std.specs.Prelude.{◌≡◌, ◌<◌, ◌≤◌, ◌^◌, ◌++◌, ◌∷◌, [], IfOk, OnOk, length, map};
+ghost use Rattle.std.specs.Prelude.{option_to_list, codes, if◌then◌else◌};
+ghost use Rattle.std.specs.List.{AllByRecursion, flat_map};
+ghost use Rattle.std.specs.Option.{option_map};
+ghost use Rattle.std.specs.FinMap as fin;
+ghost use Rattle.irc_line.specs.Writing.{written};
+ghost use Rattle.history.specs.Entry.{IsWrittenEntry};
+ghost use Rattle.welcome.specs.Arranged.{arranged_of, backlogs_of, batch_of, time_tag};
+ghost use Rattle.welcome.specs.Burst.{from_bouncer};
+ghost use Rattle.welcome.specs.Playback.{backlog_of, batch_name, entry_line, playback_of};
+ghost use Rattle.welcome.specs.Playback.{tags_text};
+
+use crate::greeting::push_reply;
+use crate::groups::{channel_names, grouped};
+use crate::packet::Packet;
+use client_caps::Caps;
+use history::Entry;
+use irc_line::write_line;
+use net_view::{NetworkView, OutOfMemory};
+use std::alloc::Allocator;
+
+/// The tags of a message: that of its batch, and that of its time, as
+/// `batch=h0;time=2020-01-02T03:04:05.678Z`. `text` is room for them.
+fn tags_in<'t, A: Allocator>(
+    text: &'t mut Vec<u8, A>,
+    batch: Option<&'t [u8]>,
+    time: Option<&[u8]>,
+) -> Result<Option<&'t [u8]>, OutOfMemory>
+    ensures { IfOk result (λ tags. option_map (λ t. t.now) tags
+        ≡ tags_text (option_to_list (option_map (λ t. t.now) batch.entry)
+        ++ option_to_list (option_map (λ t. time_tag t.now) time.entry))) }
+{
+    let Some(time) = time else {
+        return Ok(batch);
+    };
+    text.clear();
+    if let Some(batch) = batch {
+        text.extend_from_slice(batch)?;
+        text.push(b';')?;
+    }
+    text.extend_from_slice(b"time=")?;
+    text.extend_from_slice(time)?;
+    Ok(Some(text))
+}
+
+/// When the message came, for a client that holds server-time.
+fn shown_time<B: Allocator>(caps: Caps, entry: &Entry<B>) -> Option<&[u8]>
+    ensures { option_to_list (option_map (λ t. time_tag t.now) result)
+        ≡ (if caps.server_time then time_tag entry.now.time ∷ [] else []) }
+{
+    if caps.server_time {
+        Some(entry.time())
+    } else {
+        None
+    }
+}
+
+/// Adds a message, as `@batch=h0 :bob!b@h PRIVMSG #c :hi all`. `tags` is room for its tags.
+fn push_entry<A: Allocator, B: Allocator>(
+    text: &mut Vec<u8, A>,
+    tags: &mut Vec<u8, A>,
+    caps: Caps,
+    batch: Option<&[u8]>,
+    entry: &Entry<B>,
+) -> Result<(), OutOfMemory>
+    ensures { OnOk result (text.new.items ≡ text.old.items ++ written
+        (entry_line caps (option_to_list (option_map (λ t. t.now) batch.entry)) entry.now)) }
+{
+    let tags = tags_in(tags, batch, shown_time(caps, entry))?;
+    write_line(
+        tags,
+        Some(entry.source()),
+        entry.command(),
+        &[entry.target(), entry.text()],
+        text,
+    )
+}
+
+/// Adds these messages.
+fn push_entries<A: Allocator + Copy, B: Allocator>(
+    text: &mut Vec<u8, A>,
+    caps: Caps,
+    batch: Option<&[u8]>,
+    entries: &[&Entry<B>],
+) -> Result<(), OutOfMemory>
+    ensures { OnOk result (text.new.items ≡ text.old.items ++ flat_map written
+        (map (λ entry. entry_line caps (option_to_list (option_map (λ t. t.now) batch.entry))
+        entry.now) entries.now)) }
+{
+    let mut tags = Vec::new(*text.allocator());
+    for entry in entries {
+        push_entry(text, &mut tags, caps, batch, entry)?;
+    }
+    Ok(())
+}
+
+/// Adds the beginning of a batch, as `:bnc BATCH +h0 chathistory #c`.
+fn push_begin<'x, A: Allocator>(
+    text: &mut Vec<u8, A>,
+    reference: &'x [u8],
+    name: &'x [u8],
+) -> Result<(), OutOfMemory>
+    ensures { OnOk result (text.new.items ≡ text.old.items ++ written
+        (from_bouncer (codes "BATCH") (reference.now ∷ codes "chathistory" ∷ name.now ∷ []))) }
+{
+    push_reply(text, b"BATCH", &[reference, b"chathistory", name])
+}
+
+/// Adds the end of a batch, as `:bnc BATCH -h0`.
+fn push_end<A: Allocator>(text: &mut Vec<u8, A>, reference: &[u8]) -> Result<(), OutOfMemory>
+    ensures { OnOk result (text.new.items ≡ text.old.items ++ written
+        (from_bouncer (codes "BATCH") (reference.now ∷ []))) }
+{
+    push_reply(text, b"BATCH", &[reference])
+}
+
+/// Adds these messages with this tag of a batch.
+fn push_tagged<A: Allocator + Copy, B: Allocator>(
+    text: &mut Vec<u8, A>,
+    caps: Caps,
+    tag: &[u8],
+    entries: &[&Entry<B>],
+) -> Result<(), OutOfMemory>
+    ensures { OnOk result (text.new.items ≡ text.old.items ++ flat_map written
+        (map (λ entry. entry_line caps (tag.now ∷ []) entry.now) entries.now)) }
+{
+    push_entries(text, caps, Some(tag), entries)
+}
+
+/// Adds these messages as the batch of the channel at a place.
+fn push_batch<A: Allocator + Copy, B: Allocator>(
+    text: &mut Vec<u8, A>,
+    caps: Caps,
+    place: usize,
+    name: &[u8],
+    entries: &[&Entry<B>],
+) -> Result<(), OutOfMemory>
+    ensures { OnOk result (text.new.items ≡ text.old.items ++ flat_map written
+        (batch_of caps place name.now (map (λ entry. entry.now) entries.now))) }
+{
+    let alloc = *text.allocator();
+    let begun = format!(in alloc; "+h{place}")?;
+    push_begin(text, begun.as_bytes(), name)?;
+    let tag = format!(in alloc; "batch=h{place}")?;
+    push_tagged(text, caps, tag.as_bytes(), entries)?;
+    let ended = format!(in alloc; "-h{place}")?;
+    push_end(text, ended.as_bytes())?;
+    Ok(())
+}
+
+/// Adds the messages of the channel at a place, with batch between `:bnc BATCH +h0 chathistory #c`
+/// and `:bnc BATCH -h0`; nothing where there are none.
+fn push_backlog<A: Allocator + Copy, B: Allocator>(
+    text: &mut Vec<u8, A>,
+    caps: Caps,
+    place: usize,
+    name: &[u8],
+    entries: &[&Entry<B>],
+) -> Result<(), OutOfMemory>
+    ensures { OnOk result (text.new.items ≡ text.old.items ++ flat_map written
+        (backlog_of caps place name.now (map (λ entry. entry.now) entries.now))) }
+{
+    if entries.is_empty() {
+        return Ok(());
+    }
+    if caps.batch {
+        push_batch(text, caps, place, name, entries)
+    } else {
+        push_entries(text, caps, None, entries)
+    }
+}
+
+/// Adds the messages of all channels, by the names of the channels and the groups of messages.
+fn push_backlogs<A: Allocator + Copy, B: Allocator>(
+    text: &mut Vec<u8, A>,
+    caps: Caps,
+    names: &[&[u8]],
+    groups: &[Vec<&Entry<B>, A>],
+) -> Result<(), OutOfMemory>
+    requires { length names.now ≤ length groups.now }
+    ensures { OnOk result (text.new.items ≡ text.old.items ++ flat_map written
+        (backlogs_of caps 0 (map (λ name. name.now) names.now)
+        (map (λ group. map (λ entry. entry.now) group.items) groups.now))) }
+{
+    for place in 0..names.len() {
+        push_backlog(text, caps, place, names[place], &groups[place])?;
+    }
+    Ok(())
+}
+
+/// Adds the messages of all groups: those of the channels, and then the last group.
+fn push_groups<A: Allocator + Copy, B: Allocator>(
+    text: &mut Vec<u8, A>,
+    caps: Caps,
+    names: &[&[u8]],
+    groups: &[Vec<&Entry<B>, A>],
+) -> Result<(), OutOfMemory>
+    requires { length names.now < length groups.now }
+    ensures { OnOk result (text.new.items ≡ text.old.items ++ flat_map written
+        (arranged_of caps (map (λ name. name.now) names.now)
+        (map (λ group. map (λ entry. entry.now) group.items) groups.now))) }
+{
+    push_backlogs(text, caps, names, groups)?;
+    push_entries(text, caps, None, &groups[names.len()])?;
+    Ok(())
+}
+
+/// Adds the messages: per channel in key order, then all others, each the oldest first.
+pub fn push_playback<V: NetworkView, A: Allocator + Copy, B: Allocator>(
+    text: &mut Vec<u8, A>,
+    view: &V,
+    caps: Caps,
+    entries: &[&Entry<B>],
+) -> Result<(), OutOfMemory>
+    ensures said { OnOk result (text.new.items ≡ text.old.items ++ flat_map written
+        (playback_of (V.view view.now) caps (map (λ entry. entry.now) entries.now))) }
+    ensures written { OnOk result
+        (AllByRecursion (λ entry. IsWrittenEntry entry.now) entries.now) }
+    ensures few { length (fin.entries (V.view view.now).channels) < 2 ^ 64 }
+{
+    let alloc = *text.allocator();
+    view.comes_from_lines();
+    let _count = view.channel_count();
+    let names = channel_names(alloc, view)?;
+    let groups = grouped(alloc, view.support().mapping(), &names, entries)?;
+    push_groups(text, caps, &names, &groups)?;
+    Ok(())
+}
+
+/// The packet of the playback, from its bytes. That its lines can be written follows from where the
+/// view and the messages come from.
+fn packet_of_playback<V: NetworkView, A: Allocator + Clone, B: Allocator>(
+    text: Vec<u8, A>,
+    view: &V,
+    caps: Caps,
+    entries: &[&Entry<B>],
+) -> Result<Packet<A>, OutOfMemory>
+    requires whole { text.items ≡ flat_map written
+        (playback_of (V.view view.now) caps (map (λ entry. entry.now) entries.now)) }
+    requires written { AllByRecursion (λ entry. IsWrittenEntry entry.now) entries.now }
+    requires few { length (fin.entries (V.view view.now).channels) < 2 ^ 64 }
+    ensures { IfOk result (λ packet.
+        packet ≡ playback_of (V.view view.now) caps (map (λ entry. entry.now) entries.now)) }
+{
+    view.comes_from_lines();
+    Packet::of_lines(text)
+}
+
+/// The messages that a client missed, arranged by channels: per channel in key order its messages,
+/// and then those that are for no channel that we are on, each the oldest first.
+///
+/// With batch those of a channel stand in a batch of the type `chathistory`, whose reference is `h`
+/// and the channel's place, counted from 0 (IRCv3 batch):
+///
+/// ```text
+/// :bnc BATCH +h0 chathistory #c
+/// @batch=h0 :bob!b@h PRIVMSG #c :hi all
+/// :bnc BATCH -h0
+/// ```
+///
+/// With server-time each has its time, as `@batch=h0;time=2020-01-02T03:04:05.678Z` (IRCv3
+/// server-time). Each target is looked up once among the channels; else the time is that of
+/// writing.
+pub fn playback<V: NetworkView, A: Allocator + Copy, B: Allocator>(
+    alloc: A,
+    view: &V,
+    caps: Caps,
+    entries: &[&Entry<B>],
+) -> Result<Packet<A>, OutOfMemory>
+    ensures { IfOk result (λ packet.
+        packet ≡ playback_of (V.view view.now) caps (map (λ entry. entry.now) entries.now)) }
+{
+    let mut text = Vec::new(alloc);
+    push_playback(&mut text, view, caps, entries)?;
+    packet_of_playback(text, view, caps, entries)
+}
