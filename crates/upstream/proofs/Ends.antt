@@ -133,7 +133,8 @@ ended_step network before line = elim (sure (has_ended before)) [
       let rest = or_false_right (any_final before) _ going in
       ended_more before line
       ∙ step_at network before line (said line) (or_false_left (any_final before) _ going)
-      (or_false_left (nat_le 4 (tries_in before)) _ rest) (or_false_right (nat_le 4 (tries_in before)) _ rest)
+      (or_false_left (nat_le 4 (tries_in before)) _ rest)
+      (or_false_right (nat_le 4 (tries_in before)) _ rest)
       ∙ rw going refl
 ]
 

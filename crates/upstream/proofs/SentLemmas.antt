@@ -106,7 +106,8 @@ sent_step network before done lines line u v w is first next =
     rw (
       is,
       sent_more network before done line,
-      bytes_more (sent_for network before done) (lines_in (answer_to network (before ++ done) line)),
+      bytes_more (sent_for network before done)
+          (lines_in (answer_to network (before ++ done) line)),
     )
     (appends_more u v w _ _ first next)
 
@@ -169,18 +170,24 @@ sent_append network before (x ∷ xs) b =
     ++ sent_for network t b)
     (append_assoc before (x ∷ []) xs)
 
-pub all_sent_more : (network : NetworkSettings) (a b lines : List Parts) (u v w : Option (List ℕ))
+pub sent_for_more : (network : NetworkSettings) (a b lines : List Parts) (u v w : Option (List ℕ))
     → lines ≡ a ++ b
-    → Appends u v (bytes_of (all_sent network a)) → Appends v w (bytes_of (sent_for network a b))
-    → Appends u w (bytes_of (all_sent network lines))
-all_sent_more network a b lines u v w is first next =
-    let e = ap (λ t. bytes_of (all_sent network t)) is
-    ∙ ap (λ t. bytes_of (first_lines network ++ t)) (sent_append network [] a b)
-    ∙ ap bytes_of
-    (sym (append_assoc (first_lines network) (sent_for network [] a)
-    (sent_for network a b)))
-    ∙ bytes_more (all_sent network a) (sent_for network a b) in
+    → Appends u v (bytes_of (sent_for network [] a)) → Appends v w (bytes_of (sent_for network a b))
+    → Appends u w (bytes_of (sent_for network [] lines))
+sent_for_more network a b lines u v w is first next =
+    let e = ap (λ t. bytes_of (sent_for network [] t)) is
+    ∙ ap bytes_of (sent_append network [] a b)
+    ∙ bytes_more (sent_for network [] a) (sent_for network a b) in
     subst (λ t. Appends u w t) (sym e) (appends_more u v w _ _ first next)
+
+-- the first lines, and what is sent for these
+pub all_sent_is : (network : NetworkSettings) (lines : List Parts) (u v w : Option (List ℕ))
+    → Appends u v (bytes_of (first_lines network))
+    → Appends v w (bytes_of (sent_for network [] lines))
+    → Appends u w (bytes_of (all_sent network lines))
+all_sent_is network lines u v w first next =
+    subst (λ t. Appends u w t) (sym (bytes_more (first_lines network) (sent_for network [] lines)))
+    (appends_more u v w _ _ first next)
 
 -- one piece more is the same as one long piece
 pub fed_more : (s t : Pending) (a b : List ℕ) → s ≡ fed start a → t ≡ fed s b
@@ -270,6 +277,11 @@ pub ok_some : {T E : Type 0} (A B : T → Type 0) (r : Result (Option T) E) → 
 ok_some A B (Ok None) f h = tt
 ok_some A B (Ok (Some x)) f h = f x h
 ok_some A B (Err e) f h = tt
+
+pub ok_more : {T E : Type 0} (A B : T → Type 0) (r : Result T E) → ((x : T) → A x → B x)
+    → IfOk r A → IfOk r B
+ok_more A B (Ok x) f h = f x h
+ok_more A B (Err e) f h = tt
 
 pub err_more : {T E : Type 0} (A B : E → Type 0) (r : Result T E) → ((e : E) → A e → B e)
     → IfErr r A → IfErr r B

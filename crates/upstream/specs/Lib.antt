@@ -3,3 +3,4 @@ pub mod Registration
 pub mod Taken
 pub mod Progress
 pub mod Handshake
+pub mod Dialled

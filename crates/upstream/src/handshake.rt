@@ -1,12 +1,12 @@
 //! The registration over a reader and a writer.
 
 ghost use Rattle.std.specs.Prelude.{◌≡◌, ◌++◌, ◌∷◌, [], ◌+◌, ℕ, List, false, take};
-ghost use Rattle.std.specs.Prelude.{◌≤◌, IfErr, IfNone, IfOk, IfSome, OnOk, drop, length};
+ghost use Rattle.std.specs.Prelude.{◌<◌, ◌≤◌, IfErr, IfNone, IfOk, IfSome, OnOk, drop, length};
 ghost use Rattle.std.specs.Io.KnownBytes.{Appends, Consumes};
 ghost use Rattle.irc_line.specs.Line.{Parts};
-ghost use Rattle.irc_line.specs.Lines.{fed, is_too_long, lines_of, start};
+ghost use Rattle.irc_line.specs.Lines.{fed, lines_of, start};
 ghost use Rattle.bnc_config.specs.Settings.{NetworkSettings};
-ghost use Rattle.upstream.specs.Registration.{answer_to, has_ended};
+ghost use Rattle.upstream.specs.Registration.{answer_to, first_lines, has_ended};
 ghost use Rattle.upstream.specs.Handshake.{IsCauseOf, IsEndedBy, IsLinesCause, IsSendCause};
 ghost use Rattle.upstream.specs.Handshake.{IsStepCause, IsWelcomeAt, IsWelcomed};
 ghost use Rattle.upstream.specs.Handshake.{IsReading, all_sent, bytes_of, lines_in, sent_for};
@@ -154,6 +154,7 @@ fn take_lines<W: Write>(
     ensures err { (network : NetworkSettings) (before : List Parts) →
         HasTaken network before register.old → has_ended before ≡ false →
         IfErr result (IsLinesCause network before lines.now) }
+    ensures within { IfOk result (λ place. IfSome place (λ i. i < length lines.now)) }
 {
     for (place, line) in lines.iter().enumerate() {
         if take_line(alloc, register, line, writer)? {
@@ -195,6 +196,7 @@ fn take_piece<W: Write>(
     ensures err { (network : NetworkSettings) (bytes : List ℕ) →
         IsReading network bytes register.old splitter.old →
         IfErr result (IsCauseOf network (bytes ++ piece.now)) }
+    ensures within { IfOk result (λ place. IfSome place (λ i. i < length lines.new.items)) }
 {
     splitter.feed(piece, lines)?;
     take_lines(alloc, register, lines.as_slice(), writer)
@@ -209,30 +211,45 @@ fn drop_front(lines: &mut Vec<Line>, place: usize)
     lines.truncate(lines.len() - place);
 }
 
-/// Registers at a network: sends the first lines, and then, for each line that comes, what is to be
-/// sent for it, in one write. Answers the lines from the welcome on, once it has come.
-///
-/// It reads at most 1,000,000,000 times. A read that is interrupted is tried again.
-pub fn register<R: Read, W: Write>(
+/// Sends what is sent before a line has come, in one write.
+pub(crate) fn open<W: Write>(
     alloc: Global,
-    reader: &mut R,
     writer: &mut W,
     network: &NetworkConfig,
+) -> Result<Register, DialFault>
+    ensures taken { IfOk result (λ register. HasTaken network.now [] register) }
+    ensures sent { OnOk result (Appends (W.contents writer.old) (W.contents writer.new)
+        (bytes_of (first_lines network.now))) }
+    ensures err { IfErr result IsSendCause }
+{
+    let (register, first) = Register::start(alloc, network)?;
+    send(alloc, first.as_slice(), writer)?;
+    Ok(register)
+}
+
+/// Goes on with a registration that was opened: sends, for each line that comes, what is to be sent
+/// for it, in one write. Answers the lines from the welcome on, once it has come.
+pub(crate) fn complete<R: Read, W: Write>(
+    alloc: Global,
+    register: Register,
+    reader: &mut R,
+    writer: &mut W,
 ) -> Result<Welcomed, DialFault>
-    ensures ok { IfOk result (λ w. (bytes : List ℕ) × (before : List Parts) × (welcome : Parts)
+    ensures ok { (network : NetworkSettings) → HasTaken network [] register →
+        IfOk result (λ w. (bytes : List ℕ) × (before : List Parts) × (welcome : Parts)
         × (after : List Parts)
         × Consumes (R.remaining reader.old) (R.remaining reader.new) bytes
-        × IsWelcomed network.now (lines_of bytes) before welcome after
+        × IsWelcomed network (lines_of bytes) before welcome after
         × (w.lines.items ≡ welcome ∷ after)
         × (w.splitter ≡ fed start bytes)
         × Appends (W.contents writer.old) (W.contents writer.new)
-        (bytes_of (all_sent network.now (before ++ welcome ∷ [])))) }
-    ensures err { IfErr result (λ fault. (bytes : List ℕ)
+        (bytes_of (sent_for network [] (before ++ welcome ∷ [])))) }
+    ensures err { (network : NetworkSettings) → HasTaken network [] register →
+        IfErr result (λ fault. (bytes : List ℕ)
         × Consumes (R.remaining reader.old) (R.remaining reader.new) bytes
-        × IsCauseOf network.now bytes fault) }
+        × IsCauseOf network bytes fault) }
 {
-    let (mut register, first) = Register::start(alloc, network)?;
-    send(alloc, first.as_slice(), writer)?;
+    let mut register = register;
     let mut splitter = Splitter::new(alloc);
     let mut lines = Vec::new(alloc);
     let mut buffer = vec![in alloc; 0; PIECE]?;
@@ -262,4 +279,30 @@ pub fn register<R: Read, W: Write>(
         }
     }
     Err(DialFault::Read)
+}
+
+/// Registers at a network: sends the first lines, and then, for each line that comes, what is to be
+/// sent for it, in one write. Answers the lines from the welcome on, once it has come.
+///
+/// It reads at most 1,000,000,000 times. A read that is interrupted is tried again.
+pub fn register<R: Read, W: Write>(
+    alloc: Global,
+    reader: &mut R,
+    writer: &mut W,
+    network: &NetworkConfig,
+) -> Result<Welcomed, DialFault>
+    ensures ok { IfOk result (λ w. (bytes : List ℕ) × (before : List Parts) × (welcome : Parts)
+        × (after : List Parts)
+        × Consumes (R.remaining reader.old) (R.remaining reader.new) bytes
+        × IsWelcomed network.now (lines_of bytes) before welcome after
+        × (w.lines.items ≡ welcome ∷ after)
+        × (w.splitter ≡ fed start bytes)
+        × Appends (W.contents writer.old) (W.contents writer.new)
+        (bytes_of (all_sent network.now (before ++ welcome ∷ [])))) }
+    ensures err { IfErr result (λ fault. (bytes : List ℕ)
+        × Consumes (R.remaining reader.old) (R.remaining reader.new) bytes
+        × IsCauseOf network.now bytes fault) }
+{
+    let register = open(alloc, writer, network)?;
+    complete(alloc, register, reader, writer)
 }

@@ -4,7 +4,7 @@ ghost use Rattle.std.specs.Prelude.{◌≡◌, ◌<◌, IfOk, IsTrue, map};
 ghost use Rattle.std.specs.List.{list_all};
 ghost use Rattle.irc_line.specs.Writing.{is_clean, is_writable};
 ghost use Rattle.irc_names.specs.Nick.{is_nameable};
-ghost use Rattle.upstream.specs.Registration.{cap_end, command, first_lines, join_line, join_lines};
+ghost use Rattle.upstream.specs.Registration.{cap_end, command, first_lines, join_lines};
 ghost use Rattle.upstream.specs.Registration.{marked, nick_line, pong_line, request_of};
 ghost use Rattle.upstream.specs.Registration.{user_line};
 

@@ -1,0 +1,3 @@
+pub mod LookedBack
+pub mod Held
+pub mod Ends
