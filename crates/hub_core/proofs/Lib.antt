@@ -1,0 +1,7 @@
+pub mod Walk
+pub mod Sets
+pub mod Prepared
+pub mod Running
+pub mod Splits
+pub mod Unread
+pub mod Forwarded

@@ -1,0 +1,130 @@
+use Rattle.std.proofs.Common.{◌≡◌, ◌∙◌, ◌∷◌, ◌++◌, [], refl, sym, ap, subst, map, None}
+use Rattle.std.specs.Option.{option_map}
+use Rattle.history.specs.Messages.{missed_by}
+use Rattle.welcome.specs.Playback.{burst_of}
+use Rattle.hub_core.specs.declared.session.Session.{Session}
+use Rattle.std.proofs.Common.{Some}
+use Rattle.net_view.specs.View.{View}
+use Rattle.hub_core.specs.Attaching.{Attaches, refusal_of, missed}
+use Rattle.hub_core.specs.States.{HubState, view_now, SessionState, OutletState}
+use Rattle.hub_core.specs.Given.{Took}
+use Rattle.hub_core.specs.Running.{EachFits}
+use Rattle.hub_core.specs.Insides.{hub_of, state_of, outlet_of}
+use Rattle.hub_core.proofs.Running.{with_sessions, attached_fits, is_ready, pushed_states}
+use Rattle.hub_core.proofs.hub.Hub.attach.Goals as goal
+use Rattle.hub_core.proofs.hub.Hub.attach.Given
+
+module _ (g : Given.Over) (c : goal.After-push_reserved g) where
+  abbrev state : Session g.row.O.Denot → SessionState
+  state = state_of g.O.Outlet.sent g.O.Outlet.closed g.O.Outlet.capacity g.O.Outlet.free
+
+  abbrev outlet : g.row.O.Denot → OutletState
+  outlet = outlet_of g.O.Outlet.sent g.O.Outlet.closed g.O.Outlet.capacity g.O.Outlet.free
+
+  abbrev old : HubState
+  old =
+      hub_of g.I.Inlet.taken g.I.Inlet.ahead g.O.Outlet.sent g.O.Outlet.closed g.O.Outlet.capacity
+      g.O.Outlet.free c.self.inside
+
+  took : Took g.O.Outlet.alone (outlet c.args.outlet)
+      (burst_of (g.V.NetworkView.view c.self.inside.view) c.args.caps
+      (missed_by c.mark_of-mark.result c.self.inside.history)) (outlet c.offer.new.self)
+  took = record {
+    sent = c.in-Ok-offer.ensures.taken.0
+        ∙ (λ k. c.room.ensures.sent k ++ c.in-Ok-burst_for.ensures k ∷ []);
+    closed = c.offer.ensures.closed ∙ c.room.ensures.closed;
+    capacity = c.offer.ensures.capacity ∙ c.room.ensures.capacity;
+    room = λ alone. sym (c.room.ensures.alone alone) ∙ c.in-Ok-offer.ensures.taken.2 alone;
+  }
+
+  -- the sessions, with the new one
+  now : map state c.push_reserved.new.self.items
+      ≡ map state c.self.inside.sessions.items ++ record {
+        id = c.in-Ok.id;
+        name = option_map (λ n. n.now) c.args.name;
+        caps = c.args.caps;
+        outlet = outlet c.offer.new.self;
+      } ∷ []
+  now =
+      pushed_states state c.self.inside.sessions.items c.reserve.new.self.items
+      c.push_reserved.new.self.items _ c.reserve.ensures.items c.push_reserved.ensures.items
+      ∙ (λ k. map state c.self.inside.sessions.items ++ record {
+        id = c.in-Ok.id;
+        name = c.in-Ok-copy_of.ensures k;
+        caps = c.args.caps;
+        outlet = outlet c.offer.new.self;
+      } ∷ [])
+
+  abbrev new : HubState
+  new =
+      hub_of {V = g.row.V.Denot} {M = g.row.V-Memory.Denot} g.I.Inlet.taken g.I.Inlet.ahead
+      g.O.Outlet.sent g.O.Outlet.closed g.O.Outlet.capacity g.O.Outlet.free record {
+        alloc = c.self.inside.alloc;
+        view = c.self.inside.view;
+        inlet = c.self.inside.inlet;
+        held = c.self.inside.held;
+        sessions = c.push_reserved.new.self;
+        next = c.number_after-self-inside.result;
+        upstream = c.self.inside.upstream;
+        online = c.self.inside.online;
+        history = c.self.inside.history;
+        first = c.self.inside.first;
+        marks = c.admit.new.marks;
+        images = c.self.inside.images;
+        made = c.self.inside.made;
+      }
+
+  allowed : refusal_of old (option_map (λ n. n.now) c.args.name) ≡ None
+  allowed =
+      subst (λ h. refusal_of h (option_map (λ n. n.now) c.args.name) ≡ None) (sym c.self.view_is)
+      c.in-Ok.ensures.ok.1
+
+  number : old.next ≡ Some c.in-Ok.id
+  number = subst (λ (h : HubState). h.next ≡ Some c.in-Ok.id) (sym c.self.view_is) c.in-Ok.ensures.ok.0
+
+  sent : Took g.O.Outlet.alone (outlet c.args.outlet)
+      (burst_of (view_now old) c.args.caps (missed old (option_map (λ n. n.now) c.args.name)))
+      (outlet c.offer.new.self)
+  sent =
+      subst (λ v. Took g.O.Outlet.alone (outlet c.args.outlet)
+      (burst_of v c.args.caps (missed old (option_map (λ n. n.now) c.args.name)))
+      (outlet c.offer.new.self)) c.self.invariant.view_is
+      (subst (λ m. Took g.O.Outlet.alone (outlet c.args.outlet)
+      (burst_of (g.V.NetworkView.view c.self.inside.view) c.args.caps
+      (missed_by m c.self.inside.history)) (outlet c.offer.new.self)) c.mark_of-mark.ensures took)
+
+pub invariant_of-self-2 : goal.invariant_of-self-2
+invariant_of-self-2 g c =
+    with_sessions (old g c) _ (g.V.NetworkView.view c.self.inside.view) c.self.inside.online
+    c.self.invariant refl refl refl
+    (subst (EachFits (g.V.NetworkView.view c.self.inside.view)) (sym (now g c))
+    (attached_fits g.O.Outlet.alone (old g c) (g.V.NetworkView.view c.self.inside.view)
+    c.self.inside.online c.args.caps (option_map (λ n. n.now) c.args.name) c.mark_of-mark.result
+    c.in-Ok.id (outlet g c c.args.outlet) (outlet g c c.offer.new.self) c.self.invariant
+    (ap (λ (v : View). v.ready) c.self.invariant.view_is
+    ∙ is_ready (old g c) (option_map (λ n. n.now) c.args.name) (allowed g c))
+    c.requires.0 c.requires.1 (took g c)))
+
+attaches : (g : Given.Over) (c : goal.After-push_reserved g) → Attaches g.O.Outlet.alone (old g c)
+    c.args.caps (option_map (λ n. n.now) c.args.name) (outlet g c c.args.outlet) c.in-Ok.id (new g c)
+attaches g c = record {
+  allowed = allowed g c;
+  number = number g c;
+  given = outlet g c c.offer.new.self;
+  sent = sent g c;
+  is = λ k. record {
+    taken = (old g c).taken;
+    ahead = (old g c).ahead;
+    held = (old g c).held;
+    sessions = now g c k;
+    next = c.number_after-self-inside.ensures k;
+    upstream = (old g c).upstream;
+    history = (old g c).history;
+    first = (old g c).first;
+    marks = c.in-Ok-admit.ensures.ok k;
+    images = (old g c).images;
+  };
+}
+
+pub returns-clause-ok : goal.returns-clause-ok
+returns-clause-ok g c = rw (← c.self.view_is) (attaches g c)

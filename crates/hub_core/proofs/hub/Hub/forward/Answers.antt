@@ -1,0 +1,59 @@
+use Rattle.std.proofs.Common.{◌≡◌, ◌∙◌, ◌∷◌, ◌++◌, [], refl, sym, ap, subst, None}
+use Rattle.hub_core.specs.declared.hub.Hub.TheInside.{Inside}
+use Rattle.hub_core.specs.Insides.{hub_of}
+use Rattle.hub_core.specs.Given.{Delivered}
+use Rattle.hub_core.specs.Pumping.{with_entry}
+use Rattle.hub_core.specs.States.{HubState}
+use Rattle.hub_core.specs.Saying.{Forwards, given_others, own_message, entry_said, images_said}
+use Rattle.hub_core.proofs.Forwarded.{nobody, no_message, outlet, room_found, sent_from, with_upstream}
+use Rattle.hub_core.proofs.hub.Hub.forward.Goals as goal
+use Rattle.hub_core.proofs.hub.Hub.forward.Given
+
+abbrev old : (g : Given.Over) → Inside g.row.V.Denot g.row.I.Denot g.row.O.Denot g.row.V-Memory.Denot → HubState
+old g i =
+    hub_of g.I.Inlet.taken g.I.Inlet.ahead g.O.Outlet.sent g.O.Outlet.closed g.O.Outlet.capacity
+    g.O.Outlet.free i
+
+pub returns-in-Err : goal.returns-in-Err
+returns-in-Err g c =
+    rw (← c.self.view_is)
+    (room_found g.O.Outlet.alone (old g c.self.inside) _ _ _ _ c.room.ensures.sent
+    c.room.ensures.closed c.room.ensures.capacity c.room.ensures.more c.room.ensures.alone)
+
+pub returns-then-is_for_all-2 : goal.returns-then-is_for_all-2
+returns-then-is_for_all-2 g c =
+    rw (← c.self.view_is)
+    (sent_from g.O.Outlet.alone (old g c.self.inside) _ c.spread.new.self c.args.id c.args.line.now
+    c.args.moment.0 c.spread.result
+    (room_found g.O.Outlet.alone (old g c.self.inside) _ _ _ _ c.room.ensures.sent
+    c.room.ensures.closed c.room.ensures.capacity c.room.ensures.more c.room.ensures.alone)
+    c.spread.ensures.ok c.spread.ensures.err)
+
+forwards : (g : Given.Over) (c : goal.In-Ok-offer g) → Forwards g.O.Outlet.alone
+    (old g c.self.inside) c.args.id c.args.line.now c.args.moment.0
+    (with_upstream (old g c.self.inside) (outlet (g.O.Outlet.sent c.offer.new.self)
+    (g.O.Outlet.closed c.offer.new.self) (g.O.Outlet.capacity c.offer.new.self)
+    (g.O.Outlet.free c.offer.new.self)))
+forwards g c =
+    let none : own_message (old g c.self.inside) c.args.line.now c.args.moment.0 ≡ None =
+    no_message (old g c.self.inside) c.args.line.now c.args.moment.0
+    (sym c.if-is_for_all-2.ensures) in
+    record {
+      online = sym c.self.invariant.online_is ∙ c.if-not-self.false;
+      upstream = record {
+        sent = c.in-Ok-offer.ensures.taken.0
+            ∙ (λ k. c.room.ensures.sent k ++ c.in-Ok.ensures k ∷ []);
+        closed = c.offer.ensures.closed ∙ c.room.ensures.closed;
+        capacity = c.offer.ensures.capacity ∙ c.room.ensures.capacity;
+        room = λ alone. sym (c.room.ensures.alone alone) ∙ c.in-Ok-offer.ensures.taken.2 alone;
+      };
+      sessions = subst (λ o. Delivered g.O.Outlet.alone (given_others (old g c.self.inside) c.args.id o)
+          (old g c.self.inside).sessions (old g c.self.inside).sessions) (sym none)
+          (nobody g.O.Outlet.alone (old g c.self.inside) c.args.id (old g c.self.inside).sessions);
+      history = ap (λ o. with_entry (old g c.self.inside).history (entry_said o)) (sym none);
+      images = ap (images_said (old g c.self.inside) c.args.id) (sym none);
+      same = (refl, refl, refl, refl, refl, refl);
+    }
+
+pub returns : goal.returns
+returns g c = rw (← c.self.view_is) (forwards g c)

@@ -1,0 +1,103 @@
+use Rattle.std.proofs.Common.{◌∙◌, ◌+◌, refl, sym, ap, subst, length, map, None}
+use Rattle.std.specs.Option.{option_map, option_map_or}
+use Rattle.hub_core.specs.Online.{says_online}
+use Rattle.net_view.specs.View.{view_of}
+use Rattle.hub_ends.specs.Came.{Came, came}
+use Rattle.hub_core.specs.declared.session.Session.{Session}
+use Rattle.hub_core.specs.Insides.{hub_of, state_of}
+use Rattle.hub_core.specs.Given.{Delivered, packet_for, given_but}
+use Rattle.hub_core.specs.States.{HubState, SessionState, heard}
+use Rattle.hub_core.specs.Pumping.{Takes, Puts, with_entry, images_for, counted}
+use Rattle.hub_core.proofs.Prepared.{map_length}
+use Rattle.hub_core.proofs.Running.{goes_on, holds_on, online_more, left_states}
+use Rattle.hub_core.proofs.hub.Hub.pump.Goals as goal
+use Rattle.hub_core.proofs.hub.Hub.pump.Given
+
+pub invariant_of-self-in-Err : goal.invariant_of-self-in-Err
+invariant_of-self-in-Err g c =
+    holds_on g.I.Inlet.alone _ _ _ _ _
+    record { taken = c.in-Some.ensures.taken; comes = c.in-Some.ensures.ahead }
+    c.self.invariant _ refl refl c.prepare_item.ensures.states refl
+
+pub invariant_of-self-in-Err-take : goal.invariant_of-self-in-Err-take
+invariant_of-self-in-Err-take g c =
+    holds_on g.I.Inlet.alone _ _ _ _ _
+    record { taken = c.in-Some.ensures.taken; comes = c.in-Some.ensures.ahead }
+    c.self.invariant _ c.in-Err-take.ensures.kept refl c.prepare_item.ensures.states refl
+
+module _ (g : Given.Over) (c : goal.Joined-item g) where
+  abbrev state : Session g.row.O.Denot → SessionState
+  state = state_of g.O.Outlet.sent g.O.Outlet.closed g.O.Outlet.capacity g.O.Outlet.free
+
+  abbrev old : HubState
+  old =
+      hub_of g.I.Inlet.taken g.I.Inlet.ahead g.O.Outlet.sent g.O.Outlet.closed g.O.Outlet.capacity
+      g.O.Outlet.free c.self.inside
+
+  abbrev new : HubState
+  new =
+      hub_of {V = g.row.V.Denot} {M = g.row.V-Memory.Denot} g.I.Inlet.taken g.I.Inlet.ahead
+      g.O.Outlet.sent g.O.Outlet.closed g.O.Outlet.capacity g.O.Outlet.free record {
+        alloc = c.self.inside.alloc;
+        view = c.take.new.self;
+        inlet = c.next_item.new.inlet;
+        held = c.next_item.new.held;
+        sessions = c.deliver-cut.new.sessions;
+        next = c.self.inside.next;
+        upstream = c.put.new.outlet;
+        online = c.online_after-self-inside.result;
+        history = c.keep.new.history;
+        first = c.self.inside.first;
+        marks = c.self.inside.marks;
+        images = c.saturating_add-self-inside.result;
+        made = c.prepare_item.new.made;
+      }
+
+  abbrev item : Came
+  item = came (c.in-Some.item, c.in-Some.moment)
+
+  delivered : Delivered g.O.Outlet.alone (λ s. packet_for (view_of (heard old)) item s.caps)
+      old.sessions (map state c.deliver-cut.new.sessions.items)
+  delivered =
+      subst (λ v. Delivered g.O.Outlet.alone (λ s. packet_for v item s.caps) old.sessions
+      (map state c.deliver-cut.new.sessions.items)) c.self.invariant.view_is
+      (subst (λ ss. Delivered g.O.Outlet.alone
+      (λ s. packet_for (g.V.NetworkView.view c.self.inside.view) item s.caps) ss
+      (map state c.deliver-cut.new.sessions.items)) c.prepare_item.ensures.states
+      (c.deliver-cut.ensures.all
+      (given_but None (packet_for (g.V.NetworkView.view c.self.inside.view) item))
+      c.in-Ok.ensures.coming))
+
+pub invariant_of-self-2 : goal.invariant_of-self-2
+invariant_of-self-2 g c =
+    goes_on g.I.Inlet.alone _ _ _ _ _
+    record { taken = c.in-Some.ensures.taken; comes = c.in-Some.ensures.ahead }
+    c.self.invariant g.O.Outlet.alone _ _ (ap (option_map came) c.in-Some.ensures.held)
+    (c.in_default-take.ensures.taken (heard (old g c)) c.self.invariant.view_is)
+    (c.online_after-self-inside.ensures
+    ∙ (ap (λ b. option_map_or (λ said. said) (says_online (item g c).0) b) c.self.invariant.online_is
+    ∙ online_more (heard (old g c)) (item g c).0))
+    (delivered g c)
+    (c.keep.ensures ∙ ap (with_entry c.self.inside.history) c.in-Ok.ensures.made.0)
+
+takes : (g : Given.Over) (c : goal.Joined-item g)
+    → Takes g.I.Inlet.alone g.O.Outlet.alone (old g c) c.deliver-cut.result (new g c)
+takes g c = record {
+  item = item g c;
+  comes = record { taken = c.in-Some.ensures.taken; ahead = c.in-Some.ensures.ahead };
+  held = ap (option_map came) c.in-Some.ensures.held;
+  sessions = delivered g c;
+  left = left_states (state g c) _ _ _ c.deliver-cut.result c.deliver-cut.ensures.count
+      c.prepare_item.ensures.states;
+  upstream = subst (λ p. Puts g.O.Outlet.alone (old g c).upstream p (new g c).upstream)
+      c.in-Ok.ensures.made.1 c.put.ensures;
+  history = c.keep.ensures ∙ ap (with_entry c.self.inside.history) c.in-Ok.ensures.made.0;
+  images = c.saturating_add-self-inside.ensures ∙ ap (λ n. counted (c.self.inside.images + n))
+      (c.images_of.ensures ∙ ap (images_for (item g c).0)
+      (sym (map_length (λ m. m.caps) c.prepare_item.new.made.items)
+      ∙ ap length c.in-Ok.ensures.sets));
+  same = (refl, refl, refl);
+}
+
+pub returns : goal.returns
+returns g c = record { step = rw (← c.self.view_is) (takes g c) }

@@ -1,0 +1,119 @@
+use Rattle.std.proofs.Common.{◌≡◌, ◌∙◌, ◌∷◌, ◌++◌, [], ◌+◌, refl, sym, ap, subst, length, map, Some, ℕ, true}
+use Rattle.hub_core.specs.Online.{is_online}
+use Rattle.irc_line.specs.Line.{Parts}
+use Rattle.net_view.specs.View.{View}
+use Rattle.net_view.specs.Arrival.{Received}
+use Rattle.irc_line.specs.Writing.{untagged_line}
+use Rattle.history.specs.Entry.{is_message}
+use Rattle.hub_core.specs.declared.session.Session.{Session}
+use Rattle.hub_core.specs.Insides.{hub_of, state_of, outlet_of}
+use Rattle.hub_core.specs.Given.{Delivered, packet_for, given_but}
+use Rattle.hub_core.specs.States.{HubState, SessionState, OutletState, heard, view_now}
+use Rattle.hub_core.specs.Pumping.{with_entry, counted}
+use Rattle.hub_core.specs.Saying.{Forwards, own_message, given_others, entry_said, images_said}
+use Rattle.hub_core.proofs.Prepared.{map_length}
+use Rattle.hub_core.proofs.Running.{said_on, entry_is_message}
+use Rattle.hub_core.proofs.Unread.{each_fits_unread, given_unread, said_unread, own_is}
+use Rattle.hub_core.proofs.hub.Hub.spread.Goals as goal
+use Rattle.hub_core.proofs.hub.Hub.spread.Given
+
+module _ (g : Given.Over) (c : goal.Joined-own-2 g) where
+  abbrev state : Session g.row.O.Denot → SessionState
+  state = state_of g.O.Outlet.sent g.O.Outlet.closed g.O.Outlet.capacity g.O.Outlet.free
+
+  abbrev outlet : g.row.O.Denot → OutletState
+  outlet = outlet_of g.O.Outlet.sent g.O.Outlet.closed g.O.Outlet.capacity g.O.Outlet.free
+
+  abbrev view : View
+  view = g.V.NetworkView.view c.self.inside.view
+
+  abbrev own : Parts
+  own = c.in_ok-from_us.field-0
+
+  abbrev moment : ℕ
+  moment = c.args.moment.0
+
+  abbrev old : HubState
+  old =
+      hub_of g.I.Inlet.taken g.I.Inlet.ahead g.O.Outlet.sent g.O.Outlet.closed g.O.Outlet.capacity
+      g.O.Outlet.free c.self.inside
+
+  abbrev new : HubState
+  new =
+      hub_of {V = g.row.V.Denot} {M = g.row.V-Memory.Denot} g.I.Inlet.taken g.I.Inlet.ahead
+      g.O.Outlet.sent g.O.Outlet.closed g.O.Outlet.capacity g.O.Outlet.free record {
+        alloc = c.self.inside.alloc;
+        view = c.self.inside.view;
+        inlet = c.self.inside.inlet;
+        held = c.self.inside.held;
+        sessions = c.deliver.new.sessions;
+        next = c.self.inside.next;
+        upstream = c.offer.new.self;
+        online = c.self.inside.online;
+        history = c.keep.new.history;
+        first = c.self.inside.first;
+        marks = c.self.inside.marks;
+        images = c.saturating_add-self-inside.result;
+        made = c.prepare_item.new.made;
+      }
+
+  is_own : is_message own ≡ true
+  is_own = ap is_message c.in_ok-from_us.ensures ∙ c.requires.message
+
+  -- what was made is the message as from us
+  own_said : own_message old c.args.line.now moment ≡ Some (Received own, moment)
+  own_said =
+      own_is old c.args.line.now own moment c.requires.message
+      (c.in_ok-from_us.ensures
+      ∙ ap (λ (v : View). untagged_line v.own c.args.line.now.command c.args.line.now.params)
+      c.self.invariant.view_is)
+
+  delivered : (v : View) → v ≡ view → Delivered g.O.Outlet.alone
+      (given_but (Some c.args.id) (packet_for v (Received own, moment))) old.sessions
+      (map state c.deliver.new.sessions.items)
+  delivered v e =
+      subst (λ w. Delivered g.O.Outlet.alone
+      (given_but (Some c.args.id) (packet_for w (Received own, moment))) old.sessions
+      (map state c.deliver.new.sessions.items)) (sym e)
+      (subst (λ ss. Delivered g.O.Outlet.alone
+      (given_but (Some c.args.id) (packet_for view (Received own, moment))) ss
+      (map state c.deliver.new.sessions.items)) c.prepare_item.ensures.states
+      (c.deliver.ensures.all (given_but (Some c.args.id) (packet_for view (Received own, moment)))
+      c.in_ok-entry.ensures.coming))
+
+  kept : new.history ≡ with_entry old.history (entry_said (Some (Received own, moment)))
+  kept = c.keep.ensures ∙ ap (with_entry old.history) c.in_ok-entry.ensures.made.0
+
+  forwards : Forwards g.O.Outlet.alone old c.args.id c.args.line.now moment new
+  forwards = record {
+    online = subst (λ (h : HubState). is_online (heard h) ≡ true) (sym c.self.view_is) c.requires.online;
+    upstream = record {
+      sent = c.in-Ok.ensures.taken.0 ∙ ap (λ p. old.upstream.sent ++ p ∷ []) c.requires.packet;
+      closed = c.offer.ensures.closed;
+      capacity = c.offer.ensures.capacity;
+      room = λ alone. c.in-Ok.ensures.taken.2 alone;
+    };
+    sessions = subst (λ o. Delivered g.O.Outlet.alone (given_others old c.args.id o) old.sessions
+        new.sessions) (sym own_said) (delivered (view_now old) (sym c.self.invariant.view_is));
+    history = kept ∙ ap (λ o. with_entry old.history (entry_said o)) (sym own_said);
+    images = c.saturating_add-self-inside.ensures ∙ (ap (λ n. counted (old.images + n))
+        (c.images_of.ensures ∙ (sym (map_length (λ m. m.caps) c.prepare_item.new.made.items)
+        ∙ ap length c.in_ok-entry.ensures.sets))
+        ∙ ap (images_said old c.args.id) (sym own_said));
+    same = (refl, refl, refl, refl, refl, refl);
+  }
+
+pub invariant_of-self-2 : goal.invariant_of-self-2
+invariant_of-self-2 g c =
+    said_on (old g c) _ (view g c) c.self.inside.online
+    (entry_said (Some (Received (own g c), moment g c))) c.self.invariant refl refl (kept g c)
+    (entry_is_message (Received (own g c), moment g c))
+    (each_fits_unread g.O.Outlet.alone (view g c)
+    (given_but (Some c.args.id) (packet_for (view g c) (Received (own g c), moment g c)))
+    (old g c).sessions _
+    (given_unread (Some c.args.id) (packet_for (view g c) (Received (own g c), moment g c))
+    (λ caps. said_unread (view g c) (own g c) (moment g c) caps (is_own g c)))
+    c.self.invariant.fit (delivered g c (view g c) refl))
+
+pub returns-clause-ok : goal.returns-clause-ok
+returns-clause-ok g c = (refl, rw (← c.self.view_is) (forwards g c))

@@ -1,0 +1,29 @@
+use Rattle.std.proofs.Common.{◌<◌, ◌∙◌, length-set, refl, ap, map, arith, length}
+use Rattle.net_view.specs.Arrival.{arrival_of}
+use Rattle.hub_core.specs.Given.{given_but, packet_for, sets_but}
+use Rattle.hub_core.specs.Insides.{state_of}
+use Rattle.hub_core.proofs.Prepared.{one_more, same_place}
+use Rattle.hub_core.proofs.prepare.prepare.Goals as goal
+
+pub loop-i-preserved : goal.loop-i-preserved
+loop-i-preserved g c =
+    let state = state_of g.O.Outlet.sent g.O.Outlet.closed g.O.Outlet.capacity g.O.Outlet.free in
+    let give = given_but c.args.except
+    (packet_for (g.V.NetworkView.view c.args.view.now)
+    (arrival_of c.args.item.now, c.args.moment.0)) in
+    let less : c.loop-i.i < length c.loop-i.sessions.items =
+    (let a = c.loop-i-test.true in let b = c.len-i-end.ensures in
+    let d = c.loop-i.invariant.long in omega arith) in
+    let same = same_place c.loop-i.sessions.items c.loop-i.i c.index.result.now
+    c.index_mut.result.now less c.index.ensures c.index_mut.ensures.value in
+    record {
+      prepared = one_more state (λ s. s.coming) give c.args.except _ c.loop-i.sessions.items
+          (map (λ m. m.caps) c.loop-i.made.items) _ c.loop-i.i c.index_mut.result.now _ less
+          c.index_mut.ensures.value refl
+          (c.in_ok-coming.ensures.packet ∙ ap (λ s. give (state s)) same)
+          (c.in_ok-coming.ensures.sets
+          ∙ ap (λ s. sets_but c.args.except (map (λ m. m.caps) c.loop-i.made.items) (state s)) same)
+          c.loop-i.invariant.prepared;
+      made = c.in_ok-coming.ensures.made;
+      long = length-set c.loop-i.sessions.items c.loop-i.i _ ∙ c.loop-i.invariant.long;
+    }

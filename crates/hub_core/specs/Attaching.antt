@@ -1,0 +1,109 @@
+-- What attach and detach do.
+use Rattle.std.specs.Prelude.{◌≡◌, ◌≢◌, ◌⊎◌, ◌<◌, ◌&&◌, ℕ, List, [], ◌∷◌, ◌++◌, Option, None, Some, Bool}
+use Rattle.std.specs.Prelude.{true, false, not, nat_le, length, if◌then◌else◌}
+use Rattle.std.specs.Option.{option_map, option_and_then, option_map_or, is_none}
+use Rattle.std.specs.FinMap as map
+use Rattle.irc_support.specs.Text.{Text}
+use Rattle.client_caps.specs.declared.caps.Caps.{Caps}
+use Rattle.history.specs.Entry.{EntryParts}
+use Rattle.history.specs.Messages.{Messages, missed_by, number_after}
+use Rattle.history.specs.Marks.{NameMarks, admitted, mark_of, with_mark}
+use Rattle.circular_buffer.specs.Buffer.{last_item}
+use Rattle.welcome.specs.Playback.{burst_of}
+use Rattle.hub_core.specs.declared.attach.AttachError.{AttachError}
+use Rattle.hub_core.specs.declared.attach.AttachError.TheVariants as refused
+use Rattle.hub_core.specs.States.{OutletState, SessionState, HubState, view_now}
+use Rattle.hub_core.specs.Given.{Took}
+
+-- ---- attach
+
+-- whether there is no room for a client's name
+abbrev pub names_full : Option Text → NameMarks → Bool
+names_full name marks =
+    option_map_or (λ n. not (map.contains_key marks n) && nat_le 64 (map.len marks)) name false
+
+-- the first reason, in this order, for which no session can be attached
+abbrev pub refusal_of : HubState → Option Text → Option AttachError
+refusal_of h name =
+    if not (view_now h).ready then Some refused.NotReady else
+    if nat_le 64 (length h.sessions) then Some refused.Full else
+    if names_full name h.marks then Some refused.NamesFull else
+    if is_none h.next then Some refused.Spent else None
+
+-- what a client of this name missed: the messages numbered above its mark, all where it has none
+abbrev pub missed : HubState → Option Text → List EntryParts
+missed h name = missed_by (option_and_then (λ n. mark_of n h.marks) name) h.history
+
+-- a name, if there is one, is admitted
+abbrev pub with_name : Option Text → NameMarks → NameMarks
+with_name name marks = option_map_or (λ n. admitted n marks) name marks
+
+-- A session was attached: its outlet was sent one burst, of the view and of what its client missed.
+pub record Attaches (alone : Bool) (old : HubState) (caps : Caps) (name : Option Text)
+    (outlet : OutletState) (id : ℕ) (new : HubState) : Type 0 where
+  pub allowed : refusal_of old name ≡ None
+  pub number : old.next ≡ Some id
+  pub given : OutletState
+  pub sent : Took alone outlet (burst_of (view_now old) caps (missed old name)) given
+  pub is : new ≡ record {
+    taken = old.taken;
+    ahead = old.ahead;
+    held = old.held;
+    sessions = old.sessions ++ record { id = id; name = name; caps = caps; outlet = given } ∷ [];
+    next = number_after id;
+    upstream = old.upstream;
+    history = old.history;
+    first = old.first;
+    marks = with_name name old.marks;
+    images = old.images;
+  }
+
+-- No session was attached, for its first reason; where there is none, for want of memory or since
+-- the outlet was full.
+abbrev pub Refuses : HubState → Option Text → OutletState → AttachError → Type 0
+Refuses h name outlet e =
+    (refusal_of h name ≡ Some e)
+    ⊎ ((refusal_of h name ≡ None) × ((e ≡ refused.OutOfMemory)
+    ⊎ ((e ≡ refused.OutletFull) × (outlet.free ≡ 0))))
+
+-- ---- detach
+
+-- no session has the number
+abbrev pub Lacks : ℕ → List SessionState → Type 0
+Lacks id [] = Unit {0}
+Lacks id (s ∷ ss) = (s.id ≢ id) × Lacks id ss
+
+-- the number of the last message that is kept
+abbrev pub last_number : Messages → Option ℕ
+last_number h = option_map (λ (m : ℕ × EntryParts). m.0) (last_item h.kept)
+
+-- the mark of a session's name once it has gone: the last message
+abbrev pub marked : Option Text → Option ℕ → NameMarks → NameMarks
+marked (Some name) (Some number) marks = with_mark name number marks
+marked (Some name) None marks = marks
+marked None number marks = marks
+
+-- The session of that number is gone, and its name has seen all messages. Its outlet was closed
+-- with its number, and the other end was told where there was room.
+pub record Detaches (old : HubState) (id : ℕ) (outlet : OutletState) (told : Bool) (new : HubState) : Type 0 where
+  pub front : List SessionState
+  pub gone : SessionState
+  pub back : List SessionState
+  pub was : old.sessions ≡ front ++ gone ∷ back
+  pub first : Lacks id front
+  pub number : gone.id ≡ id
+  pub sent : outlet.sent ≡ gone.outlet.sent
+  pub closed : outlet.closed ≡ Some id
+  pub told_so : 0 < gone.outlet.free → told ≡ true
+  pub is : new ≡ record {
+    taken = old.taken;
+    ahead = old.ahead;
+    held = old.held;
+    sessions = front ++ back;
+    next = old.next;
+    upstream = old.upstream;
+    history = old.history;
+    first = old.first;
+    marks = marked gone.name (last_number old.history) old.marks;
+    images = old.images;
+  }

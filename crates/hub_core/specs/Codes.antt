@@ -1,0 +1,131 @@
+-- How the states of hubs are stored, as the tuples of their fields. A reader need not believe
+-- anything here.
+use Rattle.std.specs.Prelude.{ℕ, Bool, List, refl, ◌≡◌}
+use Rattle.std.specs.Coded.{Coded, code_by, coded×, coded_ℕ, coded_bool, coded_list, coded_option}
+use Rattle.std.specs.FinMap as map
+use Rattle.std.proofs.Common.{Option, Some, None}
+use Rattle.irc_line.specs.Line.{Parts}
+use Rattle.irc_support.specs.Text.{Text}
+use Rattle.net_view.specs.Arrival.{Arrival, Received, Lost}
+use Rattle.client_caps.specs.declared.caps.Caps.{Caps}
+use Rattle.history.specs.Entry.{EntryParts}
+use Rattle.history.specs.Messages.{Messages}
+use Rattle.history.specs.Marks.{NameMarks}
+use Rattle.hub_ends.specs.Came.{Came}
+use Rattle.hub_core.specs.States.{OutletState, SessionState, HubState}
+
+abbrev text_code : Coded Text
+text_code = coded_list coded_ℕ
+
+abbrev parts_code : Coded Parts
+parts_code =
+    code_by (Option Text × (Option Text × (Text × (List Text))))
+    (coded× (coded_option text_code) (coded× (coded_option text_code) (coded× text_code (coded_list text_code))))
+    (λ l. (l.tags, (l.source, (l.command, l.params))))
+    (λ p. record {
+      tags = p.0;
+      source = p.1.0;
+      command = p.1.1.0;
+      params = p.1.1.1;
+    }) (λ _. refl)
+
+abbrev line_of_arrival : Arrival → Option Parts
+line_of_arrival (Received line) = Some line
+line_of_arrival Lost = None
+
+abbrev arrival_of_line : Option Parts → Arrival
+arrival_of_line (Some line) = Received line
+arrival_of_line None = Lost
+
+abbrev arrival_back : (x : Arrival) → arrival_of_line (line_of_arrival x) ≡ x
+arrival_back (Received line) = refl
+arrival_back Lost = refl
+
+abbrev came_code : Coded Came
+came_code =
+    coded×
+    (code_by (Option Parts) (coded_option parts_code) line_of_arrival arrival_of_line arrival_back)
+    coded_ℕ
+
+abbrev caps_code : Coded Caps
+caps_code =
+    code_by (Bool × (Bool × (Bool × (Bool × (Bool × (Bool))))))
+    (coded× coded_bool (coded× coded_bool (coded× coded_bool (coded× coded_bool (coded× coded_bool (coded_bool))))))
+    (λ c. (c.multi_prefix, (c.extended_join, (c.account_notify, (c.away_notify, (c.server_time, c.batch))))))
+    (λ p. record {
+      multi_prefix = p.0;
+      extended_join = p.1.0;
+      account_notify = p.1.1.0;
+      away_notify = p.1.1.1.0;
+      server_time = p.1.1.1.1.0;
+      batch = p.1.1.1.1.1;
+    }) (λ _. refl)
+
+abbrev outlet_code : Coded OutletState
+outlet_code =
+    code_by (List (List Parts) × (Option ℕ × (ℕ × (ℕ))))
+    (coded× (coded_list (coded_list parts_code)) (coded× (coded_option coded_ℕ) (coded× coded_ℕ (coded_ℕ))))
+    (λ o. (o.sent, (o.closed, (o.capacity, o.free))))
+    (λ p. record {
+      sent = p.0;
+      closed = p.1.0;
+      capacity = p.1.1.0;
+      free = p.1.1.1;
+    }) (λ _. refl)
+
+abbrev session_code : Coded SessionState
+session_code =
+    code_by (ℕ × (Option Text × (Caps × (OutletState))))
+    (coded× coded_ℕ (coded× (coded_option text_code) (coded× caps_code (outlet_code))))
+    (λ s. (s.id, (s.name, (s.caps, s.outlet))))
+    (λ p. record {
+      id = p.0;
+      name = p.1.0;
+      caps = p.1.1.0;
+      outlet = p.1.1.1;
+    }) (λ _. refl)
+
+abbrev entry_code : Coded EntryParts
+entry_code =
+    code_by (Text × (Text × (Text × (Text × (Text)))))
+    (coded× text_code (coded× text_code (coded× text_code (coded× text_code (text_code)))))
+    (λ e. (e.source, (e.command, (e.target, (e.text, e.time)))))
+    (λ p. record {
+      source = p.0;
+      command = p.1.0;
+      target = p.1.1.0;
+      text = p.1.1.1.0;
+      time = p.1.1.1.1;
+    }) (λ _. refl)
+
+abbrev messages_code : Coded Messages
+messages_code =
+    code_by (ℕ × (List (ℕ × EntryParts) × (Option ℕ)))
+    (coded× coded_ℕ (coded× (coded_list (coded× coded_ℕ entry_code)) (coded_option coded_ℕ)))
+    (λ h. (h.capacity, (h.kept, h.next)))
+    (λ p. record {
+      capacity = p.0;
+      kept = p.1.0;
+      next = p.1.1;
+    }) (λ _. refl)
+
+abbrev marks_code : Coded NameMarks
+marks_code = map.code text_code (coded_option coded_ℕ)
+
+abbrev pub hub_code : Coded HubState
+hub_code =
+    code_by (List Came × (List Came × (Option Came × (List SessionState × (Option ℕ × (OutletState × (Messages × (ℕ × (NameMarks × (ℕ))))))))))
+    (coded× (coded_list came_code) (coded× (coded_list came_code) (coded× (coded_option came_code) (coded× (coded_list session_code) (coded× (coded_option coded_ℕ) (coded× outlet_code (coded× messages_code (coded× coded_ℕ (coded× marks_code (coded_ℕ))))))))))
+    (λ h. (h.taken, (h.ahead, (h.held, (h.sessions, (h.next, (h.upstream, (h.history, (h.first, (h.marks, h.images))))))))))
+    (λ p. record {
+      taken = p.0;
+      ahead = p.1.0;
+      held = p.1.1.0;
+      sessions = p.1.1.1.0;
+      next = p.1.1.1.1.0;
+      upstream = p.1.1.1.1.1.0;
+      history = p.1.1.1.1.1.1.0;
+      first = p.1.1.1.1.1.1.1.0;
+      marks = p.1.1.1.1.1.1.1.1.0;
+      images = p.1.1.1.1.1.1.1.1.1;
+    }) (λ _. refl)

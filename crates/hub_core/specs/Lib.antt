@@ -1,0 +1,9 @@
+pub mod States
+pub mod Codes
+pub mod Given
+pub mod Online
+pub mod Running
+pub mod Insides
+pub mod Pumping
+pub mod Attaching
+pub mod Saying

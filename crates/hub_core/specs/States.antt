@@ -1,0 +1,71 @@
+-- What contracts see of a hub: plain data, without its view, which is that of the items it heard.
+use Rattle.std.specs.Prelude.{ℕ, ◌-◌, List, length, take, Option}
+use Rattle.std.specs.Option.{option_to_list}
+use Rattle.std.specs.FinMap.{empty}
+use Rattle.std.proofs.Common.{Some, None, []}
+use Rattle.irc_line.specs.Line.{Parts}
+use Rattle.irc_support.specs.Text.{Text}
+use Rattle.net_view.specs.Arrival.{Arrival}
+use Rattle.net_view.specs.View.{View, view_of}
+use Rattle.history.specs.Messages.{Messages, no_messages}
+use Rattle.history.specs.Marks.{NameMarks}
+use Rattle.client_caps.specs.declared.caps.Caps.{Caps}
+use Rattle.hub_ends.specs.Came.{Came, arrivals}
+
+-- an outlet: the packets that it was sent, the number that it was closed with, how many packets it
+-- holds at most, and how many more it is known to take
+pub record OutletState : Type 0 where
+  pub sent : List (List Parts)
+  pub closed : Option ℕ
+  pub capacity : ℕ
+  pub free : ℕ
+
+-- a session: its number, its client's name, the capabilities that it holds, and its outlet
+pub record SessionState : Type 0 where
+  pub id : ℕ
+  pub name : Option Text
+  pub caps : Caps
+  pub outlet : OutletState
+
+-- A hub: the items that its inlet has taken, and those that are known to come; the item that is
+-- held; the sessions; the number of the next one, if one is left; the outlet to the network; the
+-- messages that are kept, the number of the first, and what each client name has seen; how many
+-- images were made.
+pub record HubState : Type 0 where
+  pub taken : List Came
+  pub ahead : List Came
+  pub held : Option Came
+  pub sessions : List SessionState
+  pub next : Option ℕ
+  pub upstream : OutletState
+  pub history : Messages
+  pub first : ℕ
+  pub marks : NameMarks
+  pub images : ℕ
+
+-- the items that were taken, but for a held one
+abbrev pub less : List Came → Option Came → List Came
+less taken held = take (length taken - length (option_to_list held)) taken
+
+-- the items that the hub has heard
+abbrev pub heard : HubState → List Arrival
+heard h = arrivals (less h.taken h.held)
+
+-- the view of what it has heard
+abbrev pub view_now : HubState → View
+view_now h = view_of (heard h)
+
+-- a hub of these parts, without sessions, messages or client names
+abbrev pub started : List Came → OutletState → ℕ → ℕ → ℕ → HubState
+started ahead upstream capacity first_number first_session = record {
+  taken = [];
+  ahead = ahead;
+  held = None;
+  sessions = [];
+  next = Some first_session;
+  upstream = upstream;
+  history = no_messages capacity first_number;
+  first = first_number;
+  marks = empty;
+  images = 0;
+}

@@ -1,0 +1,204 @@
+//! Sessions that come and go.
+
+ghost use Rattle.std.specs.Prelude.{◌≡◌, ◌&&◌, [], None, Some, true, not, nat_le, IfOk, IfErr, OnErr};
+ghost use Rattle.std.specs.Prelude.{false, OnOk, option_map};
+ghost use Rattle.std.specs.FinMap as map;
+ghost use Rattle.std.specs.Option.{option_and_then};
+ghost use Rattle.history.specs.Messages.{missed_by, number_after};
+ghost use Rattle.history.specs.Marks.{mark_of};
+ghost use Rattle.welcome.specs.Playback.{burst_of};
+ghost use Rattle.hub_core.specs.Attaching.{Attaches, Refuses, names_full, refusal_of};
+ghost use Rattle.hub_core.specs.Attaching.{with_name};
+ghost use Rattle.hub_core.specs.Insides.{outlet_of};
+
+use crate::hub::Hub;
+use crate::session::Session;
+use client_caps::Caps;
+use history::{AdmitError, History, Marks};
+use hub_ends::{Inlet, Outlet, SessionId};
+use net_view::{NetworkView, OutOfMemory};
+use std::alloc::Global;
+use thiserror::Error;
+use welcome::{Packet, burst};
+
+/// Why a session was not attached, in the order in which the reasons are looked for.
+#[derive(Clone, Copy, Debug, PartialEq, Eq, Error)]
+pub enum AttachError {
+    /// The network has not told all that a client is told first: no `376`, `422` or JOIN came
+    /// after its welcome.
+    #[error("not ready")]
+    NotReady,
+    /// There are 64 sessions.
+    #[error("too many sessions")]
+    Full,
+    /// The client's name is new, and 64 names are known.
+    #[error("too many client names")]
+    NamesFull,
+    /// The session number 18446744073709551615 was given.
+    #[error("numbers spent")]
+    Spent,
+    /// An allocation was refused.
+    #[error("no memory")]
+    OutOfMemory,
+    /// The outlet has no room for the burst.
+    #[error("session is full")]
+    OutletFull,
+}
+
+/// No session has the number.
+#[derive(Clone, Copy, Debug, PartialEq, Eq, Error)]
+#[error("no such session")]
+pub struct NoSession;
+
+/// How many sessions a network has at most.
+pub const SESSION_LIMIT: usize = 64;
+
+/// Whether there is no room for a client's name.
+fn are_names_full(marks: &Marks, name: Option<&[u8]>) -> bool
+    ensures { result ≡ names_full (option_map (λ n. n.now) name.entry) marks.now }
+{
+    match name {
+        Some(name) => marks.is_full_for(name),
+        None => false,
+    }
+}
+
+/// Admits a client's name, where it has one.
+fn admit(marks: &mut Marks, name: Option<&[u8]>) -> Result<(), OutOfMemory>
+    requires { names_full (option_map (λ n. n.now) name) marks.old ≡ false }
+    ensures ok { OnOk result (marks.new ≡ with_name (option_map (λ n. n.now) name.entry) marks.old) }
+    ensures err { OnErr result (marks.new ≡ marks.old) }
+{
+    let Some(name) = name else {
+        return Ok(());
+    };
+    match marks.admit(name) {
+        Ok(_) => Ok(()),
+        Err(AdmitError::OutOfMemory) => Err(OutOfMemory),
+        Err(AdmitError::NamesFull) => unreachable!(),
+    }
+}
+
+/// A copy of a client's name.
+fn copy_of(alloc: Global, name: Option<&[u8]>) -> Result<Option<Vec<u8>>, OutOfMemory>
+    ensures { IfOk result (λ copy. option_map (λ c. c.items) copy
+        ≡ option_map (λ n. n.now) name.entry) }
+{
+    match name {
+        None => Ok(None),
+        Some(name) => Ok(Some(Vec::from_slice(alloc, name)?)),
+    }
+}
+
+/// The mark of a client's name.
+fn mark_of(marks: &Marks, name: Option<&[u8]>) -> Option<u64>
+    ensures { result ≡ option_and_then (λ n. mark_of n marks.now) (option_map (λ n. n.now) name.entry) }
+{
+    marks.mark(name?)
+}
+
+/// The burst for a client of this name.
+fn burst_for<V: NetworkView>(
+    alloc: Global,
+    view: &V,
+    history: &History,
+    mark: Option<u64>,
+    caps: Caps,
+) -> Result<Packet, OutOfMemory>
+    requires { (V.view view.now).ready ≡ true }
+    ensures { IfOk result (λ packet.
+        packet ≡ burst_of (V.view view.now) caps (missed_by mark history.now)) }
+{
+    let missed = history.missed(alloc, mark)?;
+    burst(alloc, view, caps, &missed)
+}
+
+/// The number behind this one; `None` behind the last one.
+fn number_after(number: u64) -> Option<u64>
+    ensures { result ≡ number_after number }
+{
+    number.checked_add(1)
+}
+
+impl<V: NetworkView + Drop, I: Inlet, O: Outlet> Hub<V, I, O> {
+    /// The number of a session to attach, or the first reason for which there can be none.
+    fn admission(&self, name: Option<&[u8]>) -> Result<SessionId, AttachError>
+        ensures ok { IfOk result (λ id. (self.now.next ≡ Some id) ×
+            (refusal_of self.now (option_map (λ n. n.now) name.entry) ≡ None)) }
+        ensures err { IfErr result (λ e.
+            refusal_of self.now (option_map (λ n. n.now) name.entry) ≡ Some e) }
+    {
+        if !self.view.ready() {
+            return Err(AttachError::NotReady);
+        }
+        if self.sessions.len() >= SESSION_LIMIT {
+            return Err(AttachError::Full);
+        }
+        if are_names_full(&self.marks, name) {
+            return Err(AttachError::NamesFull);
+        }
+        match self.next {
+            Some(id) => Ok(id),
+            None => Err(AttachError::Spent),
+        }
+    }
+
+    /// Attaches a session of these capabilities, of a client with this name or none, to an outlet
+    /// that was sent nothing: the outlet is sent the burst, of the view and of the messages that the
+    /// name missed. Answers its number.
+    ///
+    /// After a refusal nothing has changed, and the outlet is handed back. The reasons come in the
+    /// order of [`AttachError`]; `OutOfMemory` is told where an allocation was refused.
+    pub fn attach(
+        &mut self,
+        caps: Caps,
+        name: Option<&[u8]>,
+        outlet: O,
+    ) -> Result<SessionId, (AttachError, O)>
+        requires { (O.sent outlet ≡ []) × (O.closed outlet ≡ None) }
+        ensures ok { IfOk result (λ id. Attaches O.alone self.old caps
+            (option_map (λ n. n.now) name.entry)
+            (outlet_of O.sent O.closed O.capacity O.free outlet) id self.new) }
+        ensures refused { IfErr result (λ e. Refuses self.old (option_map (λ n. n.now) name.entry)
+            (outlet_of O.sent O.closed O.capacity O.free outlet) e.0) }
+        ensures kept { IfErr result (λ e. (self.new ≡ self.old) × (O.sent e.1 ≡ []) ×
+            (O.closed e.1 ≡ None)) }
+    {
+        let mut outlet = outlet;
+        let id = match self.admission(name) {
+            Ok(id) => id,
+            Err(e) => return Err((e, outlet)),
+        };
+        let mark = mark_of(&self.marks, name);
+        let Ok(burst) = burst_for(self.alloc, &self.view, &self.history, mark, caps) else {
+            return Err((AttachError::OutOfMemory, outlet));
+        };
+        let Ok(own_name) = copy_of(self.alloc, name) else {
+            return Err((AttachError::OutOfMemory, outlet));
+        };
+        match self.sessions.reserve(1) {
+            Ok(()) => {}
+            Err(_) => return Err((AttachError::OutOfMemory, outlet)),
+        }
+        if !outlet.room() {
+            return Err((AttachError::OutletFull, outlet));
+        }
+        match admit(&mut self.marks, name) {
+            Ok(()) => {}
+            Err(_) => return Err((AttachError::OutOfMemory, outlet)),
+        }
+        match outlet.offer(burst) {
+            Ok(()) => {}
+            Err(_) => unreachable!(),
+        }
+        self.next = number_after(id);
+        self.sessions.push_reserved(Session {
+            id,
+            name: own_name,
+            caps,
+            outlet,
+            coming: None,
+        });
+        Ok(id)
+    }
+}

@@ -1,0 +1,175 @@
+//! The hub of one network.
+
+ghost use Rattle.std.specs.Prelude.{◌≡◌, ◌↔◌, [], None, Some, false, IfOk, IsErrOf};
+ghost use Rattle.std.specs.FinMap as map;
+ghost use Rattle.net_view.specs.View.{empty_view};
+ghost use Rattle.history.specs.Messages.{is_capacity};
+
+use crate::image_table::Made;
+use crate::session::Session;
+use client_caps::Moment;
+use history::{CapacityError, History, Marks};
+use hub_ends::{Inlet, Outlet, SessionId};
+use net_view::{Item, NetworkView, OutOfMemory};
+use std::alloc::Global;
+use std::marker::Model;
+use thiserror::Error;
+
+/// What a hub starts with.
+#[derive(Clone, Copy, Debug, PartialEq, Eq)]
+pub struct Setup {
+    /// How many messages are kept: 1 to 10,000.
+    pub history: usize,
+    /// The number of the first message.
+    pub first_number: u64,
+    /// The number of the first session.
+    pub first_session: SessionId,
+}
+
+/// What a pump did.
+#[derive(Clone, Copy, Debug, PartialEq, Eq)]
+pub enum Pumped {
+    /// There was no item.
+    Nothing,
+    /// An item was taken.
+    Taken {
+        /// How many sessions were cut, since their outlets were full.
+        cut: usize,
+    },
+}
+
+/// Why a hub refused an item or a line.
+#[derive(Clone, Copy, Debug, PartialEq, Eq, Error)]
+pub enum HubError {
+    /// It is a message, and the number 18446744073709551615 was given: there is none for it.
+    #[error("numbers spent")]
+    Spent,
+    /// An allocation was refused.
+    #[error("out of memory")]
+    OutOfMemory,
+}
+
+impl From<OutOfMemory> for HubError {
+    ghost use Rattle.hub_core.specs.declared.hub.HubError.TheVariants as fault;
+
+    ghost from_gives = { λ _ e. e ≡ fault.OutOfMemory };
+
+    fn from(_e: OutOfMemory) -> HubError {
+        HubError::OutOfMemory
+    }
+}
+
+/// The hub of one network: what comes from the network goes to each session as its client reads
+/// it, and what clients say goes to the network.
+///
+/// A hub waits for nobody. Its inlet and its outlets are handed in, so it runs over memory or
+/// between threads.
+#[derive(Drop)]
+pub struct Hub<V: NetworkView + Drop, I: Inlet, O: Outlet> {
+    pub(crate) alloc: Global,
+    pub(crate) view: V,
+    pub(crate) inlet: I,
+    // what was taken and could not be dealt with
+    pub(crate) held: Option<(Item, Moment)>,
+    pub(crate) sessions: Vec<Session<O>>,
+    // the number of the next session; `None` where the last one was given
+    pub(crate) next: Option<SessionId>,
+    pub(crate) upstream: O,
+    pub(crate) online: bool,
+    pub(crate) history: History,
+    pub(crate) first: u64,
+    pub(crate) marks: Marks,
+    pub(crate) images: u64,
+    // what was made for the sets of capabilities of the last item
+    pub(crate) made: Vec<Made>,
+}
+
+impl<V: NetworkView + Drop, I: Inlet, O: Outlet> Model for Hub<V, I, O> {
+    ghost use Rattle.hub_core.specs.States.{HubState};
+    ghost use Rattle.hub_core.specs.Running.{IsRunning};
+    ghost use Rattle.hub_core.specs.Insides.{hub_of};
+    ghost use Rattle.hub_core.specs.Codes.{hub_code};
+
+    ghost Value = { HubState };
+
+    ghost coded = { hub_code };
+
+    ghost view = { hub_of I.taken I.ahead O.sent O.closed O.capacity O.free };
+
+    ghost invariant = { λ h. IsRunning (hub_of I.taken I.ahead O.sent O.closed O.capacity O.free h)
+        (V.view h.view) h.online };
+}
+
+impl<V: NetworkView + Drop, I: Inlet, O: Outlet> Hub<V, I, O> {
+    ghost use Rattle.hub_core.specs.States.{view_now, heard, started};
+    ghost use Rattle.hub_core.specs.Online.{is_online};
+    ghost use Rattle.hub_core.specs.Insides.{outlet_of};
+
+    /// A hub of these parts, without sessions, messages or client names. `BadCapacity` comes
+    /// exactly where the setup's history is 0 or above 10,000, and before memory is asked for. After
+    /// a refusal the parts are dropped.
+    pub fn start(
+        alloc: Global,
+        view: V,
+        inlet: I,
+        upstream: O,
+        setup: Setup,
+    ) -> Result<Hub<V, I, O>, CapacityError>
+        requires view { V.view view ≡ empty_view }
+        requires inlet { I.taken inlet ≡ [] }
+        requires upstream { O.sent upstream ≡ [] }
+        ensures ok { IfOk result (λ hub. hub ≡ started (I.ahead inlet)
+            (outlet_of O.sent O.closed O.capacity O.free upstream)
+            setup.history setup.first_number setup.first_session) }
+        ensures bad { IsErrOf result CapacityError.BadCapacity
+            ↔ (is_capacity setup.history ≡ false) }
+    {
+        let history = History::new(alloc, setup.history, setup.first_number)?;
+        let marks = Marks::new(alloc)?;
+        Ok(Hub {
+            alloc,
+            view,
+            inlet,
+            held: None,
+            sessions: Vec::new(alloc),
+            next: Some(setup.first_session),
+            upstream,
+            online: false,
+            history,
+            first: setup.first_number,
+            marks,
+            images: 0,
+            made: Vec::new(alloc),
+        })
+    }
+
+    /// The view of the items taken, but for a held one.
+    pub fn view(&self) -> &V
+        ensures { V.view result.now ≡ view_now self.now }
+    {
+        &self.view
+    }
+
+    /// Whether the network has taken us in and the connection was not lost since.
+    pub fn is_online(&self) -> bool
+        ensures { result ≡ is_online (heard self.now) }
+    {
+        self.online
+    }
+
+    /// The outlet to the network.
+    pub fn upstream_outlet(&self) -> &O
+        ensures { outlet_of O.sent O.closed O.capacity O.free result.now ≡ self.now.upstream }
+    {
+        &self.upstream
+    }
+
+    /// How many images were made: for each line pumped, and for each message forwarded, one for
+    /// each different set of capabilities of the sessions that it was for. It stays at its greatest
+    /// value once that is reached.
+    pub fn images_made(&self) -> u64
+        ensures { result ≡ self.now.images }
+    {
+        self.images
+    }
+}

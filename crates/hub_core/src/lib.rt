@@ -1,0 +1,18 @@
+//! The hub of one network: what comes from the network goes to each session as its client reads it.
+#![tactic(auto)]
+
+mod attach;
+mod deliver;
+mod detach;
+mod hub;
+mod image_table;
+mod prepare;
+mod pump;
+mod said;
+mod session;
+
+pub use attach::{AttachError, NoSession, SESSION_LIMIT};
+pub use history::CapacityError;
+pub use hub::{Hub, HubError, Pumped, Setup};
+pub use net_view::OutOfMemory;
+pub use session::Session;

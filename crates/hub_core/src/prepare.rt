@@ -1,0 +1,69 @@
+//! What sessions are to be sent next.
+
+ghost use Rattle.std.specs.Prelude.{◌≡◌, [], Option, IfOk, OnOk, map, option_map};
+ghost use Rattle.std.specs.List.{AllByRecursion};
+ghost use Rattle.net_view.specs.Arrival.{arrival_of};
+ghost use Rattle.hub_core.specs.Given.{all_sets_but, given_but, packet_for, sets_but};
+ghost use Rattle.hub_core.specs.Insides.{state_of, states_of};
+
+use crate::image_table::{Made, shared_packet_for};
+use crate::session::Session;
+use client_caps::Moment;
+use hub_ends::{Outlet, SessionId};
+use net_view::{Item, NetworkView, OutOfMemory};
+use std::alloc::Global;
+use welcome::Packet;
+
+/// What one session is to be sent of an item; nothing, where it is the one left out.
+fn coming_for<V: NetworkView, O: Outlet>(
+    alloc: Global,
+    view: &V,
+    session: &Session<O>,
+    item: &Item,
+    moment: Moment,
+    except: Option<SessionId>,
+    made: &mut Vec<Made>,
+) -> Result<Option<Packet>, OutOfMemory>
+    requires { AllByRecursion (λ m. m.packet
+        ≡ packet_for (V.view view.now) (arrival_of item.now, moment.0) m.caps) made.old.items }
+    ensures packet { IfOk result (λ packet. packet
+        ≡ given_but except (packet_for (V.view view.now) (arrival_of item.now, moment.0))
+        (state_of O.sent O.closed O.capacity O.free session.now)) }
+    ensures made { AllByRecursion (λ m. m.packet
+        ≡ packet_for (V.view view.now) (arrival_of item.now, moment.0) m.caps) made.new.items }
+    ensures sets { OnOk result (map (λ m. m.caps) made.new.items
+        ≡ sets_but except (map (λ m. m.caps) made.old.items)
+        (state_of O.sent O.closed O.capacity O.free session.now)) }
+{
+    if except == Some(session.id) {
+        return Ok(None);
+    }
+    shared_packet_for(alloc, view, session.caps, item, moment, made)
+}
+
+/// Makes what each session but one is to be sent of an item, once for each set of capabilities. The
+/// view is the one before the item. Nothing is sent yet: after a refusal each session is as it was.
+pub fn prepare<V: NetworkView, O: Outlet>(
+    alloc: Global,
+    view: &V,
+    sessions: &mut Vec<Session<O>>,
+    item: &Item,
+    moment: Moment,
+    except: Option<SessionId>,
+    made: &mut Vec<Made>,
+) -> Result<(), OutOfMemory>
+    ensures states { states_of O.sent O.closed O.capacity O.free sessions.new.items
+        ≡ states_of O.sent O.closed O.capacity O.free sessions.old.items }
+    ensures coming { OnOk result (AllByRecursion (λ s. s.coming
+        ≡ given_but except (packet_for (V.view view.now) (arrival_of item.now, moment.0))
+        (state_of O.sent O.closed O.capacity O.free s)) sessions.new.items) }
+    ensures sets { OnOk result (map (λ m. m.caps) made.new.items
+        ≡ all_sets_but except [] (states_of O.sent O.closed O.capacity O.free sessions.old.items)) }
+{
+    made.clear();
+    for i in 0..sessions.len() {
+        let coming = coming_for(alloc, view, &sessions[i], item, moment, except, made)?;
+        sessions[i].coming = coming;
+    }
+    Ok(())
+}

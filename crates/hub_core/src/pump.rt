@@ -1,0 +1,224 @@
+//! What comes from the network goes to the sessions.
+
+ghost use Rattle.std.specs.Prelude.{ℕ, ◌≡◌, ◌++◌, ◌∷◌, ◌+◌, [], None, Some, Option, IfOk, IfSome, IfNone};
+ghost use Rattle.std.specs.Prelude.{IsErrOf, ◌↔◌, OnErr, OnOk, IsSome, cond, is_some, option_map, length, map};
+ghost use Rattle.std.specs.Prelude.{IsTrue, codes, slice_get, is_some};
+ghost use Rattle.std.specs.Option.{option_map_or, option_to_list};
+ghost use Rattle.std.specs.List.{AllByRecursion, list_all};
+ghost use Rattle.irc_line.specs.Writing.{untagged_line};
+ghost use Rattle.net_view.specs.Arrival.{arrival_of};
+ghost use Rattle.client_caps.specs.Moment.{is_tag_byte};
+ghost use Rattle.hub_ends.specs.Came.{came};
+ghost use Rattle.hub_core.specs.Given.{all_sets_but, given_but, packet_for};
+ghost use Rattle.hub_core.specs.Insides.{outlet_of, state_of, states_of};
+ghost use Rattle.hub_core.specs.Online.{is_welcome, says_online};
+ghost use Rattle.hub_core.specs.Pumping.{Comes, Pumps, Puts, Spends, counted, entry_for, images_for};
+ghost use Rattle.hub_core.specs.Pumping.{pong_for, with_entry};
+
+use crate::deliver::deliver;
+use crate::hub::{Hub, HubError, Pumped};
+use crate::image_table::Made;
+use crate::prepare::prepare;
+use crate::session::Session;
+use client_caps::{Moment, shown_time};
+use history::{Entry, History, is_message};
+use hub_ends::{Inlet, Outlet, SessionId};
+use irc_line::Line;
+use irc_names::is_nameable;
+use net_view::{Item, NetworkView, OutOfMemory};
+use std::alloc::Global;
+use welcome::Packet;
+
+/// The held item, or else the next one.
+fn next_item<I: Inlet>(held: &mut Option<(Item, Moment)>, inlet: &mut I) -> Option<(Item, Moment)>
+    ensures none { IfNone result ((option_map came held.old ≡ None) ×
+        (I.taken inlet.new ≡ I.taken inlet.old) × (I.ahead inlet.old ≡ []) ×
+        (I.ahead inlet.new ≡ [])) }
+    ensures taken { IfSome result (λ x. I.taken inlet.new
+        ≡ I.taken inlet.old ++ cond (is_some (option_map came held.old)) [] (came x ∷ [])) }
+    ensures held { held.new ≡ None }
+    ensures ahead { IfSome result (λ x. Comes I.alone (option_map came held.old)
+        (I.ahead inlet.old) (came x) (I.ahead inlet.new)) }
+{
+    if let Some(item) = held.take() {
+        return Some(item);
+    }
+    inlet.next()
+}
+
+/// The entry of an item, where it is a message.
+fn entry_of(alloc: Global, item: &Item, moment: Moment) -> Result<Option<Entry>, OutOfMemory>
+    ensures { IfOk result (λ entry. entry ≡ entry_for (arrival_of item.now, moment.0)) }
+{
+    match item {
+        Item::Line(line) => {
+            let time = shown_time(line, moment);
+            Entry::of_message(alloc, &time, line)
+        }
+        Item::Lost => Ok(None),
+    }
+}
+
+/// The answer to a PING of the network.
+fn pong(alloc: Global, line: &Line) -> Result<Packet, OutOfMemory>
+    ensures { IfOk result (λ packet.
+        packet ≡ untagged_line None (codes "PONG") line.now.params ∷ []) }
+{
+    let pong = line.copy_as_in(alloc, None, b"PONG")?;
+    Packet::one(alloc, &pong)
+}
+
+/// What the network is answered to an item.
+fn pong_of(alloc: Global, item: &Item) -> Result<Option<Packet>, OutOfMemory>
+    ensures { IfOk result (λ packet. packet ≡ pong_for (arrival_of item.now)) }
+{
+    match item {
+        Item::Line(line) if line.is(b"PING") => Ok(Some(pong(alloc, line)?)),
+        _ => Ok(None),
+    }
+}
+
+/// Whether a line takes us in.
+fn is_welcome(line: &Line) -> bool
+    ensures { result ≡ is_welcome line.now }
+{
+    line.is(b"001")
+        && match line.param(0) {
+            Some(nick) => is_nameable(nick),
+            None => false,
+        }
+}
+
+/// Whether we are online after an item.
+fn online_after(online: bool, item: &Item) -> bool
+    ensures { result ≡ option_map_or (λ said. said) (says_online (arrival_of item.now)) online }
+{
+    match item {
+        Item::Line(line) => online || is_welcome(line),
+        Item::Lost => false,
+    }
+}
+
+/// Whether an item is a message.
+fn is_kept(item: &Item) -> bool
+    ensures { (moment : ℕ) → result ≡ is_some (entry_for (arrival_of item.now, moment)) }
+{
+    match item {
+        Item::Line(line) => line.source().is_some() && is_message(line),
+        Item::Lost => false,
+    }
+}
+
+/// Makes what an item leads to: what each session but one is to be sent, the entry of a message, the answer
+/// to a PING. Nothing is sent yet.
+pub fn prepare_item<V: NetworkView, O: Outlet>(
+    alloc: Global,
+    view: &V,
+    sessions: &mut Vec<Session<O>>,
+    history: &History,
+    item: &Item,
+    moment: Moment,
+    except: Option<SessionId>,
+    made: &mut Vec<Made>,
+) -> Result<(Option<Entry>, Option<Packet>), HubError>
+    ensures states { states_of O.sent O.closed O.capacity O.free sessions.new.items
+        ≡ states_of O.sent O.closed O.capacity O.free sessions.old.items }
+    ensures made { IfOk result (λ r. (r.0 ≡ entry_for (arrival_of item.now, moment.0)) ×
+        (r.1 ≡ pong_for (arrival_of item.now))) }
+    ensures coming { OnOk result (AllByRecursion (λ s. s.coming
+        ≡ given_but except (packet_for (V.view view.now) (arrival_of item.now, moment.0))
+        (state_of O.sent O.closed O.capacity O.free s)) sessions.new.items) }
+    ensures sets { OnOk result (map (λ m. m.caps) made.new.items ≡ all_sets_but except []
+        (states_of O.sent O.closed O.capacity O.free sessions.old.items)) }
+    ensures spent { IsErrOf result HubError.Spent ↔
+        (IsSome (entry_for (arrival_of item.now, moment.0)) × (history.now.next ≡ None)) }
+{
+    if history.next_number().is_none() && is_kept(item) {
+        return Err(HubError::Spent);
+    }
+    prepare(alloc, view, sessions, item, moment, except, made)?;
+    let entry = entry_of(alloc, item, moment)?;
+    let pong = pong_of(alloc, item)?;
+    Ok((entry, pong))
+}
+
+/// Keeps a message, where there is one. That there is a number for it is for the caller to see to.
+pub fn keep(history: &mut History, entry: Option<Entry>)
+    requires { IsSome entry → IsSome history.old.next }
+    ensures { history.new ≡ with_entry history.old entry }
+{
+    if let Some(entry) = entry {
+        match history.add(entry) {
+            Ok(_) => {}
+            Err(_) => unreachable!(),
+        }
+    }
+}
+
+/// Puts a packet, where there is one and there is room for it.
+pub fn put<O: Outlet>(outlet: &mut O, packet: Option<Packet>)
+    ensures { Puts O.alone (outlet_of O.sent O.closed O.capacity O.free outlet.old) packet
+        (outlet_of O.sent O.closed O.capacity O.free outlet.new) }
+{
+    if let Some(packet) = packet {
+        match outlet.offer(packet) {
+            Ok(()) => {}
+            Err(_) => {}
+        }
+    }
+}
+
+/// How many images an item was sent as.
+pub fn images_of(item: &Item, made: &Vec<Made>) -> u64
+    ensures { result ≡ images_for (arrival_of item.now) (length made.now.items) }
+{
+    match item {
+        Item::Line(_) => made.len() as u64,
+        Item::Lost => 0,
+    }
+}
+
+impl<V: NetworkView + Drop, I: Inlet, O: Outlet> Hub<V, I, O> {
+    /// Tries the held item, or else takes the next one from the inlet. For a line, each session is
+    /// sent its image, as its client's capabilities have it, by the view before the line; a message
+    /// is kept; a PING puts a PONG with its parameters into the outlet to the network, where there
+    /// is room. For a loss each session is sent that we leave the channels. A session whose outlet
+    /// has no room is cut.
+    ///
+    /// After an error the item is held and nothing else has changed; the next pump tries it again.
+    /// `Spent` comes exactly where the item is a message for which there is no number, and before
+    /// memory is asked for. `OutOfMemory` is told where an allocation was refused.
+    pub fn pump(&mut self) -> Result<Pumped, HubError>
+        ensures step { Pumps I.alone O.alone self.old result self.new }
+    {
+        let Some((item, moment)) = next_item(&mut self.held, &mut self.inlet) else {
+            return Ok(Pumped::Nothing);
+        };
+        let (entry, pong) = match prepare_item(
+            self.alloc,
+            &self.view,
+            &mut self.sessions,
+            &self.history,
+            &item,
+            moment,
+            None,
+            &mut self.made,
+        ) {
+            Ok(made) => made,
+            Err(e) => {
+                self.held = Some((item, moment));
+                return Err(e);
+            }
+        };
+        if let Err(e) = self.view.take(&item) {
+            self.held = Some((item, moment));
+            return Err(HubError::OutOfMemory);
+        }
+        self.images = self.images.saturating_add(images_of(&item, &self.made));
+        self.online = online_after(self.online, &item);
+        keep(&mut self.history, entry);
+        put(&mut self.upstream, pong);
+        let cut = deliver(&mut self.sessions);
+        Ok(Pumped::Taken { cut })
+    }
+}

@@ -1,0 +1,188 @@
+//! What clients say.
+
+ghost use Rattle.std.specs.Prelude.{◌≡◌, ◌∷◌, ◌<◌, [], None, Some, true, IsSome, IfErr, IfOk, IsTrue, false, option_map};
+ghost use Rattle.std.specs.List.{list_any};
+ghost use Rattle.irc_line.specs.Line.{has_command};
+ghost use Rattle.irc_line.specs.Writing.{untagged_line};
+ghost use Rattle.client_caps.specs.Answers.{answer_to};
+ghost use Rattle.history.specs.Entry.{is_message};
+ghost use Rattle.hub_core.specs.Online.{is_online};
+ghost use Rattle.hub_core.specs.Saying.{Forwards, Sent, meaning, meant_by, sent_up};
+ghost use Rattle.hub_core.specs.States.{heard};
+ghost use Rattle.hub_core.specs.Saying.{unheard_commands};
+
+use crate::deliver::deliver;
+use crate::hub::{Hub, HubError};
+use crate::pump::{images_of, keep, prepare_item};
+use client_caps::{Asked, Caps, Moment, answer};
+use history::is_message;
+use hub_ends::{Inlet, Outlet, SessionId};
+use irc_line::Line;
+use net_view::{Item, NetworkView, OutOfMemory};
+use std::alloc::Global;
+use welcome::Packet;
+
+/// What was done of a line that a client said.
+#[derive(Clone, Copy, Debug, PartialEq, Eq)]
+pub enum Said {
+    /// No session has the number.
+    NoSession,
+    /// It is QUIT: the caller detaches the session.
+    Quit,
+    /// It was answered, or needs no answer.
+    Answered,
+    /// It was to be answered, and the session was cut, since its outlet was full.
+    Cut,
+    /// It is for the network, which has not taken us in, or the connection is lost.
+    Offline,
+    /// The outlet to the network is full.
+    Busy,
+    /// It went to the network, and a message to the other sessions.
+    Forwarded,
+}
+
+/// What a client's line means for its hub.
+#[derive(Clone, Copy, Debug, PartialEq, Eq)]
+pub enum Meant {
+    /// The session ends: QUIT.
+    Quits,
+    /// Nothing: PASS, USER, PONG, AUTHENTICATE, CAP END.
+    Nothing,
+    /// It is answered by us: PING, and CAP but for END.
+    Asks,
+    /// It is for the network.
+    Forwards,
+}
+
+/// Whether this is what only two neighbours say to each other, or of a login.
+fn is_unheard(line: &Line) -> bool
+    ensures { result ≡ list_any (has_command line.now) unheard_commands }
+{
+    line.is(b"PASS") || line.is(b"USER") || line.is(b"PONG") || line.is(b"AUTHENTICATE")
+}
+
+/// What a line means by what it asks of us.
+fn meant_by(asked: Asked) -> Meant
+    ensures { result ≡ meant_by asked }
+{
+    match asked {
+        Asked::Nothing => Meant::Forwards,
+        Asked::End => Meant::Nothing,
+        Asked::Offered | Asked::Held | Asked::Change | Asked::Unknown | Asked::Ping => Meant::Asks,
+    }
+}
+
+/// What a line means.
+fn meaning(line: &Line) -> Meant
+    ensures { result ≡ meaning line.now }
+{
+    if line.is(b"QUIT") {
+        Meant::Quits
+    } else if is_unheard(line) {
+        Meant::Nothing
+    } else {
+        meant_by(Asked::of(line))
+    }
+}
+
+/// The answer to a line of a client with these capabilities.
+fn answer_to<V: NetworkView>(
+    alloc: Global,
+    view: &V,
+    caps: Caps,
+    line: &Line,
+) -> Result<Option<Packet>, OutOfMemory>
+    ensures { IfOk result (λ packet. packet ≡ option_map (λ l. l ∷ [])
+        (answer_to (V.view view.now).own caps false line.now)) }
+{
+    view.comes_from_lines();
+    match answer(alloc, view.own(), caps, false, line)? {
+        Some(line) => Ok(Some(Packet::one(alloc, &line)?)),
+        None => Ok(None),
+    }
+}
+
+/// The packet of a line as the network is sent it.
+fn upward(alloc: Global, line: &Line) -> Result<Packet, OutOfMemory>
+    ensures { IfOk result (λ packet. packet ≡ sent_up line.now ∷ []) }
+{
+    let bare = line.copy_as_in(alloc, None, line.command())?;
+    Packet::one(alloc, &bare)
+}
+
+/// A line as from us.
+fn from_us<V: NetworkView>(alloc: Global, view: &V, line: &Line) -> Result<Line, OutOfMemory>
+    ensures { IfOk result (λ own. own
+        ≡ untagged_line (V.view view.now).own line.now.command line.now.params) }
+{
+    view.comes_from_lines();
+    line.copy_as_in(alloc, view.own(), line.command())
+}
+
+impl<V: NetworkView + Drop, I: Inlet, O: Outlet> Hub<V, I, O> {
+    /// Sends a message of ours to the network, and to the sessions but the speaker's.
+    fn spread(
+        &mut self,
+        id: SessionId,
+        packet: Packet,
+        line: &Line,
+        moment: Moment,
+    ) -> Result<Said, HubError>
+        requires online { is_online (heard self.old) ≡ true }
+        requires packet { packet ≡ sent_up line.now ∷ [] }
+        requires message { is_message line.now ≡ true }
+        requires number { IsSome self.old.history.next }
+        requires room { 0 < self.old.upstream.free }
+        ensures ok { IfOk result (λ said. (said ≡ Said.Forwarded) ×
+            Forwards O.alone self.old id line.now moment.0 self.new) }
+        ensures err { IfErr result (λ e. (e ≡ HubError.OutOfMemory) × (self.new ≡ self.old)) }
+    {
+        let own = Item::Line(from_us(self.alloc, &self.view, line)?);
+        let (entry, _) = prepare_item(
+            self.alloc,
+            &self.view,
+            &mut self.sessions,
+            &self.history,
+            &own,
+            moment,
+            Some(id),
+            &mut self.made,
+        )?;
+        match self.upstream.offer(packet) {
+            Ok(()) => {}
+            Err(_) => unreachable!(),
+        }
+        self.images = self.images.saturating_add(images_of(&own, &self.made));
+        keep(&mut self.history, entry);
+        deliver(&mut self.sessions);
+        Ok(Said::Forwarded)
+    }
+
+    /// Sends a line to the network, and a message to the other sessions.
+    fn forward(&mut self, id: SessionId, line: &Line, moment: Moment) -> Result<Said, HubError>
+        ensures { Sent O.alone self.old id line.now moment.0 result self.new }
+    {
+        if !self.online {
+            return Ok(Said::Offline);
+        }
+        let is_for_all = is_message(line);
+        if is_for_all && self.history.next_number().is_none() {
+            return Err(HubError::Spent);
+        }
+        if !self.upstream.room() {
+            return Ok(Said::Busy);
+        }
+        let packet = match upward(self.alloc, line) {
+            Ok(packet) => packet,
+            Err(_) => return Err(HubError::OutOfMemory),
+        };
+        if is_for_all {
+            return self.spread(id, packet, line, moment);
+        }
+        match self.upstream.offer(packet) {
+            Ok(()) => {}
+            Err(_) => unreachable!(),
+        }
+        Ok(Said::Forwarded)
+    }
+}

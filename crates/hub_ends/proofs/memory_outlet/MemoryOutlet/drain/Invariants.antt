@@ -1,0 +1,15 @@
+use Rattle.std.proofs.Common.{◌≡◌, ◌+◌, ◌-◌, ◌≤◌}
+use Rattle.std.specs.Vec.{vec_len, vec_capacity}
+use Rattle.std.specs.VecDeque.{deque_len}
+use Rattle.hub_ends.specs.Memory.{sent_of}
+use Rattle.hub_ends.proofs.memory_outlet.MemoryOutlet.drain.Given as goal
+
+abbrev pub invariant-loop : goal.invariant-loop
+invariant-loop l = record {
+  sent : sent_of l.self ≡ sent_of l.fn.self;
+  closed : l.self.closed ≡ l.fn.self.closed;
+  capacity : l.self.capacity ≡ l.fn.self.capacity;
+  waiting : deque_len l.self.waiting + l.counter ≡ deque_len l.fn.self.waiting;
+  room : vec_len l.self.drained + (l.taken - l.counter) ≤ vec_capacity l.self.drained;
+  within : l.taken ≤ deque_len l.fn.self.waiting;
+}
