@@ -1,5 +1,6 @@
 pub mod WordsLemmas
 pub mod ReportLemmas
 pub mod ModeLemmas
+pub mod AttachLemmas
 pub mod MemberLemmas
 pub mod StreamLemmas

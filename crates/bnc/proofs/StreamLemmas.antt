@@ -16,7 +16,7 @@ use Rattle.irc_line.specs.declared.splitter.FeedError.{FeedError}
 use Rattle.irc_line.specs.declared.splitter.FeedError.TheVariants.{TooLong, OutOfMemory}
 use Rattle.net_view.specs.Arrival.{Received}
 use Rattle.bnc.specs.declared.fault.Fault.{Fault}
-use Rattle.bnc.specs.declared.fault.Fault.TheVariants.{CannotRead, CannotWrite, LineTooLong}
+use Rattle.bnc.specs.declared.fault.Fault.TheVariants.{CannotRead, CannotWrite, LineTooLong, NotReady}
 use Rattle.bnc.specs.declared.fault.Fault.TheVariants.{OutOfMemory as FaultOfMemory, Settings}
 use Rattle.bnc.specs.Stream.{IsPieceRefusal, IsRefusal, transcript_of}
 use Rattle.bnc.specs.Faults.{piece_fault, reading_fault}
@@ -120,6 +120,7 @@ pub refused_piece : (bytes : List ℕ) (fault : Fault) → IsPieceRefusal bytes 
 refused_piece bytes CannotRead h = absurd h
 refused_piece bytes CannotWrite h = h
 refused_piece bytes LineTooLong h = h
+refused_piece bytes NotReady h = absurd h
 refused_piece bytes FaultOfMemory h = h
 refused_piece bytes (Settings fault) h = h
 

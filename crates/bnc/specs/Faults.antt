@@ -7,13 +7,14 @@ use Rattle.irc_line.specs.declared.splitter.FeedError.TheVariants as feed
 use Rattle.bnc_config.specs.ConfigFault as config
 use Rattle.bnc.specs.declared.fault.Fault.{Fault}
 use Rattle.bnc.specs.declared.fault.Fault.TheVariants.{CannotRead, CannotWrite, LineTooLong}
-use Rattle.bnc.specs.declared.fault.Fault.TheVariants.{OutOfMemory, Settings}
+use Rattle.bnc.specs.declared.fault.Fault.TheVariants.{NotReady, OutOfMemory, Settings}
 
 -- the text that a fault is told as
 abbrev pub text_of : Fault → List ℕ
 text_of CannotRead = codes "cannot read"
 text_of CannotWrite = codes "cannot write"
 text_of LineTooLong = codes "line too long"
+text_of NotReady = codes "not ready"
 text_of OutOfMemory = codes "out of memory"
 text_of (Settings fault) = config.text_of fault
 

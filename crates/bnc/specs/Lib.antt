@@ -1,3 +1,4 @@
+pub mod Attach
 pub mod Check
 pub mod Command
 pub mod Faults

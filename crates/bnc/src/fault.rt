@@ -20,6 +20,8 @@ pub enum Fault {
     CannotWrite,
     /// More than 16,384 bytes of the input stand without LF.
     LineTooLong,
+    /// The network that the input tells of is not ready: no 376, 422 or JOIN came after its welcome.
+    NotReady,
     /// An allocation was refused.
     OutOfMemory,
     /// The settings file has a fault, or memory for it was refused.
@@ -74,6 +76,7 @@ impl fmt::Display for Fault {
             Fault::CannotRead => write!(f, "cannot read"),
             Fault::CannotWrite => write!(f, "cannot write"),
             Fault::LineTooLong => write!(f, "line too long"),
+            Fault::NotReady => write!(f, "not ready"),
             Fault::OutOfMemory => write!(f, "out of memory"),
             Fault::Settings(fault) => write!(f, "{fault}"),
         }

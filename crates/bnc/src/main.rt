@@ -4,12 +4,15 @@
 ghost use Rattle.std.specs.Prelude.{◌≡◌};
 ghost use Rattle.std.specs.Process.{exit_status};
 
+mod attach;
 mod check;
 mod fault;
+mod input;
 mod report;
 mod view;
 mod words;
 
+use crate::attach::run_attach;
 use crate::check::check_file;
 use crate::fault::Fault;
 use crate::view::run_view;
@@ -69,6 +72,13 @@ fn refuse_words<R: AllocGlobal + Env + Eprint>(rt: &R) -> ExitCode
 fn run<R: AllocGlobal + Files + Input + Print>(rt: &R, command: &Command) -> Result<(), Fault> {
     match command {
         Command::View => run_view(rt.alloc(), &mut rt.reader(), &mut io::writer(rt)),
+        Command::Attach(caps, history) => run_attach(
+            rt.alloc(),
+            &mut rt.reader(),
+            &mut io::writer(rt),
+            *caps,
+            *history,
+        ),
         Command::Check(path) => check_file(rt, path.as_str()),
     }
 }

@@ -1,12 +1,18 @@
 //! The command line.
 
-ghost use Rattle.std.specs.Prelude.{◌≡◌, IfErr, IfOk, false, map};
-ghost use Rattle.clap.specs.Words.{app_of, kind_of, rule_of};
+ghost use Rattle.std.specs.Prelude.{◌≡◌, ℕ, IfErr, IfNone, IfOk, IfSome, codes, false, map};
+ghost use Rattle.clap.specs.Words.{app_of, found_of, kind_of, rows_of, rule_of};
+ghost use Rattle.clap.specs.Words.{with_subcommand};
+ghost use Rattle.client_caps.specs.Caps.{no_caps};
+ghost use Rattle.client_caps.specs.Request.{request_of};
 ghost use Rattle.bnc.specs.Command.{AsksFor, IsCauseOf, IsExplained, IsOfKind, bare_app, bnc_app};
-ghost use Rattle.bnc.specs.Command.{file_rule};
+ghost use Rattle.bnc.specs.Command.{IsCommandCause, IsCommandOf, IsHistory, attach_app, caps_rule};
+ghost use Rattle.bnc.specs.Command.{file_rule, history_rule, space_for_comma, spaced};
 
+use clap::builder::ValueParser;
 use clap::error::ErrorKind;
-use clap::{Arg, ArgAction};
+use clap::{Arg, ArgAction, ArgMatches};
+use client_caps::{Caps, read_request};
 use std::alloc::{AllocError, AllocFailed, Global};
 use thiserror::Error;
 
@@ -15,6 +21,9 @@ use thiserror::Error;
 pub enum Command {
     /// `view`: to report what the standard input, a network's lines, says of the network.
     View,
+    /// `attach [--caps LIST] [--history N]`: to write what a client with these capabilities is sent
+    /// that comes behind the standard input, a network's lines, with the last N messages.
+    Attach(Caps, usize),
     /// `check FILE`: to check a settings file.
     Check(String),
 }
@@ -67,6 +76,33 @@ fn file_argument<'a>(alloc: Global) -> Arg<'a>
         .help("The settings file")
 }
 
+/// `--caps LIST`.
+fn caps_argument<'a>(alloc: Global) -> Arg<'a>
+    ensures rule { rule_of result ≡ caps_rule }
+    ensures local { result.global ≡ false }
+{
+    Arg::new(alloc, "caps")
+        .long("caps")
+        .action(ArgAction::Set)
+        .value_name("LIST")
+        .default_value("")
+        .help("Capabilities of the client, with commas between them")
+}
+
+/// `--history N`.
+fn history_argument<'a>(alloc: Global) -> Arg<'a>
+    ensures rule { rule_of result ≡ history_rule }
+    ensures local { result.global ≡ false }
+{
+    Arg::new(alloc, "history")
+        .long("history")
+        .action(ArgAction::Set)
+        .value_name("N")
+        .value_parser(ValueParser::unsigned(1, 10_000))
+        .default_value("500")
+        .help("How many of the last messages are played back at most")
+}
+
 /// `bnc COMMAND`, without the commands.
 fn bnc_grammar<'a>(alloc: Global) -> Result<clap::Command<'a>, AllocError>
     ensures { IfOk result (λ command. app_of command ≡ bare_app) }
@@ -78,6 +114,23 @@ fn bnc_grammar<'a>(alloc: Global) -> Result<clap::Command<'a>, AllocError>
             .subcommand_required(true)
             .bin_name("bnc")?,
     )
+}
+
+/// A command with `attach [--caps LIST] [--history N]` beneath it.
+fn add_attach<'a>(
+    alloc: Global,
+    command: clap::Command<'a>,
+) -> Result<clap::Command<'a>, AllocError>
+    ensures { IfOk result (λ added. app_of added
+        ≡ with_subcommand (app_of command.entry) attach_app.top) }
+{
+    let bare = clap::Command::new(alloc, "attach").about(
+        "Reads the lines of a network and writes what a client is sent that comes then",
+    );
+    let with_caps = bare.arg(caps_argument(alloc))?;
+    let attach = with_caps.arg(history_argument(alloc))?;
+    let added = command.subcommand(attach)?;
+    Ok(added)
 }
 
 /// The grammar of the words after the program's name.
@@ -92,7 +145,8 @@ fn grammar<'a>(alloc: Global) -> Result<clap::Command<'a>, AllocError>
     );
     let bare = bnc_grammar(alloc)?;
     let with_view = bare.subcommand(view)?;
-    let bnc = with_view.subcommand(check)?;
+    let with_attach = add_attach(alloc, with_view)?;
+    let bnc = with_attach.subcommand(check)?;
     Ok(bnc)
 }
 
@@ -110,6 +164,80 @@ fn fault_of(alloc: Global, error: &clap::Error) -> WordsFault
     }
 }
 
+/// A space in place of a comma.
+fn space_for_comma(byte: u8) -> u8
+    ensures { result ≡ space_for_comma byte }
+{
+    match byte {
+        b',' => b' ',
+        _ => byte,
+    }
+}
+
+/// The capabilities of a list of names with commas between; `None` where a name is of none.
+fn caps_in(alloc: Global, list: &str) -> Result<Option<Caps>, AllocError>
+    ensures { IfOk result (λ caps. caps ≡ request_of no_caps (spaced list.now)) }
+{
+    let bytes = list.as_bytes();
+    let words: Vec<u8> = bytes
+        .iter()
+        .map(|byte| space_for_comma(*byte))
+        .collect(alloc)?;
+    Ok(read_request(Caps::none(), &words))
+}
+
+/// The number of messages that a text asks for, 1 to 10,000 in decimal digits.
+fn history_in(text: &str) -> Option<usize>
+    ensures some { IfSome result (IsHistory text.now) }
+    ensures none { IfNone result ((n : ℕ) → IsHistory text.now n → ⊥) }
+{
+    match text.parse::<usize>() {
+        Ok(count) if 1 <= count && count <= 10_000 => Some(count),
+        _ => None,
+    }
+}
+
+/// What `attach` asks for with these options.
+fn read_attach<'a>(alloc: Global, matches: &ArgMatches<'a>) -> Result<Command, WordsFault>
+    ensures read { IfOk result (IsCommandOf (codes "attach") (rows_of (found_of matches.now))) }
+    ensures refused { IfErr result (IsCommandCause (codes "attach")
+        (rows_of (found_of matches.now))) }
+{
+    let Some(list) = matches.get_str("caps") else {
+        return Err(WordsFault::Bad);
+    };
+    let Some(text) = matches.get_str("history") else {
+        return Err(WordsFault::Bad);
+    };
+    let Some(history) = history_in(text) else {
+        return Err(WordsFault::Bad);
+    };
+    match caps_in(alloc, list)? {
+        Some(caps) => Ok(Command::Attach(caps, history)),
+        None => Err(WordsFault::Bad),
+    }
+}
+
+/// What the command of this name asks for with these arguments.
+fn read_command<'a>(
+    alloc: Global,
+    name: &str,
+    matches: &ArgMatches<'a>,
+) -> Result<Command, WordsFault>
+    ensures read { IfOk result (IsCommandOf name.now (rows_of (found_of matches.now))) }
+    ensures refused { IfErr result (IsCommandCause name.now (rows_of (found_of matches.now))) }
+{
+    match name {
+        "view" => Ok(Command::View),
+        "attach" => read_attach(alloc, matches),
+        "check" => match matches.get_str("file") {
+            Some(file) => Ok(Command::Check(String::from_str(alloc, file)?)),
+            None => Err(WordsFault::Bad),
+        },
+        _ => Err(WordsFault::Bad),
+    }
+}
+
 /// Reads the words after the program's name.
 pub fn read_words<'a>(alloc: Global, words: &'a [&'a str]) -> Result<Command, WordsFault>
     ensures read { IfOk result (AsksFor (map (λ word. word.now) words.now)) }
@@ -120,12 +248,8 @@ pub fn read_words<'a>(alloc: Global, words: &'a [&'a str]) -> Result<Command, Wo
         Err(error) => return Err(fault_of(alloc, &error)),
     };
     match matches.subcommand() {
-        Some(("check", inner)) => match inner.get_str("file") {
-            Some(file) => Ok(Command::Check(String::from_str(alloc, file)?)),
-            None => Err(WordsFault::Bad),
-        },
-        Some(("view", _)) => Ok(Command::View),
-        _ => Err(WordsFault::Bad),
+        Some((name, inner)) => read_command(alloc, name, inner),
+        None => Err(WordsFault::Bad),
     }
 }
 
@@ -168,6 +292,7 @@ mod tests {
         let command = read_words(alloc, &["check", "bnc.toml"])?;
         assert!(rt; matches!(&command, Command::Check(file) if file.as_str() == "bnc.toml"));
         assert!(rt; matches!(read_words(alloc, &["view"])?, Command::View));
+        assert!(rt; matches!(read_words(alloc, &["attach"])?, Command::Attach(_, 500)));
         assert!(rt; matches!(read_words(alloc, &["--help"]), Err(WordsFault::Help(_))));
         assert!(rt; matches!(read_words(alloc, &["help"]), Err(WordsFault::Help(_))));
         assert!(rt;
@@ -206,6 +331,53 @@ mod tests {
         assert!(rt; told.as_str().contains("<FILE>"));
         assert!(rt; explain_words(rt.alloc(), &["check", "a"])?.is_none());
         assert!(rt; explain_words(rt.alloc(), &["--help"])?.is_none());
+        Ok(())
+    }
+
+    #[test]
+    fn lists_of_capabilities(rt: HostRuntime) -> Result<(), Fail> {
+        let alloc = rt.alloc();
+        let rows: [(&str, Option<&[u8]>); 5] = [
+            ("", Some(b"")),
+            ("batch", Some(b"batch")),
+            ("batch,server-time", Some(b"server-time batch")),
+            ("multi-prefix,-multi-prefix", Some(b"")),
+            ("batch,sasl", None),
+        ];
+        for (list, want) in rows {
+            let caps = match read_words(alloc, &["attach", "--caps", list]) {
+                Ok(Command::Attach(caps, 500)) => Some(caps),
+                Err(WordsFault::Bad) => None,
+                _ => return Err("neither a list nor a fault".into()),
+            };
+            let wanted = match want {
+                Some(text) => read_request(Caps::none(), text),
+                None => None,
+            };
+            assert_eq!(rt; caps, wanted);
+        }
+        Ok(())
+    }
+
+    #[test]
+    fn numbers_of_messages(rt: HostRuntime) -> Result<(), Fail> {
+        let alloc = rt.alloc();
+        let good = read_words(alloc, &["attach", "--history", "10000", "--caps", "batch"])?;
+        assert!(rt; matches!(&good, Command::Attach(caps, 10_000) if caps.batch));
+        assert!(rt;
+            matches!(
+                read_words(alloc, &["attach", "--history=1"])?,
+                Command::Attach(_, 1)
+            )
+        );
+        for text in ["0", "10001", "", "many", "-1", "18446744073709551616"] {
+            assert!(rt;
+                matches!(
+                    read_words(alloc, &["attach", "--history", text]),
+                    Err(WordsFault::Bad)
+                )
+            );
+        }
         Ok(())
     }
 

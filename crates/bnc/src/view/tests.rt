@@ -1,7 +1,8 @@
 //! Tests of `run_view`.
 
 use super::*;
-use std::io;
+use crate::input::PIECE;
+use std::io::{self, ErrorKind};
 use std::test::Fail;
 
 const WELCOME: &str = ":s 001 Me :hi\r\n";

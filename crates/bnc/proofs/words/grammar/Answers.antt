@@ -1,6 +1,6 @@
 use Rattle.std.proofs.Common.{◌≡◌, ap, ap₂, ◌∙◌, codes, rules}
 use Rattle.clap.specs.Words.{App, app_of, new_app, with_rule, with_subcommand}
-use Rattle.bnc.specs.Command.{check_app, view_app}
+use Rattle.bnc.specs.Command.{attach_app, check_app, view_app}
 use Rattle.bnc.proofs.words.grammar.Goals as goal
 
 pub returns : goal.returns
@@ -13,5 +13,7 @@ returns c =
     let both_is =
     c.in_ok-with_view.ensures.shape (search rules)
     ∙ ap₂ with_subcommand c.in_ok-bare.ensures (ap (λ (a : App). a.top) view_is) in
+    let three_are =
+    c.in_ok-with_attach.ensures ∙ ap (λ (a : App). with_subcommand a attach_app.top) both_is in
     c.in_ok-bnc.ensures.shape (search rules)
-    ∙ ap₂ with_subcommand both_is (ap (λ (a : App). a.top) check_is)
+    ∙ ap₂ with_subcommand three_are (ap (λ (a : App). a.top) check_is)

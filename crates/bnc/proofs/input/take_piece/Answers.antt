@@ -1,10 +1,9 @@
-use Rattle.std.proofs.Common.{◌++◌, ap, ◌∙◌}
-use Rattle.net_view.specs.View.{view_of}
+use Rattle.std.proofs.Common.{◌++◌, subst}
 use Rattle.bnc.specs.declared.fault.Fault.TheVariants.{OutOfMemory}
 use Rattle.bnc.specs.Faults.{piece_fault}
 use Rattle.bnc.specs.Stream.{IsPieceRefusal, transcript_of}
 use Rattle.bnc.proofs.StreamLemmas.{refusal_at, refused_by, short_at, split_more, taken_at}
-use Rattle.bnc.proofs.view.take_piece.Goals as goal
+use Rattle.bnc.proofs.input.take_piece.Goals as goal
 
 pub returns-in_err-feed-clause-refused : goal.returns-in_err-feed-clause-refused
 returns-in_err-feed-clause-refused g c bytes split short =
@@ -23,10 +22,10 @@ returns-in_err-take_lines-clause-refused g c bytes split short =
 
 pub returns-clause-taken : goal.returns-clause-taken
 returns-clause-taken g c bytes split known =
-    c.in_ok-take_lines.ensures.taken (transcript_of bytes) known
-    ∙ ap view_of
+    subst (λ t. g.T.Taker.is_after c.take_lines.new.taker t)
     (taken_at c.args.splitter.now bytes c.args.piece.now c.args.lines.now.items
     c.feed.new.out.items split c.requires.no_lines c.in_ok-feed.ensures.lines)
+    (c.in_ok-take_lines.ensures.taken (transcript_of bytes) known)
 
 pub returns-clause-split : goal.returns-clause-split
 returns-clause-split g c bytes split =

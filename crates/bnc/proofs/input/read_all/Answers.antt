@@ -2,14 +2,13 @@ use Rattle.std.proofs.Common.{◌≡◌, ◌<◌, ℕ, List, ◌++◌, [], refl,
 use Rattle.std.proofs.Common.{length, false}
 use Rattle.std.specs.Io.KnownBytes.{Consumes}
 use Rattle.std.specs.IoError.{error_kind}
-use Rattle.net_view.specs.View.{view_of}
 use Rattle.irc_line.specs.Lines.{fed, is_too_long, start}
 use Rattle.bnc.specs.Stream.{IsPieceRefusal, IsRefusal, transcript_of}
 use Rattle.bnc.proofs.StreamLemmas.{consumes_end, consumes_kept, consumes_more, consumes_nil}
 use Rattle.bnc.proofs.StreamLemmas.{piece_is, reading_refusal, refused_by, refused_piece}
 use Rattle.bnc.proofs.StreamLemmas.{skipped_at, split_nothing}
-use Rattle.bnc.proofs.view.read_all.Goals.{in-Ok+in_ok-take_piece-in-Ok, in-Err+else-ne}
-use Rattle.bnc.proofs.view.read_all.Goals as goal
+use Rattle.bnc.proofs.input.read_all.Goals.{in-Ok+in_ok-take_piece-in-Ok, in-Err+else-ne}
+use Rattle.bnc.proofs.input.read_all.Goals as goal
 
 pub loop-init : goal.loop-init
 loop-init g c = (
@@ -17,6 +16,7 @@ loop-init g c = (
   consumes_nil (g.R.Read.remaining c.args.reader.now),
   refl,
   c.requires.new,
+  refl,
   c.new-splitter.ensures
       ∙ split_nothing,
   c.new-lines.ensures.items,
@@ -28,7 +28,7 @@ returns-in-Ok-eq0-clause-read g c =
     let so_far = c.loop.invariant in
     let gave = rw c.in-Ok-eq0.is at c.read.ensures.bytes in
     let room : 0 < length c.read.new.buf =
-    omega (arith, c.read.auto.buf, c.deref_mut.ensures.len, so_far.6) in
+    omega (arith, c.read.auto.buf, c.deref_mut.ensures.len, so_far.7) in
     let left = g.R.Read.remaining in (
       so_far.0,
       consumes_end (left c.args.reader.now) (left c.loop.reader) (left c.read.new.self) so_far.0
@@ -36,7 +36,8 @@ returns-in-Ok-eq0-clause-read g c =
       gave.1 c.in-Ok-eq0.field-0-test room,
       so_far.2,
       so_far.3,
-      c.skipped.ensures ∙ skipped_at c.loop.splitter so_far.0 so_far.4,
+      so_far.4,
+      c.skipped.ensures ∙ skipped_at c.loop.splitter so_far.0 so_far.5,
     )
 
 pub returns-in_err-take_piece-in-Ok-clause-refused
@@ -57,7 +58,7 @@ returns-in_err-take_piece-in-Ok-clause-refused g c =
           gave so_far.1 c.in-Ok.ensures.bytes.0,
       refused_piece (so_far.0 ++ gave) c.in_err-take_piece-in-Ok.field-0.0
           (subst (λ t. IsPieceRefusal (so_far.0 ++ t) c.in_err-take_piece-in-Ok.field-0.0) same
-          (c.in_err-take_piece-in-Ok.ensures.refused so_far.0 so_far.4 so_far.2)),
+          (c.in_err-take_piece-in-Ok.ensures.refused so_far.0 so_far.5 so_far.2)),
     )
 
 pub returns-then-ne-clause-refused : goal.returns-then-ne-clause-refused
@@ -82,23 +83,24 @@ loop-preserved g c =
           piece_is w.deref.result.now c.read.new.buf
           (drop (length c.read.new.buf) c.loop.buffer.items) c.loop.buffer.len w.in-Ok.count
           w.deref.ensures.value (c.read.auto.buf ∙ c.deref_mut.ensures.len) in
-          rw (w.view-is, w.splitter-is, w.lines-is) (
+          rw (w.taker-is, w.splitter-is, w.lines-is) (
             so_far.0 ++ gave,
             consumes_more (left c.args.reader.now) (left c.loop.reader) (left c.read.new.self)
                 so_far.0 gave so_far.1 w.in-Ok.ensures.bytes.0,
             subst (λ t. is_too_long (so_far.0 ++ t)
-                ≡ false) same (w.in_ok-take_piece-in-Ok.ensures.short so_far.0 so_far.4 so_far.2),
-            subst (λ t. g.V.NetworkView.view w.take_piece.new.view
-                ≡ view_of (transcript_of (so_far.0 ++ t))) same
-                (w.in_ok-take_piece-in-Ok.ensures.taken so_far.0 so_far.4 so_far.3),
+                ≡ false) same (w.in_ok-take_piece-in-Ok.ensures.short so_far.0 so_far.5 so_far.2),
+            subst (λ t. g.T.Taker.is_after w.take_piece.new.taker
+                (transcript_of (so_far.0 ++ t))) same
+                (w.in_ok-take_piece-in-Ok.ensures.taken so_far.0 so_far.5 so_far.3),
+            w.in_ok-take_piece-in-Ok.ensures.kept ∙ so_far.4,
             subst (λ t. w.take_piece.new.splitter
                 ≡ fed start (so_far.0 ++ t)) same
-                (w.in_ok-take_piece-in-Ok.ensures.split so_far.0 so_far.4),
+                (w.in_ok-take_piece-in-Ok.ensures.split so_far.0 so_far.5),
             w.in_ok-take_piece-in-Ok.ensures.emptied,
-            so_far.6,
+            so_far.7,
           )
       | in-Err+else-ne w ↦
-          rw (w.view-is, w.splitter-is, w.lines-is) (
+          rw (w.taker-is, w.splitter-is, w.lines-is) (
             so_far.0,
             consumes_kept (left c.args.reader.now) (left c.loop.reader) (left c.read.new.self)
                 so_far.0 so_far.1 w.in-Err.ensures.bytes,
@@ -107,5 +109,6 @@ loop-preserved g c =
             so_far.4,
             so_far.5,
             so_far.6,
+            so_far.7,
           )
     ]
