@@ -36,9 +36,6 @@ fn asked(text: &[u8]) -> Result<Caps, Fail> {
 /// The text of the image of a line; `-` where there is none.
 fn image_text(alloc: Global, view: &TapeView, caps: Caps, text: &[u8]) -> Result<Vec<u8>, Fail> {
     let mut out = Vec::new(alloc);
-    if caps.server_time {
-        return Ok(out);
-    }
     match image(alloc, view, caps, &line(alloc, text)?, Moment(0))? {
         Some(image) => image.write(&mut out)?,
         None => out.push(b'-')?,

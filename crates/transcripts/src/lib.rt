@@ -5,9 +5,19 @@
 #[cfg(test)]
 mod clients;
 #[cfg(test)]
+mod kept_messages;
+#[cfg(test)]
 mod lines;
 #[cfg(test)]
+mod login;
+#[cfg(test)]
+mod moments;
+#[cfg(test)]
 mod names;
+#[cfg(test)]
+mod playback;
+#[cfg(test)]
+mod quick;
 #[cfg(test)]
 mod registration;
 #[cfg(test)]

@@ -1,6 +1,7 @@
 //! Registrations at networks, line by line.
 
 mod servers;
+mod states;
 mod streams;
 
 use bnc_config::{Config, Place};

@@ -3,12 +3,13 @@
 use irc_line::Line;
 use irc_support::Ranks;
 use net_view::{Item, NetworkView, StateCommand, Telling, is_state_line, is_word, told};
+use quick_view::QuickView;
 use std::alloc::Global;
 use std::process::Abort;
 use std::test::Fail;
 use tape_view::TapeView;
 
-fn item(alloc: Global, text: &[u8]) -> Result<Item, Fail> {
+pub(crate) fn item(alloc: Global, text: &[u8]) -> Result<Item, Fail> {
     if text == b"lost".as_slice() {
         return Ok(Item::Lost);
     }
@@ -73,7 +74,7 @@ fn show_members<V: NetworkView>(view: &V, channel: usize, text: &mut Vec<u8>) ->
 }
 
 /// Our nick, then each channel with its modes, its topic in brackets and its members, in order.
-fn shown<V: NetworkView>(alloc: Global, view: &V) -> Result<Vec<u8>, Fail> {
+pub(crate) fn shown<V: NetworkView>(alloc: Global, view: &V) -> Result<Vec<u8>, Fail> {
     let mut text = Vec::new(alloc);
     if let Some(nick) = view.own() {
         text.extend_from_slice(nick)?;
@@ -93,13 +94,16 @@ fn shown<V: NetworkView>(alloc: Global, view: &V) -> Result<Vec<u8>, Fail> {
     Ok(text)
 }
 
-/// What a view shows after each of these texts.
+/// What both views show after each of these texts.
 fn check_rows<R: AllocGlobal + Abort>(rt: &R, rows: &[(&[u8], &[u8])]) -> Result<(), Fail> {
-    let mut view = TapeView::new(rt.alloc())?;
+    let mut tape = TapeView::new(rt.alloc())?;
+    let mut quick = QuickView::new(rt.alloc())?;
     for (text, wanted) in rows {
-        view.take(&item(rt.alloc(), text)?)?;
-        let shown = shown(rt.alloc(), &view)?;
-        assert!(rt; shown.as_slice() == *wanted);
+        let item = item(rt.alloc(), text)?;
+        tape.take(&item)?;
+        quick.take(&item)?;
+        assert!(rt; shown(rt.alloc(), &tape)?.as_slice() == *wanted);
+        assert!(rt; shown(rt.alloc(), &quick)?.as_slice() == *wanted);
     }
     Ok(())
 }

@@ -1,0 +1,312 @@
+//! Logins of clients, line by line.
+
+mod words;
+
+use client_caps::{Caps, answer, read_request};
+use irc_line::Line;
+use sessions::{Claim, Login, LoginStep};
+use std::alloc::Global;
+use std::process::Abort;
+use std::test::Fail;
+
+/// The answer to `CAP LS`.
+const OFFER: &str =
+    ":bnc CAP * LS :multi-prefix extended-join account-notify away-notify server-time batch";
+
+/// A line of the client.
+fn line(alloc: Global, text: &str) -> Result<Line, Fail> {
+    let line = Line::<Global>::read(alloc, text.as_bytes())?;
+    Ok(line.ok_or("the text is a line")?)
+}
+
+/// The texts of lines, with ` / ` between them.
+fn texts(alloc: Global, lines: &[Line]) -> Result<Vec<u8>, Fail> {
+    let mut out = Vec::new(alloc);
+    for line in lines {
+        if !out.is_empty() {
+            out.extend_from_slice(b" / ")?;
+        }
+        line.write(&mut out)?;
+        out.truncate(out.len().saturating_sub(2));
+    }
+    Ok(out)
+}
+
+/// A claim, as `done: ann@pc/net bc batch`: without its client and `@` where it has none, and with
+/// the names of what is held.
+fn claimed(alloc: Global, claim: &Claim) -> Result<Vec<u8>, Fail> {
+    let mut out = Vec::from_slice(alloc, b"done: ")?;
+    out.extend_from_slice(claim.user.as_slice())?;
+    if let Some(client) = &claim.client {
+        out.push(b'@')?;
+        out.extend_from_slice(client.as_slice())?;
+    }
+    out.push(b'/')?;
+    out.extend_from_slice(claim.network.as_slice())?;
+    out.push(b' ')?;
+    out.extend_from_slice(claim.password.as_slice())?;
+    for place in 0..6 {
+        if claim.caps.holds(place) {
+            out.push(b' ')?;
+            out.extend_from_slice(Caps::name(place).ok_or("six names")?)?;
+        }
+    }
+    Ok(out)
+}
+
+/// What a step is: the lines that are sent, with `closed: ` in front where it is over, or the claim.
+fn told(alloc: Global, step: &LoginStep) -> Result<Vec<u8>, Fail> {
+    match step {
+        LoginStep::Send(lines) => texts(alloc, lines.as_slice()),
+        LoginStep::Done(claim) => claimed(alloc, claim),
+        LoginStep::Closed(lines) => {
+            let mut out = Vec::from_slice(alloc, b"closed: ")?;
+            out.extend_from_slice(texts(alloc, lines.as_slice())?.as_slice())?;
+            Ok(out)
+        }
+    }
+}
+
+/// Logs in; each row is a line of the client and what it is answered by.
+fn logs_in(rt: &impl Abort, alloc: Global, rows: &[(&str, &str)]) -> Result<(), Fail> {
+    let mut login = Login::new(alloc);
+    for (text, want) in rows {
+        let found = told(alloc, &login.line(&line(alloc, text)?)?)?;
+        assert!(rt; found.as_slice() == want.as_bytes(), "at {text}");
+    }
+    Ok(())
+}
+
+#[test]
+fn a_login_by_user_and_pass(rt: HostRuntime) -> Result<(), Fail> {
+    let rows = [
+        ("CAP LS 302", OFFER),
+        ("NICK x", ""),
+        ("USER ann@pc/net 0 * :A", ""),
+        ("PASS bc", ""),
+        ("CAP REQ batch", ":bnc CAP * ACK batch"),
+        ("CAP REQ :batch sasl", ":bnc CAP * NAK :batch sasl"),
+        ("CAP END", "done: ann@pc/net bc batch"),
+        ("PING x", ""),
+        ("QUIT", ""),
+    ];
+    logs_in(&rt, rt.alloc(), &rows)
+}
+
+#[test]
+fn a_login_by_pass_alone(rt: HostRuntime) -> Result<(), Fail> {
+    let rows = [
+        ("PASS ann@pc/net:bc", ""),
+        ("NICK x", ""),
+        ("USER x 0 * :A", "done: ann@pc/net bc"),
+    ];
+    logs_in(&rt, rt.alloc(), &rows)?;
+    let rows = [
+        ("USER ann@pc/net", ""),
+        ("pass bob/net:b:c", ""),
+        ("nick x", "done: bob/net b:c"),
+    ];
+    logs_in(&rt, rt.alloc(), &rows)
+}
+
+#[test]
+fn where_a_login_is_cut(rt: HostRuntime) -> Result<(), Fail> {
+    let rows = [
+        ("PASS ann@pc/net:bc", "done: ann@pc/net bc"),
+        ("PASS ann@pc/net/two:bc", "done: ann@pc/net/two bc"),
+        ("PASS ann@p@c/n@t:bc", "done: ann@p@c/n@t bc"),
+        ("PASS ann/net@x:bc", "done: ann/net@x bc"),
+        ("PASS ann@/net:bc", "done: ann/net bc"),
+        ("PASS @pc/:", "done: @pc/ "),
+        ("PASS ann/net:b:c", "done: ann/net b:c"),
+        ("PASS :ann/net:b c", "done: ann/net b c"),
+        ("PASS ann:b/c", "closed: :bnc 464 * :Password incorrect"),
+        ("PASS ::ann/net", "closed: :bnc 464 * :Password incorrect"),
+        ("PASS x", "done: eve/lan x"),
+    ];
+    for (pass, want) in rows {
+        let rows = [
+            ("NICK x", ""),
+            ("USER eve/lan 0 * :E", REMINDER),
+            (pass, want),
+            ("PING x", ""),
+        ];
+        logs_in(&rt, rt.alloc(), &rows)?;
+    }
+    Ok(())
+}
+
+/// What is sent where nothing is missing but PASS.
+const REMINDER: &str = ":bnc 464 * :Password required";
+
+#[test]
+fn a_login_without_a_network(rt: HostRuntime) -> Result<(), Fail> {
+    let rows = [
+        ("PASS x", ""),
+        ("NICK x", ""),
+        ("USER ann 0 * :A", "closed: :bnc 464 * :Password incorrect"),
+        ("USER ann/net 0 * :A", ""),
+    ];
+    logs_in(&rt, rt.alloc(), &rows)
+}
+
+#[test]
+fn a_password_that_is_missing_is_asked_for_once(rt: HostRuntime) -> Result<(), Fail> {
+    let rows = [
+        ("PASS", ""),
+        ("NICK x", ""),
+        ("USER ann/net 0 * :A", REMINDER),
+        ("NICK y", ""),
+        ("CAP LS", OFFER),
+        ("CAP END", ""),
+        ("JOIN #c", ":bnc 451 * :You have not registered"),
+        ("PASS bc", "done: ann/net bc"),
+    ];
+    logs_in(&rt, rt.alloc(), &rows)?;
+    let rows = [
+        ("CAP LS 302", OFFER),
+        ("USER ann/net 0 * :A", ""),
+        ("NICK x", ""),
+        ("CAP END", REMINDER),
+        ("PASS bc", "done: ann/net bc"),
+    ];
+    logs_in(&rt, rt.alloc(), &rows)
+}
+
+#[test]
+fn capabilities_are_held_by_the_last_request_for_each(rt: HostRuntime) -> Result<(), Fail> {
+    let rows = [
+        ("CAP LIST", ":bnc CAP * LIST :"),
+        (
+            "CAP REQ :multi-prefix batch",
+            ":bnc CAP * ACK :multi-prefix batch",
+        ),
+        ("CAP LIST", ":bnc CAP * LIST :multi-prefix batch"),
+        (
+            "CAP REQ :-batch away-notify sasl",
+            ":bnc CAP * NAK :-batch away-notify sasl",
+        ),
+        ("CAP LIST", ":bnc CAP * LIST :multi-prefix batch"),
+        (
+            "CAP REQ :away-notify -multi-prefix",
+            ":bnc CAP * ACK :away-notify -multi-prefix",
+        ),
+        ("cap list", ":bnc CAP * LIST :away-notify batch"),
+        ("CAP REQ", ":bnc CAP * ACK :"),
+        ("CAP REQ :batch -batch", ":bnc CAP * ACK :batch -batch"),
+        ("CAP LIST", ":bnc CAP * LIST away-notify"),
+        ("NICK x", ""),
+        ("USER ann/net 0 * :A", ""),
+        ("PASS bc", ""),
+        ("CAP END", "done: ann/net bc away-notify"),
+    ];
+    logs_in(&rt, rt.alloc(), &rows)
+}
+
+#[test]
+fn when_a_negotiation_is_open(rt: HostRuntime) -> Result<(), Fail> {
+    let rows = [
+        ("CAP END", ""),
+        ("CAP LIST", ":bnc CAP * LIST :"),
+        ("CAP REQ :no", ":bnc CAP * NAK no"),
+        ("NICK x", ""),
+        ("USER ann/net 0 * :A", ""),
+        ("PASS bc", ""),
+        ("NICK y", ""),
+        ("CAP LIST", ":bnc CAP * LIST :"),
+        ("CAP end", "done: ann/net bc"),
+    ];
+    logs_in(&rt, rt.alloc(), &rows)?;
+    let rows = [
+        ("CAP LS", OFFER),
+        ("CAP END", ""),
+        ("CAP LS", OFFER),
+        ("NICK x", ""),
+        ("USER ann/net 0 * :A", ""),
+        ("PASS bc", ""),
+        ("CAP END", "done: ann/net bc"),
+    ];
+    logs_in(&rt, rt.alloc(), &rows)
+}
+
+#[test]
+fn what_is_asked_before_a_login(rt: HostRuntime) -> Result<(), Fail> {
+    let rows = [
+        ("CAP FOO", ":bnc 410 * FOO :Invalid CAP command"),
+        ("CAP", ":bnc 410 * * :Invalid CAP command"),
+        ("CAP :a b", ":bnc 410 * * :Invalid CAP command"),
+        ("CAP ::x", ":bnc 410 * * :Invalid CAP command"),
+        ("CAP CLEAR x", ":bnc 410 * CLEAR :Invalid CAP command"),
+        ("PING x", ":bnc PONG bnc x"),
+        ("ping :a b", ":bnc PONG bnc :a b"),
+        ("PING", ":bnc PONG bnc"),
+        ("PING :", ":bnc PONG bnc :"),
+        (":x PING x y", ":bnc PONG bnc x"),
+        ("JOIN #c", ":bnc 451 * :You have not registered"),
+        ("PONG x", ":bnc 451 * :You have not registered"),
+        ("AUTHENTICATE PLAIN", ":bnc 451 * :You have not registered"),
+        ("NICK", ""),
+        ("USER", ""),
+        ("PASS", ""),
+        ("QUIT :bye", "closed: "),
+        ("PING x", ""),
+    ];
+    logs_in(&rt, rt.alloc(), &rows)
+}
+
+#[test]
+fn two_hundred_lines(rt: HostRuntime) -> Result<(), Fail> {
+    let alloc = rt.alloc();
+    let rows = [
+        ("PING x", "closed: "),
+        ("NICK x", "closed: "),
+        ("PASS ann/net:bc", "done: ann/net bc"),
+        ("PASS ann:bc", "closed: :bnc 464 * :Password incorrect"),
+    ];
+    for (last, want) in rows {
+        let mut login = Login::new(alloc);
+        login.line(&line(alloc, "USER x 0 * :A")?)?;
+        login.line(&line(alloc, "NICK x")?)?;
+        for _ in 2..199 {
+            let found = told(alloc, &login.line(&line(alloc, "PING x")?)?)?;
+            assert!(rt; found.as_slice() == b":bnc PONG bnc x".as_slice());
+        }
+        let found = told(alloc, &login.line(&line(alloc, last)?)?)?;
+        assert!(rt; found.as_slice() == want.as_bytes(), "at {last}");
+        assert!(rt; told(alloc, &login.line(&line(alloc, "PING x")?)?)?.is_empty());
+    }
+    Ok(())
+}
+
+#[test]
+fn what_is_asked_in_a_session(rt: HostRuntime) -> Result<(), Fail> {
+    let alloc = rt.alloc();
+    let rows = [
+        (
+            "CAP LS 302",
+            ":bnc CAP Me LS :multi-prefix extended-join account-notify away-notify server-time \
+             batch",
+        ),
+        ("CAP LIST", ":bnc CAP Me LIST :away-notify batch"),
+        ("CAP REQ batch", ":bnc CAP Me NAK batch"),
+        ("CAP REQ", ":bnc CAP Me NAK :"),
+        ("CAP END", ""),
+        ("CAP FOO", ":bnc 410 Me FOO :Invalid CAP command"),
+        ("CAP", ":bnc 410 Me * :Invalid CAP command"),
+        ("PING x", ":bnc PONG bnc x"),
+        ("PING", ":bnc PONG bnc"),
+        ("PRIVMSG #c :hi", ""),
+        ("QUIT", ""),
+    ];
+    let held = read_request(Caps::none(), b"batch away-notify").ok_or("two names")?;
+    for (text, want) in rows {
+        let found = answer(alloc, Some(b"Me"), held, false, &line(alloc, text)?)?;
+        let mut lines = Vec::new(alloc);
+        if let Some(found) = found {
+            lines.push(found)?;
+        }
+        let found = texts(alloc, lines.as_slice())?;
+        assert!(rt; found.as_slice() == want.as_bytes(), "at {text}");
+    }
+    Ok(())
+}

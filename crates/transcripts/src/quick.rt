@@ -1,0 +1,89 @@
+//! The two views beside one another, line by line.
+
+use crate::views::{item, shown};
+use net_view::NetworkView;
+use quick_view::QuickView;
+use std::process::Abort;
+use std::test::Fail;
+use tape_view::TapeView;
+
+/// Lines of two channels and a few persons, of whom some names fold to one another's.
+const LINES: [&[u8]; 32] = [
+    b":Me!m@h JOIN #c",
+    b":Me!m@h JOIN #d",
+    b":s 353 Me = #c :Me @ann +Bob",
+    b":s 353 Me = #d :@Me ann Cyd[1]",
+    b":ann!a@h JOIN #c",
+    b":ann!a@h JOIN #d annacc :Ann",
+    b":Bob!b@h JOIN #c * :Bob",
+    b":cyd{1}!c@h JOIN #C",
+    b":ann!a@h PART #c",
+    b":bob!b@h PART #C :bye",
+    b":Me!m@h PART #d",
+    b":s KICK #c ann :out",
+    b":s KICK #d Me :out",
+    b":bob!b@h QUIT :gone",
+    b":ann!a@h NICK Anna",
+    b":Anna!a@h NICK bob",
+    b":bob!b@h NICK ann",
+    b":Me!m@h NICK Moi",
+    b":Moi!m@h NICK Me",
+    b":ann!a@h NICK me",
+    b":s MODE #c +ov ann bob",
+    b":s MODE #c -o+lk ann 5 key",
+    b":s MODE #d +nt-l",
+    b":s 324 Me #c +mk word",
+    b":s TOPIC #c :what is said",
+    b":s 332 Me #d :another",
+    b":s 331 Me #c :none",
+    b":ann!a@h ACCOUNT annacc",
+    b":bob!b@h ACCOUNT *",
+    b":ann!a@h AWAY :lunch",
+    b":ann!a@h AWAY",
+    b"lost",
+];
+
+/// What both views show is the same after each line of a script that is drawn from this seed.
+fn check_script<R: AllocGlobal + Abort>(rt: &R, mut seed: u32, lines: u32) -> Result<(), Fail> {
+    let mut tape = TapeView::new(rt.alloc())?;
+    let mut quick = QuickView::new(rt.alloc())?;
+    let welcome = item(rt.alloc(), b":s 001 Me :hi")?;
+    tape.take(&welcome)?;
+    quick.take(&welcome)?;
+    for _line in 0..lines {
+        seed = seed.wrapping_mul(1_664_525).wrapping_add(1_013_904_223);
+        let text = LINES[(seed >> 16) as usize % LINES.len()];
+        let item = item(rt.alloc(), text)?;
+        tape.take(&item)?;
+        quick.take(&item)?;
+        assert!(rt; shown(rt.alloc(), &tape)? == shown(rt.alloc(), &quick)?);
+        assert!(rt; tape.account_of(b"ANN") == quick.account_of(b"ANN"));
+    }
+    Ok(())
+}
+
+#[test]
+fn both_views_show_the_same(rt: HostRuntime) -> Result<(), Fail> {
+    for seed in 1..9 {
+        check_script(&rt, seed, 40)?;
+    }
+    Ok(())
+}
+
+#[test]
+fn a_rename_onto_a_person_who_is_there(rt: HostRuntime) -> Result<(), Fail> {
+    let mut quick = QuickView::new(rt.alloc())?;
+    let rows: [(&[u8], &[u8]); 6] = [
+        (b":s 001 Me :hi", b"Me"),
+        (b":Me!m@h JOIN #c", b"Me / #c Me"),
+        (b":bob!b@h JOIN #c", b"Me / #c bob Me"),
+        (b":eve!e@h JOIN #c", b"Me / #c bob eve Me"),
+        (b":bob!b@h NICK eve", b"Me / #c eve Me"),
+        (b":eve!b@h NICK EVE", b"Me / #c EVE Me"),
+    ];
+    for (text, wanted) in rows {
+        quick.take(&item(rt.alloc(), text)?)?;
+        assert!(rt; shown(rt.alloc(), &quick)?.as_slice() == wanted);
+    }
+    Ok(())
+}
