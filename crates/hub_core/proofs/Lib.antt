@@ -5,3 +5,4 @@ pub mod Running
 pub mod Splits
 pub mod Unread
 pub mod Forwarded
+pub mod Drained
