@@ -1,8 +1,12 @@
 pub mod Walk
 pub mod Sets
 pub mod Prepared
+pub mod Kept
+pub mod Numbers
 pub mod Running
+pub mod Taken
 pub mod Splits
 pub mod Unread
 pub mod Forwarded
 pub mod Drained
+pub mod Answered

@@ -1,4 +1,5 @@
-//! The hub of one network: what comes from the network goes to each session as its client reads it.
+//! The hub of one network: what comes from the network goes to each session as its client reads
+//! it, and what clients say goes to the network.
 #![tactic(auto)]
 
 mod attach;
@@ -9,6 +10,7 @@ mod image_table;
 mod memory;
 mod prepare;
 mod pump;
+mod respond;
 mod said;
 mod session;
 
@@ -16,4 +18,5 @@ pub use attach::{AttachError, NoSession, SESSION_LIMIT};
 pub use history::CapacityError;
 pub use hub::{Hub, HubError, Pumped, Setup};
 pub use net_view::OutOfMemory;
+pub use said::Said;
 pub use session::Session;
