@@ -67,7 +67,7 @@ returns-in_default-clause-ok g c =
 pub invariant_of-self : goal.invariant_of-self
 invariant_of-self g c =
     with_sessions _ _ (g.V.NetworkView.view c.self.inside.view) c.self.inside.online
-    c.self.invariant refl refl refl
+    c.self.invariant refl refl refl refl refl
     (fits (g.V.NetworkView.view c.self.inside.view) c.self.inside.sessions.items c.in-Some.place
     c.index_mut.result.now c.drain.new.self c.in-Some.ensures.some.0 c.index_mut.ensures.value
     c.drain.ensures.sent c.drain.ensures.closed c.self.invariant.fit)
@@ -75,7 +75,7 @@ invariant_of-self g c =
 pub invariant_of-self-2 : goal.invariant_of-self-2
 invariant_of-self-2 g c =
     with_sessions _ _ (g.V.NetworkView.view c.self.inside.view) c.self.inside.online
-    c.self.invariant refl refl refl
+    c.self.invariant refl refl refl refl refl
     (fits (g.V.NetworkView.view c.self.inside.view) c.self.inside.sessions.items c.in-Some.place
     c.index_mut.result.now c.drain.new.self c.in-Some.ensures.some.0 c.index_mut.ensures.value
     c.drain.ensures.sent c.drain.ensures.closed c.self.invariant.fit)

@@ -1,0 +1,7 @@
+pub mod LinesCame
+pub mod Taken
+pub mod Refused
+pub mod Told
+pub mod Steps
+pub mod Chain
+pub mod Finished
