@@ -1,5 +1,5 @@
 -- A run has ended.
-use Rattle.std.proofs.Common.{◌≡◌, ℕ, List, [], None, Some, refl, length, take, slice_get}
+use Rattle.std.proofs.Common.{◌≡◌, ℕ, List, [], None, Some, refl, inr, length, take, slice_get}
 use Rattle.hub_ends.specs.Came.{Came}
 use Rattle.hub_runs.specs.declared.event.Event.{Event}
 use Rattle.hub_runs.specs.declared.outcome.Reply.{Reply}
@@ -7,6 +7,7 @@ use Rattle.hub_runs.specs.declared.outcome.Stop.{Stop}
 use Rattle.hub_runs.specs.Ran.{Ran}
 use Rattle.hub_runs.specs.Worlds.{Stops, WorldState}
 use Rattle.hub_runs.proofs.Chain.{Standing, finishes, stops}
+use Rattle.hub_runs.proofs.Numbers.{numbers_rise}
 
 -- all events are done
 pub ran_whole : (start : WorldState) (events : List Event) (done : ℕ) (replies : List Reply)
@@ -21,6 +22,7 @@ ran_whole start events done replies w whole s =
       ends = (whole, refl, refl);
       heard_all = f.heard_all;
       late_attach = f.each;
+      numbers = λ first e. numbers_rise _ replies first start _ (inr e) s.so_far;
     }
 
 -- it stopped at an event
@@ -38,4 +40,5 @@ ran_part start events done replies last w e why taken s next so same =
       ends = (e, next, so, same);
       heard_all = f.heard_all;
       late_attach = f.each;
+      numbers = λ first e. numbers_rise _ replies first start _ (inr e) s.so_far;
     }

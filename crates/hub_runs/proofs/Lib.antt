@@ -4,4 +4,5 @@ pub mod Refused
 pub mod Told
 pub mod Steps
 pub mod Chain
+pub mod Numbers
 pub mod Finished

@@ -21,7 +21,8 @@ use Rattle.hub_runs.specs.Transcripts.{transcript_of}
 use Rattle.hub_runs.specs.Worlds.{AllHappen, WorldState, name_of}
 
 -- A session of a hub, after events with these replies, by which these items were heard.
-pub record HasAttached (start : WorldState) (events : List Event) (replies : List Reply) (items : List Arrival) (s : SessionState) : Type 0 where
+pub record HasAttached (start : WorldState) (events : List Event) (replies : List Reply)
+    (items : List Arrival) (s : SessionState) : Type 0 where
   -- one of the events is the attach that was answered with its number
   pub before : List Event
   pub name : Option (Vec ℕ Global)
@@ -38,8 +39,8 @@ pub record HasAttached (start : WorldState) (events : List Event) (replies : Lis
   -- it was first sent the burst: of the view of what had come, and of what its name had missed
   pub more : List (List Parts)
   pub burst : s.outlet.sent
-      ≡ burst_of (view_of (arrivals (transcript_of before))) s.caps (missed standing.hub (name_of name))
-      ∷ more
+      ≡ burst_of (view_of (arrivals (transcript_of before))) s.caps
+      (missed standing.hub (name_of name)) ∷ more
   pub within : length (transcript_of before) ≤ length items
   -- the view of all lines that it was sent is that of all items, as a client with these
   -- capabilities sees it that came then

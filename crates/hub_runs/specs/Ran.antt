@@ -1,5 +1,6 @@
 -- How a run of events ends.
 use Rattle.std.specs.Prelude.{◌≡◌, ℕ, List, [], ◌++◌, Option, None, Some, length, slice_get, take}
+use Rattle.std.specs.List.{range_with_len}
 use Rattle.hub_ends.specs.Came.{Came, arrivals}
 use Rattle.hub_core.specs.States.{heard}
 use Rattle.hub_runs.specs.declared.event.Event.{Event}
@@ -7,7 +8,7 @@ use Rattle.hub_runs.specs.declared.outcome.Reply.{Reply}
 use Rattle.hub_runs.specs.declared.outcome.Stop.{Stop}
 use Rattle.hub_runs.specs.Late.{EachHasAttached}
 use Rattle.hub_runs.specs.Transcripts.{transcript_of}
-use Rattle.hub_runs.specs.Worlds.{AllHappen, Stops, WorldState}
+use Rattle.hub_runs.specs.Worlds.{AllHappen, Stops, WorldState, numbers_given}
 
 -- After so many events a run ends: all of them are done; or it stops at the next one, of which
 -- these items were taken.
@@ -19,7 +20,8 @@ EndsAt events done (Some s) last taken world =
     (world.gone ≡ last.gone)
 
 -- a run of events, from what it began with to what there is at its end
-pub record Ran (start : WorldState) (events : List Event) (done : ℕ) (stopped_by : Option Stop) (replies : List Reply) (world : WorldState) : Type 0 where
+pub record Ran (start : WorldState) (events : List Event) (done : ℕ) (stopped_by : Option Stop)
+    (replies : List Reply) (world : WorldState) : Type 0 where
   -- what there was after the last event that is done
   pub last : WorldState
   pub happened : AllHappen (take done events) replies start last
@@ -31,3 +33,6 @@ pub record Ran (start : WorldState) (events : List Event) (done : ℕ) (stopped_
   -- each session's client knows what is to be known since it attached
   pub late_attach : EachHasAttached start (take done events) replies (heard world.hub)
       world.hub.sessions
+  -- the numbers of sessions rise by one from the first, so none was given twice
+  pub numbers : (first : ℕ) → start.hub.next ≡ Some first
+      → numbers_given replies ≡ range_with_len first (length (numbers_given replies))

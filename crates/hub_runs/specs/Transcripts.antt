@@ -40,7 +40,7 @@ transcript_after pieces (on.Lost moment ∷ events) =
     lines_came pieces ++ (Lost, moment.0) ∷ transcript_after [] events
 transcript_after pieces (_ ∷ events) = transcript_after pieces events
 
--- For each stretch of pieces up to a loss the lines of their bytes, then the loss; last the lines of
--- the stretch that is open. What is no line yet when the connection is lost is dropped.
+-- For each stretch of pieces up to a loss the lines of their bytes, then the loss; last the lines
+-- of the stretch that is open. What is no line yet when the connection is lost is dropped.
 abbrev pub transcript_of : List Event → List Came
 transcript_of events = transcript_after [] events

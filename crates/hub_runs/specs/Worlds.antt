@@ -1,6 +1,7 @@
 -- What events do to a hub over ends in memory: there each step is told by the state before it.
 use Rattle.std.specs.Prelude.{◌≡◌, ◌⊎◌, ℕ, List, [], ◌∷◌, ◌++◌, Option, None, Some, Bool, true, false}
 use Rattle.std.specs.Prelude.{is_some, map, Ok, Err}
+use Rattle.std.specs.List.{filter_map}
 use Rattle.std.specs.Option.{option_map}
 use Rattle.std.specs.Prelude.{Vec}
 use Rattle.std.specs.declared.alloc.Global.{Global}
@@ -127,6 +128,15 @@ AllHappen (e ∷ es) (r ∷ rs) old new =
     (mid : WorldState) × Happens e r old mid × AllHappen es rs mid new
 AllHappen _ _ old new = ⊥
 
+-- the number that a client's attach was answered with
+abbrev pub number_given : Reply → Option ℕ
+number_given (reply.Attach (Ok id)) = Some id
+number_given _ = None
+
+-- the numbers that were given, in order
+abbrev pub numbers_given : List Reply → List ℕ
+numbers_given replies = filter_map number_given replies
+
 -- ---- the event at which a run stops
 
 -- as which refusal to start a hub's counts
@@ -144,7 +154,8 @@ stop_of_feed feed.TooLong = stop.TooLong
 stop_of_feed feed.OutOfMemory = stop.Memory
 
 -- of some items these were taken, and the next one was refused
-pub record RefusesAmong (xs : List Came) (e : HubError) (old : HubState) (taken : List Came) (new : HubState) : Type 0 where
+pub record RefusesAmong (xs : List Came) (e : HubError) (old : HubState) (taken : List Came)
+    (new : HubState) : Type 0 where
   pub pumped : List Pumped
   pub next : Came
   pub later : List Came
@@ -168,8 +179,8 @@ is_over _ rest = false
 abbrev pub DoesNothing : HubState → List Came → HubState → Type 0
 DoesNothing old taken new = (taken ≡ []) × (new ≡ old)
 
--- A run stops at an event: of the items that it brings these were taken, and no more was done. It is
--- `TooLong` exactly where a line is; else an item was refused, or there was no memory.
+-- A run stops at an event: of the items that it brings these were taken, and no more was done. It
+-- is `TooLong` exactly where a line is; else an item was refused, or there was no memory.
 abbrev pub Stops : Event → Stop → WorldState → List Came → HubState → Type 0
 Stops e stop.TooLong old taken new = (is_over e old.rest ≡ true) × DoesNothing old.hub taken new
 Stops e stop.Spent old taken new =

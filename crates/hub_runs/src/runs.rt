@@ -50,8 +50,8 @@ fn begin<V: NetworkView + Drop>(
 /// It stops at an event for which memory is refused, at a message from the network for which no
 /// number is left, and at more bytes without LF than a line may have; then the world stands after
 /// the events done and the lines that were already taken of the next one. All other refusals are
-/// replies. A refusal to start drops the view; `BadCapacity` comes exactly where the setup's history
-/// is 0 or above 10,000.
+/// replies. A refusal to start drops the view; `BadCapacity` comes exactly where the setup's
+/// history is 0 or above 10,000.
 pub fn run<V: NetworkView + Drop>(
     alloc: Global,
     view: V,
