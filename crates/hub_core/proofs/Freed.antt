@@ -1,8 +1,8 @@
 -- One walk over all sessions, which learns how much room there is.
 use Rattle.std.proofs.Common.{◌≡◌, ◌<◌, ◌≤◌, ◌+◌, ℕ, zero, suc, List, [], ◌∷◌, ◌++◌, refl, sym, ap, ◌∙◌, arith}
 use Rattle.std.proofs.Common.{Bool, true, false, map, filter, length, get_or, set, take, drop, subst}
-use Rattle.std.proofs.Common.{take-append-drop, append-nil, length-set}
-use Rattle.std.proofs.lemmas.List.{take_more, take_more_set, take_all, map-append}
+use Rattle.std.proofs.Common.{take-append-drop, length-set}
+use Rattle.std.proofs.lemmas.List.{map-append}
 use Rattle.std.proofs.lemmas.List.Elements.{filter-append}
 use Rattle.std.proofs.Math.Seq.{drop-cons}
 use Rattle.std.specs.Prelude.{if◌then◌else◌}
@@ -86,6 +86,7 @@ module _ {S : Type 0} (state : S → SessionState) (alone : Bool) where
         taken [] i d h = absurd (omega arith)
         taken (x ∷ xs) zero d h = refl
         taken (x ∷ xs) (suc i) d h = ap (λ l. x ∷ l) (taken xs i d (omega arith))
+
         taken_set : (xs : List S) (i : ℕ) (t : S) → i < length xs
             → take (suc i) (set xs i t) ≡ take i xs ++ t ∷ []
         taken_set [] i t h = absurd (omega arith)
@@ -123,10 +124,12 @@ module _ {S : Type 0} (state : S → SessionState) (alone : Bool) where
         taken_set [] i t h = absurd (omega arith)
         taken_set (x ∷ xs) zero t h = refl
         taken_set (x ∷ xs) (suc i) t h = ap (λ l. x ∷ l) (taken_set xs i t (omega arith))
+
         one : (s : SessionState) (b : Bool) → is_nearly_full s ≡ b
             → nearly_full (s ∷ []) ≡ (if b then s.id ∷ [] else [])
         one s true e = ap (λ b. map (λ (s : SessionState). s.id) (if b then s ∷ [] else [])) e
         one s false e = ap (λ b. map (λ (s : SessionState). s.id) (if b then s ∷ [] else [])) e
+
         snoc : (ss : List SessionState) (s : SessionState)
             → nearly_full (ss ++ s ∷ []) ≡ nearly_full ss ++ (if is_nearly_full s then s.id ∷ [] else [])
         snoc ss s =

@@ -107,8 +107,8 @@ impl<V: NetworkView + Drop, I: Inlet, O: Outlet> Hub<V, I, O> {
     ghost use Rattle.hub_core.specs.Upkeep.{LendsOutlet};
 
     /// A hub of these parts, without sessions, messages or client names. `BadCapacity` comes
-    /// exactly where the setup's history is 0 or above 10,000, and before memory is asked for. After
-    /// a refusal the parts are dropped.
+    /// exactly where the setup's history is 0 or above 10,000, and before memory is asked for.
+    /// After a refusal the parts are dropped.
     pub fn start(
         alloc: Global,
         view: V,

@@ -1,4 +1,4 @@
-use Rattle.std.proofs.Common.{◌≡◌, ◌∙◌, ◌<◌, ap, arith, length, map, subst, suc, take, set}
+use Rattle.std.proofs.Common.{◌∙◌, ◌<◌, ap, arith, length, map, subst, suc, take, set}
 use Rattle.hub_core.specs.Insides.{state_of}
 use Rattle.hub_core.specs.Upkeep.{nearly_full}
 use Rattle.hub_core.proofs.Freed.{IsFreedTo, ended, found_more, one_more, plus_one}

@@ -1,4 +1,4 @@
-use Rattle.std.proofs.Common.{◌≡◌, ◌∙◌, refl, ap, inl}
+use Rattle.std.proofs.Common.{refl, ap}
 use Rattle.hub_core.specs.declared.session.Session.{Session}
 use Rattle.hub_core.specs.Insides.{hub_of, outlet_of, state_of}
 use Rattle.hub_core.proofs.Splits.{around_at, lacks}
