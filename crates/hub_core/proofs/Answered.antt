@@ -1,7 +1,7 @@
 -- A session whose client was answered.
-use Rattle.std.proofs.Common.{◌≡◌, ◌∙◌, ◌++◌, ◌∷◌, [], ℕ, List, Option, None, Some, Bool, false, refl, sym, ap}
-use Rattle.std.proofs.Common.{subst, inl, inr}
-use Rattle.std.specs.Prelude.{IfSome, Ok, Err}
+use Rattle.std.proofs.Common.{◌≡◌, ◌++◌, ◌∷◌, [], ℕ, List, Option, None, Some, Bool, false, sym, ap}
+use Rattle.std.proofs.Common.{subst, inr}
+use Rattle.std.specs.Prelude.{IfSome, Ok}
 use Rattle.std.specs.List.{AllByRecursion}
 use Rattle.std.specs.Option.{option_map}
 use Rattle.irc_line.specs.Line.{Parts}
@@ -10,12 +10,10 @@ use Rattle.net_view.specs.StateLines.{is_state_line}
 use Rattle.net_view.specs.View.{View}
 use Rattle.client_caps.specs.Answers.{answer_to}
 use Rattle.welcome.proofs.PlaybackTold.{IsUnread}
-use Rattle.hub_core.specs.declared.hub.HubError.TheVariants as fault
 use Rattle.hub_core.specs.declared.said.Meant.{Meant}
-use Rattle.hub_core.specs.declared.said.Meant.TheVariants as means
 use Rattle.hub_core.specs.declared.said.Said.{Said}
 use Rattle.hub_core.specs.declared.said.Said.TheVariants as said
-use Rattle.hub_core.specs.States.{OutletState, SessionState, HubState, view_now}
+use Rattle.hub_core.specs.States.{SessionState, HubState, view_now}
 use Rattle.hub_core.specs.Given.{Full, Sends, with_outlet}
 use Rattle.hub_core.specs.Running.{Fits, EachFits}
 use Rattle.hub_core.specs.Saying.{Around, Answered, Responds, Says, SaysBy, answer_packet, meaning, with_sessions}

@@ -10,3 +10,4 @@ pub mod Unread
 pub mod Forwarded
 pub mod Drained
 pub mod Answered
+pub mod Freed

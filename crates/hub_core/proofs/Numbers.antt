@@ -1,7 +1,7 @@
 -- Each message that came from the network, and each that was sent there, has its number.
-use Rattle.std.proofs.Common.{◌≡◌, ◌∙◌, ◌+◌, ◌<◌, ◌^◌, ℕ, zero, suc, List, [], ◌∷◌, ◌++◌, Option, None, Some, Bool}
-use Rattle.std.proofs.Common.{true, false, refl, sym, ap, subst, length, length-append, append_assoc, append-nil}
-use Rattle.std.proofs.Common.{option_to_list, drop, arith, rules, nat_lt, inl, inr}
+use Rattle.std.proofs.Common.{◌≡◌, ◌∙◌, ◌+◌, ◌<◌, ◌^◌, ℕ, List, [], ◌∷◌, ◌++◌, Option, None, Some, Bool}
+use Rattle.std.proofs.Common.{true, false, refl, sym, ap, subst, length, length-append, append-nil}
+use Rattle.std.proofs.Common.{option_to_list, arith, rules, nat_lt, inl, inr}
 use Rattle.std.proofs.SliceLists.{all_by_recursion_push}
 use Rattle.std.proofs.lemmas.List.Elements.{Contains-append_left, Contains-append_right, Contains-append_cases, filter_map-append}
 use Rattle.std.specs.Prelude.{IfSome, IsSome, IsTrue, if◌then◌else◌, codes}
@@ -18,10 +18,9 @@ use Rattle.history.specs.Entry.{EntryParts, entry_parts, is_message, is_message_
 use Rattle.history.specs.Entry.{target_and_text}
 use Rattle.hub_core.specs.States.{OutletState}
 use Rattle.hub_core.specs.Pumping.{Puts, pong_for}
-use Rattle.history.specs.Messages.{Messages, no_messages, number_after, numbered, with_message}
-use Rattle.hub_ends.specs.Came.{Came}
-use Rattle.hub_core.specs.Pumping.{entry_for, with_entry}
-use Rattle.hub_core.specs.Running.{AreMessages, AreNumbered, content, content_heard, content_said}
+use Rattle.history.specs.Messages.{Messages, no_messages, numbered, with_message}
+use Rattle.hub_core.specs.Pumping.{with_entry}
+use Rattle.hub_core.specs.Running.{AreNumbered, content, content_said}
 use Rattle.hub_core.proofs.Kept.{messages_stay, all_drop}
 
 -- ---- a message more, if there is one

@@ -35,16 +35,11 @@ use Rattle.hub_core.specs.declared.attach.AttachError.{AttachError}
 use Rattle.hub_core.specs.States.{view_now}
 use Rattle.hub_core.specs.Attaching.{refusal_of}
 use Rattle.hub_core.specs.Pumping.{Comes, entry_for, with_entry}
-use Rattle.std.proofs.Common.{rules, zero, suc, drop, filter, true, false}
+use Rattle.std.proofs.Common.{true, false}
 use Rattle.std.specs.Prelude.{IsTrue, IfSome, IsSome, if◌then◌else◌}
 use Rattle.std.specs.List.{filter_map}
-use Rattle.std.specs.Option.{option_and_then, option_map}
-use Rattle.std.specs.List.{AllByRecursion}
-use Rattle.std.proofs.SliceLists.{all_by_recursion_push}
-use Rattle.irc_line.specs.Tags.{time_of}
-use Rattle.net_view.specs.Arrival.{Received, Lost}
-use Rattle.history.specs.Entry.{EntryParts, entry_parts, is_message_command, message_of, target_and_text}
-use Rattle.history.specs.Messages.{Messages, missed_of, is_missed, with_message}
+use Rattle.std.specs.Option.{option_map}
+use Rattle.history.specs.Entry.{EntryParts, is_message_command}
 
 -- ---- what was heard
 

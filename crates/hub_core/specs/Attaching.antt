@@ -85,7 +85,8 @@ marked None number marks = marks
 
 -- The session of that number is gone, and its name has seen all messages. Its outlet was closed
 -- with its number, and the other end was told where there was room.
-pub record Detaches (old : HubState) (id : ℕ) (outlet : OutletState) (told : Bool) (new : HubState) : Type 0 where
+pub record Detaches (old : HubState) (id : ℕ) (outlet : OutletState) (told : Bool)
+    (new : HubState) : Type 0 where
   pub front : List SessionState
   pub gone : SessionState
   pub back : List SessionState

@@ -5,6 +5,7 @@ use Rattle.hub_core.specs.States.{OutletState, HubState}
 use Rattle.hub_core.specs.Given.{with_outlet}
 use Rattle.hub_core.specs.Attaching.{Lacks}
 use Rattle.hub_core.specs.Saying.{Around, with_sessions}
+use Rattle.hub_core.specs.Upkeep.{with_upstream}
 
 -- the same hub with these items ahead
 abbrev pub with_ahead : HubState → List Came → HubState
@@ -15,21 +16,6 @@ with_ahead h ahead = record {
   sessions = h.sessions;
   next = h.next;
   upstream = h.upstream;
-  history = h.history;
-  first = h.first;
-  marks = h.marks;
-  images = h.images;
-}
-
--- the same hub with this outlet to the network
-abbrev pub with_upstream : HubState → OutletState → HubState
-with_upstream h o = record {
-  taken = h.taken;
-  ahead = h.ahead;
-  held = h.held;
-  sessions = h.sessions;
-  next = h.next;
-  upstream = o;
   history = h.history;
   first = h.first;
   marks = h.marks;

@@ -9,12 +9,18 @@ use Rattle.hub_ends.specs.Came.{Came, came}
 use Rattle.hub_core.specs.declared.hub.Hub.TheInside.{Inside}
 use Rattle.hub_core.specs.States.{OutletState, SessionState, HubState}
 
-module _ {O : Type 0} (sent : O → List (List Parts)) (closed : O → Option ℕ) (capacity free : O → ℕ) where
+module _ {O : Type 0} (sent : O → List (List Parts)) (closed : O → Option ℕ)
+    (capacity free : O → ℕ) where
   abbrev pub outlet_of : O → OutletState
   outlet_of o = record { sent = sent o; closed = closed o; capacity = capacity o; free = free o }
 
   abbrev pub state_of : Session O → SessionState
-  state_of s = record { id = s.id; name = option_map (λ (n : Vec ℕ Global). n.items) s.name; caps = s.caps; outlet = outlet_of s.outlet }
+  state_of s = record {
+    id = s.id;
+    name = option_map (λ (n : Vec ℕ Global). n.items) s.name;
+    caps = s.caps;
+    outlet = outlet_of s.outlet;
+  }
 
   abbrev pub states_of : List (Session O) → List SessionState
   states_of ss = map state_of ss

@@ -7,4 +7,5 @@ pub mod Insides
 pub mod Pumping
 pub mod Attaching
 pub mod Saying
+pub mod Upkeep
 pub mod InMemory

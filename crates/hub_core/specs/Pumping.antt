@@ -70,11 +70,13 @@ pub record Takes (inlet outlet : Bool) (old : HubState) (cut : ℕ) (new : HubSt
   pub item : Came
   pub comes : Next inlet old item new
   pub held : new.held ≡ None
-  pub sessions : Delivered outlet (λ s. packet_for (view_now old) item s.caps) old.sessions new.sessions
+  pub sessions : Delivered outlet (λ s. packet_for (view_now old) item s.caps) old.sessions
+      new.sessions
   pub left : cut + length new.sessions ≡ length old.sessions
   pub upstream : Puts outlet old.upstream (pong_for item.0) new.upstream
   pub history : new.history ≡ with_entry old.history (entry_for item)
-  pub images : new.images ≡ counted (old.images + images_for item.0 (length (all_sets_but None [] old.sessions)))
+  pub images : new.images
+      ≡ counted (old.images + images_for item.0 (length (all_sets_but None [] old.sessions)))
   pub same : (new.next ≡ old.next) × (new.first ≡ old.first) × (new.marks ≡ old.marks)
 
 -- the item is a message, and there is no number for it

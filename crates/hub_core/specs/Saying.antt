@@ -125,10 +125,12 @@ Responds alone own front here back line said.Cut ts =
 Responds alone own front here back line _ ts = ⊥
 
 -- the session was sent the answer
-pub record Answers (alone : Bool) (old : HubState) (id : ℕ) (line : Parts) (new : HubState) : Type 0 where
+pub record Answers (alone : Bool) (old : HubState) (id : ℕ) (line : Parts)
+    (new : HubState) : Type 0 where
   pub around : Around old id
   pub given : OutletState
-  pub sent : Sends alone around.here.outlet (answer_packet (view_now old).own around.here line) given
+  pub sent : Sends alone around.here.outlet
+      (answer_packet (view_now old).own around.here line) given
   pub is : new ≡ with_sessions old (around.front ++ with_outlet around.here given ∷ around.back)
 
 -- there was no room for the answer, and the session is gone

@@ -1,6 +1,7 @@
 //! Sessions that come and go.
 
-ghost use Rattle.std.specs.Prelude.{◌≡◌, ◌&&◌, [], None, Some, true, not, nat_le, IfOk, IfErr, OnErr};
+ghost use Rattle.std.specs.Prelude.{◌≡◌, ◌&&◌, [], None, Some, true, not, nat_le};
+ghost use Rattle.std.specs.Prelude.{IfOk, IfErr, OnErr};
 ghost use Rattle.std.specs.Prelude.{false, OnOk, option_map};
 ghost use Rattle.std.specs.FinMap as map;
 ghost use Rattle.std.specs.Option.{option_and_then};
@@ -66,7 +67,8 @@ fn are_names_full(marks: &Marks, name: Option<&[u8]>) -> bool
 /// Admits a client's name, where it has one.
 fn admit(marks: &mut Marks, name: Option<&[u8]>) -> Result<(), OutOfMemory>
     requires { names_full (option_map (λ n. n.now) name) marks.old ≡ false }
-    ensures ok { OnOk result (marks.new ≡ with_name (option_map (λ n. n.now) name.entry) marks.old) }
+    ensures ok { OnOk result (marks.new
+        ≡ with_name (option_map (λ n. n.now) name.entry) marks.old) }
     ensures err { OnErr result (marks.new ≡ marks.old) }
 {
     let Some(name) = name else {
@@ -92,7 +94,8 @@ fn copy_of(alloc: Global, name: Option<&[u8]>) -> Result<Option<Vec<u8>>, OutOfM
 
 /// The mark of a client's name.
 fn mark_of(marks: &Marks, name: Option<&[u8]>) -> Option<u64>
-    ensures { result ≡ option_and_then (λ n. mark_of n marks.now) (option_map (λ n. n.now) name.entry) }
+    ensures { result ≡ option_and_then (λ n. mark_of n marks.now)
+        (option_map (λ n. n.now) name.entry) }
 {
     marks.mark(name?)
 }
@@ -144,8 +147,8 @@ impl<V: NetworkView + Drop, I: Inlet, O: Outlet> Hub<V, I, O> {
     }
 
     /// Attaches a session of these capabilities, of a client with this name or none, to an outlet
-    /// that was sent nothing: the outlet is sent the burst, of the view and of the messages that the
-    /// name missed. Answers its number.
+    /// that was sent nothing: the outlet is sent the burst, of the view and of the messages that
+    /// the name missed. Answers its number.
     ///
     /// After a refusal nothing has changed, and the outlet is handed back. The reasons come in the
     /// order of [`AttachError`]; `OutOfMemory` is told where an allocation was refused.

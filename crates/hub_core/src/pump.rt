@@ -1,7 +1,8 @@
 //! What comes from the network goes to the sessions.
 
-ghost use Rattle.std.specs.Prelude.{ℕ, ◌≡◌, ◌++◌, ◌∷◌, ◌+◌, [], None, Some, Option, IfOk, IfSome, IfNone};
-ghost use Rattle.std.specs.Prelude.{IsErrOf, ◌↔◌, OnErr, OnOk, IsSome, cond, is_some, option_map, length, map};
+ghost use Rattle.std.specs.Prelude.{ℕ, ◌≡◌, ◌++◌, ◌∷◌, ◌+◌, ◌↔◌, [], None, Some, Option, IsSome};
+ghost use Rattle.std.specs.Prelude.{IfOk, IfSome, IfNone, IsErrOf, OnErr, OnOk};
+ghost use Rattle.std.specs.Prelude.{cond, is_some, option_map, length, map};
 ghost use Rattle.std.specs.Prelude.{IsTrue, codes, slice_get, is_some};
 ghost use Rattle.std.specs.Option.{option_map_or, option_to_list};
 ghost use Rattle.std.specs.List.{AllByRecursion, list_all};
@@ -12,8 +13,8 @@ ghost use Rattle.hub_ends.specs.Came.{came};
 ghost use Rattle.hub_core.specs.Given.{all_sets_but, given_but, packet_for};
 ghost use Rattle.hub_core.specs.Insides.{outlet_of, state_of, states_of};
 ghost use Rattle.hub_core.specs.Online.{is_welcome, says_online};
-ghost use Rattle.hub_core.specs.Pumping.{Comes, Pumps, Puts, Spends, counted, entry_for, images_for};
-ghost use Rattle.hub_core.specs.Pumping.{pong_for, with_entry};
+ghost use Rattle.hub_core.specs.Pumping.{Comes, Pumps, Puts, Spends, counted, entry_for};
+ghost use Rattle.hub_core.specs.Pumping.{images_for, pong_for, with_entry};
 
 use crate::deliver::deliver;
 use crate::hub::{Hub, HubError, Pumped};

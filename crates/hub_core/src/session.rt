@@ -28,6 +28,7 @@ impl<O: Outlet> Session<O> {
             (Took O.alone (outlet_of O.sent O.closed O.capacity O.free self.old.outlet)
             packet (outlet_of O.sent O.closed O.capacity O.free self.new.outlet))
             (O.free self.old.outlet ≡ 0) }
+        ensures coming { self.new.coming ≡ self.old.coming }
         ensures same { state_of O.sent O.closed O.capacity O.free self.new
             ≡ with_outlet (state_of O.sent O.closed O.capacity O.free self.old)
             (outlet_of O.sent O.closed O.capacity O.free self.new.outlet) }
@@ -51,10 +52,7 @@ impl<O: Outlet> Session<O> {
     {
         match self.coming.take() {
             None => true,
-            Some(packet) => match self.outlet.offer(packet) {
-                Ok(()) => true,
-                Err(_) => false,
-            },
+            Some(packet) => self.send(packet),
         }
     }
 }
