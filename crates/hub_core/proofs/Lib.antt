@@ -8,5 +8,6 @@ pub mod Taken
 pub mod Splits
 pub mod Unread
 pub mod Forwarded
+pub mod Drained
 pub mod Answered
 pub mod Freed

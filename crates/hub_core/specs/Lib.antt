@@ -8,3 +8,4 @@ pub mod Pumping
 pub mod Attaching
 pub mod Saying
 pub mod Upkeep
+pub mod InMemory

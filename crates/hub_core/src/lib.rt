@@ -7,6 +7,7 @@ mod deliver;
 mod detach;
 mod hub;
 mod image_table;
+mod memory;
 mod prepare;
 mod pump;
 mod respond;

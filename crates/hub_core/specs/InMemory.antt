@@ -1,0 +1,64 @@
+-- What is done to the ends of a hub that are in memory.
+use Rattle.std.specs.Prelude.{◌≡◌, ◌⊎◌, ◌+◌, ◌-◌, ℕ, List, ◌∷◌, ◌++◌, None, min, cond, is_some}
+use Rattle.hub_ends.specs.Came.{Came}
+use Rattle.hub_core.specs.States.{OutletState, HubState}
+use Rattle.hub_core.specs.Given.{with_outlet}
+use Rattle.hub_core.specs.Attaching.{Lacks}
+use Rattle.hub_core.specs.Saying.{Around, with_sessions}
+
+-- the same hub with these items ahead
+abbrev pub with_ahead : HubState → List Came → HubState
+with_ahead h ahead = record {
+  taken = h.taken;
+  ahead = ahead;
+  held = h.held;
+  sessions = h.sessions;
+  next = h.next;
+  upstream = h.upstream;
+  history = h.history;
+  first = h.first;
+  marks = h.marks;
+  images = h.images;
+}
+
+-- the same hub with this outlet to the network
+abbrev pub with_upstream : HubState → OutletState → HubState
+with_upstream h o = record {
+  taken = h.taken;
+  ahead = h.ahead;
+  held = h.held;
+  sessions = h.sessions;
+  next = h.next;
+  upstream = o;
+  history = h.history;
+  first = h.first;
+  marks = h.marks;
+  images = h.images;
+}
+
+-- So many packets were taken out of an outlet, of those that wait there at most so many. They stay
+-- sent, and there is room for as many more, but in an outlet that is closed.
+pub record Drains (o : OutletState) (most taken : ℕ) (o' : OutletState) : Type 0 where
+  pub sent : o'.sent ≡ o.sent
+  pub closed : o'.closed ≡ o.closed
+  pub capacity : o'.capacity ≡ o.capacity
+  pub count : o.closed ≡ None → taken ≡ min most (o.capacity - o.free)
+  pub free : o'.free ≡ cond (is_some o.closed) 0 (o.free + taken)
+
+-- out of the outlet to the network
+pub record DrainsUpstream (old : HubState) (most taken : ℕ) (new : HubState) : Type 0 where
+  pub given : OutletState
+  pub drained : Drains old.upstream most taken given
+  pub is : new ≡ with_upstream old given
+
+-- out of the outlet of the session of a number
+pub record DrainsSession (old : HubState) (id most taken : ℕ) (new : HubState) : Type 0 where
+  pub around : Around old id
+  pub given : OutletState
+  pub drained : Drains around.here.outlet most taken given
+  pub is : new ≡ with_sessions old (around.front ++ with_outlet around.here given ∷ around.back)
+
+-- the same, where there may be no such session: then nothing is taken out
+abbrev pub DrainsAt : HubState → ℕ → ℕ → ℕ → HubState → Type 0
+DrainsAt old id most taken new =
+    (Lacks id old.sessions × (taken ≡ 0) × (new ≡ old)) ⊎ DrainsSession old id most taken new

@@ -1,0 +1,4 @@
+pub mod Transcripts
+pub mod Worlds
+pub mod Late
+pub mod Ran

@@ -1,0 +1,38 @@
+-- How a run of events ends.
+use Rattle.std.specs.Prelude.{◌≡◌, ℕ, List, [], ◌++◌, Option, None, Some, length, slice_get, take}
+use Rattle.std.specs.List.{range_with_len}
+use Rattle.hub_ends.specs.Came.{Came, arrivals}
+use Rattle.hub_core.specs.States.{heard}
+use Rattle.hub_runs.specs.declared.event.Event.{Event}
+use Rattle.hub_runs.specs.declared.outcome.Reply.{Reply}
+use Rattle.hub_runs.specs.declared.outcome.Stop.{Stop}
+use Rattle.hub_runs.specs.Late.{EachHasAttached}
+use Rattle.hub_runs.specs.Transcripts.{transcript_of}
+use Rattle.hub_runs.specs.Worlds.{AllHappen, Stops, WorldState, numbers_given}
+
+-- After so many events a run ends: all of them are done; or it stops at the next one, of which
+-- these items were taken.
+abbrev pub EndsAt : List Event → ℕ → Option Stop → WorldState → List Came → WorldState → Type 0
+EndsAt events done None last taken world =
+    (done ≡ length events) × (taken ≡ []) × (world ≡ last)
+EndsAt events done (Some s) last taken world =
+    (e : Event) × (slice_get events done ≡ Some e) × Stops e s last taken world.hub ×
+    (world.gone ≡ last.gone)
+
+-- a run of events, from what it began with to what there is at its end
+pub record Ran (start : WorldState) (events : List Event) (done : ℕ) (stopped_by : Option Stop)
+    (replies : List Reply) (world : WorldState) : Type 0 where
+  -- what there was after the last event that is done
+  pub last : WorldState
+  pub happened : AllHappen (take done events) replies start last
+  -- what was taken of the next event
+  pub taken : List Came
+  pub ends : EndsAt events done stopped_by last taken world
+  -- the hub heard the transcript of the events done and what was taken of the next
+  pub heard_all : heard world.hub ≡ arrivals (transcript_of (take done events) ++ taken)
+  -- each session's client knows what is to be known since it attached
+  pub late_attach : EachHasAttached start (take done events) replies (heard world.hub)
+      world.hub.sessions
+  -- the numbers of sessions rise by one from the first, so none was given twice
+  pub numbers : (first : ℕ) → start.hub.next ≡ Some first
+      → numbers_given replies ≡ range_with_len first (length (numbers_given replies))

@@ -1,0 +1,12 @@
+//! Runs: lists of events over a hub whose ends are in memory.
+#![tactic(auto)]
+
+mod apply;
+mod event;
+mod items;
+mod outcome;
+mod runs;
+
+pub use event::Event;
+pub use outcome::{MemoryHub, Reply, Run, StartError, Stop, World};
+pub use runs::run;
