@@ -1,0 +1,22 @@
+//! Hubs between threads: rings as their ends, the writer of a session, and how a session ends.
+#![tactic(auto)]
+
+mod batch;
+mod bell;
+mod gate;
+mod inlet_ring;
+mod outlet_end;
+mod outlet_ring;
+mod queued;
+mod writer;
+mod writing;
+
+pub use bell::{Bell, SharedBell, shared_bell};
+pub use gate::{Clock, FreeGate, Gate, Point};
+pub use hub_ends::OutOfMemory;
+pub use inlet_ring::{InletEnd, RingInlet, inlet, waiting};
+pub use outlet_end::{OutletEnd, outlet};
+pub use outlet_ring::RingOutlet;
+pub use queued::{Counted, Queued};
+pub use writer::{Given, Writer, spawn_writer};
+pub use writing::{WriteFault, Written, write_out};
