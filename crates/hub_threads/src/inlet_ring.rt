@@ -11,7 +11,7 @@ use hub_ends::Inlet;
 use net_view::Item;
 use rtrb::{Consumer, Producer, PushError, RingBuffer};
 use std::alloc::Global;
-use std::sync::Arc;
+use std::sync::{Arc, Wait};
 
 /// The end that items are put into, each with the moment at which it came. Dropping it wakes the
 /// pump.
@@ -96,6 +96,13 @@ impl InletEnd {
             }
             Err(PushError::Full(pair)) => Err(pair),
         }
+    }
+}
+
+impl InletEnd {
+    /// Sleeps until the hub has taken an item.
+    pub(crate) fn sleep<R: Wait>(&self, rt: &R) {
+        self.reader.sleep(rt, u64::MAX);
     }
 }
 

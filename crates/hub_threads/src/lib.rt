@@ -3,8 +3,10 @@
 
 mod batch;
 mod bell;
+mod ending;
 mod gate;
 mod inlet_ring;
+mod network;
 mod outlet_end;
 mod outlet_ring;
 mod queued;
@@ -12,9 +14,11 @@ mod writer;
 mod writing;
 
 pub use bell::{Bell, SharedBell, shared_bell};
+pub use ending::{Ended, end_session};
 pub use gate::{Clock, FreeGate, Gate, Point};
 pub use hub_ends::OutOfMemory;
 pub use inlet_ring::{InletEnd, RingInlet, inlet, waiting};
+pub use network::{Network, RingHub};
 pub use outlet_end::{OutletEnd, outlet};
 pub use outlet_ring::RingOutlet;
 pub use queued::{Counted, Queued};
