@@ -10,6 +10,7 @@ mod network;
 mod outlet_end;
 mod outlet_ring;
 mod queued;
+mod reading;
 mod writer;
 mod writing;
 
@@ -22,5 +23,6 @@ pub use network::{Network, RingHub};
 pub use outlet_end::{OutletEnd, outlet};
 pub use outlet_ring::RingOutlet;
 pub use queued::{Counted, Queued};
+pub use reading::{ReadEnd, Reading, read_in};
 pub use writer::{Given, Writer, spawn_writer};
 pub use writing::{WriteFault, Written, write_out};
