@@ -1,7 +1,11 @@
 pub mod Walk
 pub mod Sets
 pub mod Prepared
+pub mod Kept
+pub mod Numbers
 pub mod Running
+pub mod Taken
 pub mod Splits
 pub mod Unread
 pub mod Forwarded
+pub mod Answered

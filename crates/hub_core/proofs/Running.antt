@@ -1,10 +1,11 @@
 -- The running fact goes on.
-use Rattle.std.proofs.Common.{◌≡◌, ◌+◌, ◌-◌, ℕ, List, [], ◌∷◌, ◌++◌, refl, sym, ap, ◌∙◌, arith}
+use Rattle.std.proofs.Common.{◌≡◌, ◌+◌, ◌-◌, ◌<◌, ◌^◌, ℕ, List, [], ◌∷◌, ◌++◌, refl, sym, ap, ◌∙◌, arith}
 use Rattle.std.proofs.Common.{Option, None, Some, Bool, false, map, length, take, subst, inl, inr}
 use Rattle.std.proofs.Common.{append-nil, length-append, option_to_list, cond, is_some}
 use Rattle.std.proofs.lemmas.List.{map-append, take_all, take-append-le}
 use Rattle.std.proofs.lemmas.Grind.{flat_map-append}
 use Rattle.irc_line.specs.Line.{Parts}
+use Rattle.irc_support.specs.Text.{Text}
 use Rattle.net_view.specs.Agrees.{Agrees}
 use Rattle.net_view.specs.Arrival.{Arrival}
 use Rattle.net_view.specs.View.{View, view_of, empty_view}
@@ -17,7 +18,7 @@ use Rattle.hub_ends.specs.Came.{Came, arrivals}
 use Rattle.hub_core.specs.States.{OutletState, SessionState, HubState, less, heard}
 use Rattle.hub_core.specs.Given.{Delivered, Sends, Took, packet_for, packet_of, with_outlet}
 use Rattle.client_caps.specs.declared.caps.Caps.{Caps}
-use Rattle.history.specs.Messages.{missed_by}
+use Rattle.history.specs.Messages.{missed_by, no_messages}
 use Rattle.welcome.specs.Playback.{burst_of}
 use Rattle.welcome.proofs.BurstLaw.{burst_agrees}
 use Rattle.std.proofs.Common.{unwrap_or}
@@ -25,14 +26,18 @@ use Rattle.std.specs.Option.{option_or, option_map_or}
 use Rattle.net_view.specs.LookBack.{last_in}
 use Rattle.hub_core.specs.Online.{is_online, says_online}
 use Rattle.hub_core.proofs.Prepared.{map_length}
-use Rattle.hub_core.specs.Running.{Fits, EachFits, IsRunning, AreMessages, lines_sent}
+use Rattle.hub_core.specs.Running.{Fits, EachFits, IsRunning, AreNumbered, lines_sent}
+use Rattle.hub_core.specs.Running.{content, content_heard, content_said, messages_of}
+use Rattle.hub_core.proofs.Kept.{entry_is_message, missed_are_messages}
+use Rattle.hub_core.proofs.Numbers.{filter_more, adds_heard, adds_said, numbered_start, numbered_step}
 use Rattle.std.proofs.Common.{not}
 use Rattle.hub_core.specs.declared.attach.AttachError.{AttachError}
 use Rattle.hub_core.specs.States.{view_now}
 use Rattle.hub_core.specs.Attaching.{refusal_of}
 use Rattle.hub_core.specs.Pumping.{Comes, entry_for, with_entry}
 use Rattle.std.proofs.Common.{rules, zero, suc, drop, filter, true, false}
-use Rattle.std.specs.Prelude.{IsTrue, IfSome, if◌then◌else◌}
+use Rattle.std.specs.Prelude.{IsTrue, IfSome, IsSome, if◌then◌else◌}
+use Rattle.std.specs.List.{filter_map}
 use Rattle.std.specs.Option.{option_and_then, option_map}
 use Rattle.std.specs.List.{AllByRecursion}
 use Rattle.std.proofs.SliceLists.{all_by_recursion_push}
@@ -75,9 +80,10 @@ heard_still done x now e =
 
 -- ---- a new hub
 
-pub started_runs : (h : HubState) (v : View) → h.taken ≡ [] → h.held ≡ None → h.sessions ≡ []
-    → v ≡ empty_view → h.history.kept ≡ [] → IsRunning h v false
-started_runs h v t o s e k =
+pub started_runs : (h : HubState) (v : View) (capacity : ℕ) → h.taken ≡ [] → h.held ≡ None → h.sessions ≡ []
+    → v ≡ empty_view → h.upstream.sent ≡ [] → h.first < 2 ^ 64
+    → h.history ≡ no_messages capacity h.first → IsRunning h v false
+started_runs h v capacity t o s e u small k =
     let l : less h.taken h.held ≡ [] = ap (λ k. less k h.held) t ∙ (ap (less []) o ∙ less_none []) in
     let a : heard h ≡ [] = ap arrivals l in
     record {
@@ -85,7 +91,10 @@ started_runs h v t o s e k =
       view_is = e ∙ (sym view_start ∙ ap view_of (sym a));
       online_is = sym (ap is_online a);
       fit = (let P : List SessionState → Type 0 = EachFits v in subst P (sym s) tt);
-      messages = subst AreMessages (sym k) tt;
+      numbered = subst (AreNumbered (messages_of h) h.first) (sym k)
+          (subst (λ all. AreNumbered all h.first (no_messages capacity h.first))
+          (sym (λ i. filter_map content_heard (l i) ++ filter_map content_said (u i)))
+          (numbered_start capacity h.first small));
     }
 
 -- ---- what sessions were sent
@@ -132,59 +141,20 @@ each_fits_after alone items x (s ∷ ss) ts fit d =
       | inr e ↦ each_fits_after alone items x ss ts fit.1 e.1
     ]
 
--- ---- messages
+-- ---- the same messages
 
-all_drop : {X : Type 0} (P : X → Type 0) (n : ℕ) (xs : List X) → AllByRecursion P xs
-    → AllByRecursion P (drop n xs)
-all_drop P zero xs all = all
-all_drop P (suc n) [] all = tt
-all_drop P (suc n) (x ∷ xs) all = all_drop P n xs all.1
+said_alike : (h h' : HubState) → less h'.taken h'.held ≡ less h.taken h.held
+    → filter_map content_said h'.upstream.sent ≡ filter_map content_said h.upstream.sent
+    → messages_of h' ≡ messages_of h
+said_alike h h' l u = λ i. filter_map content_heard (l i) ++ u i
 
--- what is kept of an item is a message
-pub said_is_message : (time : List ℕ) (source : Option (List ℕ)) (line : Parts)
-    → IfSome (message_of time source line) (λ e. IsTrue (is_message_command e.command))
-said_is_message time source line =
-    elim (is_message_command line.command) as (λ b. is_message_command line.command ≡ b
-    → IfSome (if b then option_and_then (λ s. option_map
-    (λ p. entry_parts time s line.command p.0 p.1) (target_and_text line.params)) source else None)
-    (λ e. IsTrue (is_message_command e.command))) [
-      | true ↦ λ h. of_source source (target_and_text line.params) h
-      | false ↦ λ h. tt
-    ] refl where
-      of_source : (source : Option (List ℕ)) (p : Option (List ℕ × List ℕ))
-          → is_message_command line.command ≡ true
-          → IfSome (option_and_then (λ s. option_map
-          (λ p. entry_parts time s line.command p.0 p.1) p) source)
-          (λ e. IsTrue (is_message_command e.command))
-      of_source None p h = tt
-      of_source (Some s) None h = tt
-      of_source (Some s) (Some p) h = h
-
-pub entry_is_message : (x : Came)
-    → IfSome (entry_for x) (λ e. IsTrue (is_message_command e.command))
-entry_is_message (Received line, moment) =
-    said_is_message (unwrap_or (time_of line) (time_text_of moment)) line.source line
-entry_is_message (Lost, moment) = search rules
-
-pub messages_stay : (h : Messages) (e : Option EntryParts) → AreMessages h.kept
-    → IfSome e (λ e. IsTrue (is_message_command e.command)) → AreMessages (with_entry h e).kept
-messages_stay h None all is = all
-messages_stay h (Some e) all is = go h.next where
-  go : (next : Option ℕ) → AreMessages (option_map_or (λ number. with_message number e h) next h).kept
-  go None = all
-  go (Some number) =
-      all_drop (λ (m : ℕ × EntryParts). IsTrue (is_message_command m.1.command)) _ _
-      (all_by_recursion_push (λ (m : ℕ × EntryParts). IsTrue (is_message_command m.1.command)) h.kept
-      (number, e) all is)
-
--- what somebody missed are messages
-pub missed_are_messages : (mark : Option ℕ) (kept : List (ℕ × EntryParts)) → AreMessages kept
-    → AllByRecursion (λ (e : EntryParts). IsTrue (is_message_command e.command)) (missed_of mark kept)
-missed_are_messages mark [] all = tt
-missed_are_messages mark (m ∷ kept) all =
-    elim (is_missed mark m) as (λ b. AllByRecursion (λ (e : EntryParts). IsTrue (is_message_command e.command))
-    (map (λ (m : ℕ × EntryParts). m.1) (cond b (m ∷ filter (is_missed mark) kept) (filter (is_missed mark) kept))))
-    [ true ↦ (all.0, missed_are_messages mark kept all.1) | false ↦ missed_are_messages mark kept all.1 ]
+numbered_alike : (h h' : HubState) → messages_of h' ≡ messages_of h → h'.first ≡ h.first
+    → h'.history ≡ h.history → AreNumbered (messages_of h) h.first h.history
+    → AreNumbered (messages_of h') h'.first h'.history
+numbered_alike h h' m f k all =
+    subst (λ l. AreNumbered l h'.first h'.history) (sym m)
+    (subst (λ n. AreNumbered (messages_of h) n h'.history) (sym f)
+    (subst (AreNumbered (messages_of h) h.first) (sym k) all))
 
 -- ---- an item more
 
@@ -207,9 +177,19 @@ module _ (alone : Bool) (h h' : HubState) (x : Came) (v : View) (online : Bool) 
   pub goes_on : (outlet : Bool) (w : View) (online' : Bool) → h'.held ≡ None
       → w ≡ view_of (heard h ++ x.0 ∷ []) → online' ≡ is_online (heard h ++ x.0 ∷ [])
       → Delivered outlet (λ s. packet_for (view_of (heard h)) x s.caps) h.sessions h'.sessions
-      → h'.history ≡ with_entry h.history (entry_for x) → IsRunning h' w online'
-  goes_on outlet w online' e view on d k =
+      → h'.history ≡ with_entry h.history (entry_for x) → h'.first ≡ h.first
+      → (IsSome (entry_for x) → IsSome h.history.next)
+      → filter_map content_said h'.upstream.sent ≡ filter_map content_said h.upstream.sent
+      → IsRunning h' w online'
+  goes_on outlet w online' e view on d k f numbers u =
       let l : less h'.taken h'.held ≡ h'.taken = ap (less h'.taken) e ∙ less_none h'.taken in
+      let more : List (List Text) = (filter_map content_heard (less h.taken h.held)
+      ++ option_to_list (content_heard x)) ++ filter_map content_said h.upstream.sent in
+      let m : messages_of h' ≡ more =
+      (λ i. filter_map content_heard (l i) ++ u i)
+      ∙ ap (λ l. l ++ filter_map content_said h.upstream.sent)
+      (ap (filter_map content_heard) now
+      ∙ filter_more content_heard (less h.taken h.held) x) in
       record {
         held_last = sym l ∙ (sym (append-nil (less h'.taken h'.held))
             ∙ ap (λ k. less h'.taken h'.held ++ option_to_list k) (sym e));
@@ -218,14 +198,20 @@ module _ (alone : Bool) (h h' : HubState) (x : Came) (v : View) (online : Bool) 
         fit = subst (λ k. EachFits k h'.sessions) (sym view)
             (each_fits_after outlet (heard h) x h.sessions h'.sessions
             (subst (λ k. EachFits k h.sessions) run.view_is run.fit) d);
-        messages = subst (λ (m : Messages). AreMessages m.kept) (sym k)
-            (messages_stay h.history (entry_for x) run.messages (entry_is_message x));
+        numbered = subst (λ l. AreNumbered l h'.first h'.history) (sym m)
+            (subst (λ n. AreNumbered more n h'.history) (sym f)
+            (subst (AreNumbered more h.first) (sym k)
+            (numbered_step (messages_of h) more h.first h.history (entry_for x)
+            (adds_heard (filter_map content_heard (less h.taken h.held))
+            (filter_map content_said h.upstream.sent) (content_heard x)) numbers
+            (entry_is_message x) run.numbered)));
       }
 
   -- it is held
   pub holds_on : (w : View) → w ≡ v → h'.held ≡ Some x → h'.sessions ≡ h.sessions
-      → h'.history ≡ h.history → IsRunning h' w online
-  holds_on w same e s k =
+      → h'.history ≡ h.history → h'.first ≡ h.first → h'.upstream.sent ≡ h.upstream.sent
+      → IsRunning h' w online
+  holds_on w same e s k f u =
       let l : less h'.taken h'.held ≡ less h.taken h.held =
       ap (less h'.taken) e ∙ (ap (λ k. less k (Some x)) now ∙ less_some (less h.taken h.held) x x) in
       let a : heard h' ≡ heard h = ap arrivals l in
@@ -236,7 +222,8 @@ module _ (alone : Bool) (h h' : HubState) (x : Came) (v : View) (online : Bool) 
         online_is = run.online_is ∙ ap is_online (sym a);
         fit = subst (λ k. EachFits k h'.sessions) (sym same)
             (subst (λ k. EachFits v k) (sym s) run.fit);
-        messages = subst (λ (m : Messages). AreMessages m.kept) (sym k) run.messages;
+        numbered = numbered_alike h h' (said_alike h h' l (ap (filter_map content_said) u)) f k
+            run.numbered;
       }
 
 -- ---- online
@@ -293,12 +280,13 @@ fits_at v (r ∷ ss) s ts h = fits_at v ss s ts h.1
 
 -- other sessions of the same hub
 pub with_sessions : (h h' : HubState) (v : View) (online : Bool) → IsRunning h v online
-    → h'.taken ≡ h.taken → h'.held ≡ h.held → h'.history ≡ h.history → EachFits v h'.sessions
-    → IsRunning h' v online
-with_sessions h h' v online run t e k fit =
-    let a : heard h' ≡ heard h =
-    ap (λ l. arrivals (less l h'.held)) t
-    ∙ ap (λ o. arrivals (less h.taken o)) e in
+    → h'.taken ≡ h.taken → h'.held ≡ h.held → h'.history ≡ h.history → h'.first ≡ h.first
+    → filter_map content_said h'.upstream.sent ≡ filter_map content_said h.upstream.sent
+    → EachFits v h'.sessions → IsRunning h' v online
+with_sessions h h' v online run t e k f u fit =
+    let l : less h'.taken h'.held ≡ less h.taken h.held =
+    ap (λ l. less l h'.held) t ∙ ap (λ o. less h.taken o) e in
+    let a : heard h' ≡ heard h = ap arrivals l in
     record {
       held_last = t ∙ (run.held_last
           ∙ (ap (λ l. less l h.held ++ option_to_list h.held) (sym t)
@@ -306,7 +294,7 @@ with_sessions h h' v online run t e k fit =
       view_is = run.view_is ∙ ap view_of (sym a);
       online_is = run.online_is ∙ ap is_online (sym a);
       fit = fit;
-      messages = subst (λ (m : Messages). AreMessages m.kept) (sym k) run.messages;
+      numbered = numbered_alike h h' (said_alike h h' l u) f k run.numbered;
     }
 
 -- the burst is read as the view
@@ -325,7 +313,7 @@ attached_fits alone h v online caps name mark id o o' run ready fresh unclosed t
     (sym run.view_is)
     (burst_agrees (heard h) caps entries
     (ap (λ (w : View). w.ready) (sym run.view_is) ∙ ready)
-    (missed_are_messages mark h.history.kept run.messages)) in
+    (missed_are_messages mark h.history.kept run.numbered.messages)) in
     fits_append v h.sessions _ run.fit (
       (
         subst (λ l. Agrees (held caps) (view_of (as_received l)) v) (sym sent) here,
@@ -349,15 +337,24 @@ pub pushed_states : {S : Type 0} (state : S → SessionState) (xs ys zs : List S
 pushed_states state xs ys zs s e f =
     ap (map state) (f ∙ ap (λ l. l ++ s ∷ []) e) ∙ map-append state xs (s ∷ [])
 
--- a message was said to the sessions
-pub said_on : (h h' : HubState) (v : View) (online : Bool) (e : Option EntryParts)
+-- a line was sent to the network, and a message to the sessions
+pub said_on : (h h' : HubState) (v : View) (online : Bool) (e : Option EntryParts) (p : List Parts)
     → IsRunning h v online → h'.taken ≡ h.taken → h'.held ≡ h.held
-    → h'.history ≡ with_entry h.history e → IfSome e (λ e. IsTrue (is_message_command e.command))
+    → h'.history ≡ with_entry h.history e → h'.first ≡ h.first
+    → h'.upstream.sent ≡ h.upstream.sent ++ p ∷ [] → content_said p ≡ option_map content e
+    → (IsSome e → IsSome h.history.next) → IfSome e (λ e. IsTrue (is_message_command e.command))
     → EachFits v h'.sessions → IsRunning h' v online
-said_on h h' v online e run t o k is fit =
-    let a : heard h' ≡ heard h =
-    ap (λ l. arrivals (less l h'.held)) t
-    ∙ ap (λ p. arrivals (less h.taken p)) o in
+said_on h h' v online e p run t o k f u c some is fit =
+    let l : less h'.taken h'.held ≡ less h.taken h.held =
+    ap (λ l. less l h'.held) t ∙ ap (λ o. less h.taken o) o in
+    let a : heard h' ≡ heard h = ap arrivals l in
+    let more : List (List Text) = filter_map content_heard (less h.taken h.held)
+    ++ (filter_map content_said h.upstream.sent ++ option_to_list (option_map content e)) in
+    let m : messages_of h' ≡ more =
+    (λ i. filter_map content_heard (l i) ++ filter_map content_said (u i))
+    ∙ ap (λ l. filter_map content_heard (less h.taken h.held) ++ l)
+    (filter_more content_said h.upstream.sent p
+    ∙ ap (λ o. filter_map content_said h.upstream.sent ++ option_to_list o) c) in
     record {
       held_last = t ∙ (run.held_last
           ∙ (ap (λ l. less l h.held ++ option_to_list h.held) (sym t)
@@ -365,6 +362,10 @@ said_on h h' v online e run t o k is fit =
       view_is = run.view_is ∙ ap view_of (sym a);
       online_is = run.online_is ∙ ap is_online (sym a);
       fit = fit;
-      messages = subst (λ (m : Messages). AreMessages m.kept) (sym k)
-          (messages_stay h.history e run.messages is);
+      numbered = subst (λ l. AreNumbered l h'.first h'.history) (sym m)
+          (subst (λ n. AreNumbered more n h'.history) (sym f)
+          (subst (AreNumbered more h.first) (sym k)
+          (numbered_step (messages_of h) more h.first h.history e
+          (adds_said (filter_map content_heard (less h.taken h.held))
+          (filter_map content_said h.upstream.sent) (option_map content e)) some is run.numbered)));
     }

@@ -99,23 +99,42 @@ with_sessions h ss = record {
   images = h.images;
 }
 
--- the packet of an answer to the session's client, by its own nick; a change of capabilities is not
--- granted
-abbrev pub answer_packet : HubState → SessionState → Parts → Option (List Parts)
-answer_packet h s line =
-    option_map (λ l. l ∷ []) (answer_to (view_now h).own s.caps false line)
+-- the packet of an answer to the session's client, which is called by our own nick; a change of
+-- capabilities is not granted
+abbrev pub answer_packet : Option Text → SessionState → Parts → Option (List Parts)
+answer_packet own s line = option_map (λ l. l ∷ []) (answer_to own s.caps false line)
+
+-- what came of a packet for the session between these, and of the sessions
+abbrev pub Replies : Bool → List SessionState → SessionState → List SessionState → List Parts
+    → Said → List SessionState → Type 0
+Replies alone front here back packet said.Answered ts =
+    (given : OutletState) × Took alone here.outlet packet given
+    × (ts ≡ front ++ with_outlet here given ∷ back)
+Replies alone front here back packet said.Cut ts =
+    (here.outlet.free ≡ 0) × (ts ≡ front ++ back)
+Replies alone front here back packet _ ts = ⊥
+
+-- what came of a line that we answer: of the session between these, and of the sessions
+abbrev pub Responds : Bool → Option Text → List SessionState → SessionState → List SessionState
+    → Parts → Said → List SessionState → Type 0
+Responds alone own front here back line said.Answered ts =
+    (given : OutletState) × Sends alone here.outlet (answer_packet own here line) given
+    × (ts ≡ front ++ with_outlet here given ∷ back)
+Responds alone own front here back line said.Cut ts =
+    Full here.outlet (answer_packet own here line) × (ts ≡ front ++ back)
+Responds alone own front here back line _ ts = ⊥
 
 -- the session was sent the answer
 pub record Answers (alone : Bool) (old : HubState) (id : ℕ) (line : Parts) (new : HubState) : Type 0 where
   pub around : Around old id
   pub given : OutletState
-  pub sent : Sends alone around.here.outlet (answer_packet old around.here line) given
+  pub sent : Sends alone around.here.outlet (answer_packet (view_now old).own around.here line) given
   pub is : new ≡ with_sessions old (around.front ++ with_outlet around.here given ∷ around.back)
 
 -- there was no room for the answer, and the session is gone
 pub record Cuts (old : HubState) (id : ℕ) (line : Parts) (new : HubState) : Type 0 where
   pub around : Around old id
-  pub full : Full around.here.outlet (answer_packet old around.here line)
+  pub full : Full around.here.outlet (answer_packet (view_now old).own around.here line)
   pub is : new ≡ with_sessions old (around.front ++ around.back)
 
 -- The line went to the network, and a message to the other sessions and to those that are kept.

@@ -1,4 +1,5 @@
-//! The hub of one network: what comes from the network goes to each session as its client reads it.
+//! The hub of one network: what comes from the network goes to each session as its client reads
+//! it, and what clients say goes to the network.
 #![tactic(auto)]
 
 mod attach;
@@ -8,6 +9,7 @@ mod hub;
 mod image_table;
 mod prepare;
 mod pump;
+mod respond;
 mod said;
 mod session;
 
@@ -15,4 +17,5 @@ pub use attach::{AttachError, NoSession, SESSION_LIMIT};
 pub use history::CapacityError;
 pub use hub::{Hub, HubError, Pumped, Setup};
 pub use net_view::OutOfMemory;
+pub use said::Said;
 pub use session::Session;

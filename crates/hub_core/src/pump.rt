@@ -109,8 +109,8 @@ fn is_kept(item: &Item) -> bool
     }
 }
 
-/// Makes what an item leads to: what each session but one is to be sent, the entry of a message, the answer
-/// to a PING. Nothing is sent yet.
+/// Makes what an item leads to: what each session but one is to be sent, the entry of a message,
+/// the answer to a PING. Nothing is sent yet.
 pub fn prepare_item<V: NetworkView, O: Outlet>(
     alloc: Global,
     view: &V,
@@ -128,6 +128,7 @@ pub fn prepare_item<V: NetworkView, O: Outlet>(
     ensures coming { OnOk result (AllByRecursion (λ s. s.coming
         ≡ given_but except (packet_for (V.view view.now) (arrival_of item.now, moment.0))
         (state_of O.sent O.closed O.capacity O.free s)) sessions.new.items) }
+    ensures numbered { IfOk result (λ r. IsSome r.0 → IsSome history.now.next) }
     ensures sets { OnOk result (map (λ m. m.caps) made.new.items ≡ all_sets_but except []
         (states_of O.sent O.closed O.capacity O.free sessions.old.items)) }
     ensures spent { IsErrOf result HubError.Spent ↔
@@ -210,7 +211,7 @@ impl<V: NetworkView + Drop, I: Inlet, O: Outlet> Hub<V, I, O> {
                 return Err(e);
             }
         };
-        if let Err(e) = self.view.take(&item) {
+        if let Err(_) = self.view.take(&item) {
             self.held = Some((item, moment));
             return Err(HubError::OutOfMemory);
         }

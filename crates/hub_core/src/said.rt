@@ -1,20 +1,22 @@
 //! What clients say.
 
-ghost use Rattle.std.specs.Prelude.{◌≡◌, ◌∷◌, ◌<◌, [], None, Some, true, IsSome, IfErr, IfOk, IsTrue, false, option_map};
+ghost use Rattle.std.specs.Prelude.{◌≡◌, ◌∷◌, ◌<◌, [], None, Some, true, IsSome, IfErr, IfOk};
+ghost use Rattle.std.specs.Prelude.{IsTrue, false, option_map};
 ghost use Rattle.std.specs.List.{list_any};
 ghost use Rattle.irc_line.specs.Line.{has_command};
 ghost use Rattle.irc_line.specs.Writing.{untagged_line};
-ghost use Rattle.client_caps.specs.Answers.{answer_to};
 ghost use Rattle.history.specs.Entry.{is_message};
 ghost use Rattle.hub_core.specs.Online.{is_online};
-ghost use Rattle.hub_core.specs.Saying.{Forwards, Sent, meaning, meant_by, sent_up};
+ghost use Rattle.hub_core.specs.Saying.{Forwards, Says, Sent, meaning, meant_by, sent_up};
 ghost use Rattle.hub_core.specs.States.{heard};
 ghost use Rattle.hub_core.specs.Saying.{unheard_commands};
 
 use crate::deliver::deliver;
 use crate::hub::{Hub, HubError};
 use crate::pump::{images_of, keep, prepare_item};
-use client_caps::{Asked, Caps, Moment, answer};
+use crate::respond::respond;
+use crate::session::place_of;
+use client_caps::{Asked, Moment, answers_tell_nothing};
 use history::is_message;
 use hub_ends::{Inlet, Outlet, SessionId};
 use irc_line::Line;
@@ -82,23 +84,6 @@ fn meaning(line: &Line) -> Meant
         Meant::Nothing
     } else {
         meant_by(Asked::of(line))
-    }
-}
-
-/// The answer to a line of a client with these capabilities.
-fn answer_to<V: NetworkView>(
-    alloc: Global,
-    view: &V,
-    caps: Caps,
-    line: &Line,
-) -> Result<Option<Packet>, OutOfMemory>
-    ensures { IfOk result (λ packet. packet ≡ option_map (λ l. l ∷ [])
-        (answer_to (V.view view.now).own caps false line.now)) }
-{
-    view.comes_from_lines();
-    match answer(alloc, view.own(), caps, false, line)? {
-        Some(line) => Ok(Some(Packet::one(alloc, &line)?)),
-        None => Ok(None),
     }
 }
 
@@ -184,5 +169,32 @@ impl<V: NetworkView + Drop, I: Inlet, O: Outlet> Hub<V, I, O> {
             Err(_) => unreachable!(),
         }
         Ok(Said::Forwarded)
+    }
+
+    /// Does what a line that the session's client said asks for. PING and CAP are answered to the
+    /// session, but for CAP END; it is cut where its outlet has no room for the answer. What is for
+    /// the network goes there without tags and source; a message, which is PRIVMSG or NOTICE with
+    /// two parameters, goes to each other session too, as its client reads it, and is kept.
+    ///
+    /// After `Quit` the caller detaches the session. After `NoSession`, `Offline` and `Busy`, and
+    /// after an error, nothing has changed. `Spent` comes exactly where we are online and the line
+    /// is a message for which there is no number, and before memory is asked for. `OutOfMemory` is
+    /// told where an allocation was refused.
+    pub fn said(&mut self, id: SessionId, line: &Line, moment: Moment) -> Result<Said, HubError>
+        ensures { Says O.alone self.old id line.now moment.0 result self.new }
+    {
+        let Some(place) = place_of(&self.sessions, id) else {
+            return Ok(Said::NoSession);
+        };
+        match meaning(line) {
+            Meant::Quits => Ok(Said::Quit),
+            Meant::Nothing => Ok(Said::Answered),
+            Meant::Asks => {
+                answers_tell_nothing();
+                let view = &self.view;
+                Ok(respond(self.alloc, view, &mut self.sessions, place, line)?)
+            }
+            Meant::Forwards => self.forward(id, line, moment),
+        }
     }
 }

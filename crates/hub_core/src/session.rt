@@ -2,7 +2,7 @@
 
 ghost use Rattle.std.specs.Prelude.{◌≡◌, ◌≢◌, ◌<◌, ℕ, None, All, IfSome, IfNone, MatchBool};
 ghost use Rattle.std.specs.Prelude.{length, slice_index_or};
-ghost use Rattle.hub_core.specs.Given.{Sends, Full, with_outlet};
+ghost use Rattle.hub_core.specs.Given.{Sends, Full, Took, with_outlet};
 
 use client_caps::Caps;
 use hub_ends::{Outlet, SessionId};
@@ -22,6 +22,23 @@ pub struct Session<O: Outlet> {
 impl<O: Outlet> Session<O> {
     ghost use Rattle.hub_core.specs.Insides.{outlet_of, state_of};
 
+    /// Sends a packet. `false` where there was no room for it.
+    pub fn send(&mut self, packet: Packet) -> bool
+        ensures sent { MatchBool result
+            (Took O.alone (outlet_of O.sent O.closed O.capacity O.free self.old.outlet)
+            packet (outlet_of O.sent O.closed O.capacity O.free self.new.outlet))
+            (O.free self.old.outlet ≡ 0) }
+        ensures coming { self.new.coming ≡ self.old.coming }
+        ensures same { state_of O.sent O.closed O.capacity O.free self.new
+            ≡ with_outlet (state_of O.sent O.closed O.capacity O.free self.old)
+            (outlet_of O.sent O.closed O.capacity O.free self.new.outlet) }
+    {
+        match self.outlet.offer(packet) {
+            Ok(()) => true,
+            Err(_) => false,
+        }
+    }
+
     /// Sends what is to be sent, if there is something. `false` where that found no room.
     pub fn send_coming(&mut self) -> bool
         ensures sent { MatchBool result
@@ -35,10 +52,7 @@ impl<O: Outlet> Session<O> {
     {
         match self.coming.take() {
             None => true,
-            Some(packet) => match self.outlet.offer(packet) {
-                Ok(()) => true,
-                Err(_) => false,
-            },
+            Some(packet) => self.send(packet),
         }
     }
 }

@@ -96,7 +96,7 @@ module _ (g : Given.Over) (c : goal.After-push_reserved g) where
 pub invariant_of-self-2 : goal.invariant_of-self-2
 invariant_of-self-2 g c =
     with_sessions (old g c) _ (g.V.NetworkView.view c.self.inside.view) c.self.inside.online
-    c.self.invariant refl refl refl
+    c.self.invariant refl refl refl refl refl
     (subst (EachFits (g.V.NetworkView.view c.self.inside.view)) (sym (now g c))
     (attached_fits g.O.Outlet.alone (old g c) (g.V.NetworkView.view c.self.inside.view)
     c.self.inside.online c.args.caps (option_map (λ n. n.now) c.args.name) c.mark_of-mark.result

@@ -98,7 +98,7 @@ module _ (g : Given.Over) (c : goal.Joined-gone-2 g) where
 pub invariant_of-self : goal.invariant_of-self
 invariant_of-self g c =
     with_sessions (old g c) _ (g.V.NetworkView.view c.self.inside.view) c.self.inside.online
-    c.self.invariant refl refl refl
+    c.self.invariant refl refl refl refl refl
     (subst (EachFits (g.V.NetworkView.view c.self.inside.view)) (sym (now g c))
     (fits_without (g.V.NetworkView.view c.self.inside.view) (front g c)
     (state g c c.remove-gone.result) (back g c) (fit g c)))

@@ -4,7 +4,11 @@ use Rattle.hub_core.specs.Insides.{hub_of}
 use Rattle.hub_core.specs.Given.{Delivered}
 use Rattle.hub_core.specs.Pumping.{with_entry}
 use Rattle.hub_core.specs.States.{HubState}
-use Rattle.hub_core.specs.Saying.{Forwards, given_others, own_message, entry_said, images_said}
+use Rattle.std.specs.List.{filter_map}
+use Rattle.hub_core.specs.Saying.{Forwards, given_others, own_message, entry_said, images_said, sent_up}
+use Rattle.hub_core.specs.Running.{content_said}
+use Rattle.hub_core.proofs.Numbers.{sent_more, unsaid}
+use Rattle.hub_core.proofs.Running.{with_sessions}
 use Rattle.hub_core.proofs.Forwarded.{nobody, no_message, outlet, room_found, sent_from, with_upstream}
 use Rattle.hub_core.proofs.hub.Hub.forward.Goals as goal
 use Rattle.hub_core.proofs.hub.Hub.forward.Given
@@ -57,3 +61,12 @@ forwards g c =
 
 pub returns : goal.returns
 returns g c = rw (← c.self.view_is) (forwards g c)
+
+pub invariant_of-self-2 : goal.invariant_of-self-2
+invariant_of-self-2 g c =
+    with_sessions (old g c.self.inside) _ (g.V.NetworkView.view c.self.inside.view)
+    c.self.inside.online c.self.invariant refl refl refl refl
+    (ap (filter_map content_said) (forwards g c).upstream.sent
+    ∙ sent_more (old g c.self.inside).upstream.sent (sent_up c.args.line.now ∷ [])
+    (unsaid c.args.line.now (sym c.if-is_for_all-2.ensures)))
+    c.self.invariant.fit

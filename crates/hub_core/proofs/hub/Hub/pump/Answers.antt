@@ -7,7 +7,9 @@ use Rattle.hub_core.specs.declared.session.Session.{Session}
 use Rattle.hub_core.specs.Insides.{hub_of, state_of}
 use Rattle.hub_core.specs.Given.{Delivered, packet_for, given_but}
 use Rattle.hub_core.specs.States.{HubState, SessionState, heard}
-use Rattle.hub_core.specs.Pumping.{Takes, Puts, with_entry, images_for, counted}
+use Rattle.std.specs.Prelude.{IsSome}
+use Rattle.hub_core.specs.Pumping.{Takes, Puts, pong_for, with_entry, images_for, counted}
+use Rattle.hub_core.proofs.Numbers.{puts_unsaid}
 use Rattle.hub_core.proofs.Prepared.{map_length}
 use Rattle.hub_core.proofs.Running.{goes_on, holds_on, online_more, left_states}
 use Rattle.hub_core.proofs.hub.Hub.pump.Goals as goal
@@ -17,13 +19,13 @@ pub invariant_of-self-in-Err : goal.invariant_of-self-in-Err
 invariant_of-self-in-Err g c =
     holds_on g.I.Inlet.alone _ _ _ _ _
     record { taken = c.in-Some.ensures.taken; comes = c.in-Some.ensures.ahead }
-    c.self.invariant _ refl refl c.prepare_item.ensures.states refl
+    c.self.invariant _ refl refl c.prepare_item.ensures.states refl refl refl
 
 pub invariant_of-self-in-Err-take : goal.invariant_of-self-in-Err-take
 invariant_of-self-in-Err-take g c =
     holds_on g.I.Inlet.alone _ _ _ _ _
     record { taken = c.in-Some.ensures.taken; comes = c.in-Some.ensures.ahead }
-    c.self.invariant _ c.in-Err-take.ensures.kept refl c.prepare_item.ensures.states refl
+    c.self.invariant _ c.in-Err-take.ensures.kept refl c.prepare_item.ensures.states refl refl refl
 
 module _ (g : Given.Over) (c : goal.Joined-item g) where
   abbrev state : Session g.row.O.Denot → SessionState
@@ -68,6 +70,12 @@ module _ (g : Given.Over) (c : goal.Joined-item g) where
       (given_but None (packet_for (g.V.NetworkView.view c.self.inside.view) item))
       c.in-Ok.ensures.coming))
 
+answered : (g : Given.Over) (c : goal.Joined-item g)
+    → Puts g.O.Outlet.alone (old g c).upstream (pong_for (item g c).0) (new g c).upstream
+answered g c =
+    subst (λ p. Puts g.O.Outlet.alone (old g c).upstream p (new g c).upstream)
+    c.in-Ok.ensures.made.1 c.put.ensures
+
 pub invariant_of-self-2 : goal.invariant_of-self-2
 invariant_of-self-2 g c =
     goes_on g.I.Inlet.alone _ _ _ _ _
@@ -78,7 +86,10 @@ invariant_of-self-2 g c =
     ∙ (ap (λ b. option_map_or (λ said. said) (says_online (item g c).0) b) c.self.invariant.online_is
     ∙ online_more (heard (old g c)) (item g c).0))
     (delivered g c)
-    (c.keep.ensures ∙ ap (with_entry c.self.inside.history) c.in-Ok.ensures.made.0)
+    (c.keep.ensures ∙ ap (with_entry c.self.inside.history) c.in-Ok.ensures.made.0) refl
+    (λ some. c.in-Ok.ensures.numbered (subst IsSome (sym c.in-Ok.ensures.made.0) some))
+    (puts_unsaid g.O.Outlet.alone (item g c).0 (old g c).upstream (new g c).upstream
+    (answered g c))
 
 takes : (g : Given.Over) (c : goal.Joined-item g)
     → Takes g.I.Inlet.alone g.O.Outlet.alone (old g c) c.deliver-cut.result (new g c)
@@ -89,8 +100,7 @@ takes g c = record {
   sessions = delivered g c;
   left = left_states (state g c) _ _ _ c.deliver-cut.result c.deliver-cut.ensures.count
       c.prepare_item.ensures.states;
-  upstream = subst (λ p. Puts g.O.Outlet.alone (old g c).upstream p (new g c).upstream)
-      c.in-Ok.ensures.made.1 c.put.ensures;
+  upstream = answered g c;
   history = c.keep.ensures ∙ ap (with_entry c.self.inside.history) c.in-Ok.ensures.made.0;
   images = c.saturating_add-self-inside.ensures ∙ ap (λ n. counted (c.self.inside.images + n))
       (c.images_of.ensures ∙ ap (images_for (item g c).0)

@@ -10,9 +10,18 @@ use Rattle.hub_core.specs.Insides.{hub_of, state_of, outlet_of}
 use Rattle.hub_core.specs.Given.{Delivered, packet_for, given_but}
 use Rattle.hub_core.specs.States.{HubState, SessionState, OutletState, heard, view_now}
 use Rattle.hub_core.specs.Pumping.{with_entry, counted}
-use Rattle.hub_core.specs.Saying.{Forwards, own_message, given_others, entry_said, images_said}
+use Rattle.hub_core.specs.Saying.{Forwards, own_message, given_others, entry_said, images_said, sent_up}
+use Rattle.std.proofs.Common.{None, unwrap_or}
+use Rattle.std.specs.Option.{option_map}
+use Rattle.std.specs.Prelude.{IsSome}
+use Rattle.irc_line.specs.Tags.{time_of}
+use Rattle.client_caps.specs.Moment.{time_text_of}
+use Rattle.hub_core.specs.Running.{content, content_said}
+use Rattle.hub_core.proofs.Numbers.{said_content}
+use Rattle.hub_core.proofs.Taken.{online_owned}
 use Rattle.hub_core.proofs.Prepared.{map_length}
-use Rattle.hub_core.proofs.Running.{said_on, entry_is_message}
+use Rattle.hub_core.proofs.Running.{said_on}
+use Rattle.hub_core.proofs.Kept.{entry_is_message}
 use Rattle.hub_core.proofs.Unread.{each_fits_unread, given_unread, said_unread, own_is}
 use Rattle.hub_core.proofs.hub.Hub.spread.Goals as goal
 use Rattle.hub_core.proofs.hub.Hub.spread.Given
@@ -103,10 +112,32 @@ module _ (g : Given.Over) (c : goal.Joined-own-2 g) where
     same = (refl, refl, refl, refl, refl, refl);
   }
 
+module _ (g : Given.Over) (c : goal.Joined-own-2 g) where
+  online : is_online (heard (old g c)) ≡ true
+  online =
+      subst (λ (h : HubState). is_online (heard h) ≡ true) (sym c.self.view_is) c.requires.online
+
+  -- we have a nick, so there is a source
+  sourced : IsSome (own g c).source
+  sourced =
+      subst (λ (l : Parts). IsSome l.source) (sym c.in_ok-from_us.ensures)
+      (subst (λ (v : View). IsSome v.own) (sym c.self.invariant.view_is)
+      (online_owned (heard (old g c)) online))
+
+  says : content_said (sent_up c.args.line.now ∷ [])
+      ≡ option_map content (entry_said (Some (Received (own g c), moment g c)))
+  says =
+      ap (λ (l : Parts). content_said (untagged_line None l.command l.params ∷ []))
+      (sym c.in_ok-from_us.ensures)
+      ∙ said_content (unwrap_or (time_of (own g c)) (time_text_of (moment g c))) (own g c).source
+      (own g c) (is_own g c) sourced
+
 pub invariant_of-self-2 : goal.invariant_of-self-2
 invariant_of-self-2 g c =
     said_on (old g c) _ (view g c) c.self.inside.online
-    (entry_said (Some (Received (own g c), moment g c))) c.self.invariant refl refl (kept g c)
+    (entry_said (Some (Received (own g c), moment g c))) (sent_up c.args.line.now ∷ [])
+    c.self.invariant refl refl (kept g c) refl (forwards g c).upstream.sent (says g c)
+    (λ some. subst (λ (h : HubState). IsSome h.history.next) (sym c.self.view_is) c.requires.number)
     (entry_is_message (Received (own g c), moment g c))
     (each_fits_unread g.O.Outlet.alone (view g c)
     (given_but (Some c.args.id) (packet_for (view g c) (Received (own g c), moment g c)))
