@@ -12,7 +12,7 @@ const SHORT_REST: u64 = 1;
 
 /// What one worker sleeps on, and others wake it by: a ring that comes before it sleeps keeps it
 /// awake. With a flag, which the pump of a network raises while it waits for room in an outlet, and
-/// which is raised for a writer to tell it to stop.
+/// which is raised for a writer to tell it to stop. One worker at a time sleeps on it.
 #[derive(Drop)]
 pub struct Bell {
     parker: Parker,
@@ -51,10 +51,9 @@ impl Bell {
         }
     }
 
-    /// Raises the flag, and rings.
+    /// Raises the flag. It wakes nobody.
     pub fn raise(&self) {
         self.raised.store(true, Ordering::SeqCst);
-        self.parker.unpark();
     }
 
     /// Takes the flag down.

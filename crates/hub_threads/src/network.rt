@@ -45,6 +45,12 @@ impl<V: NetworkView + Drop> Network<V> {
         hub
     }
 
+    /// Sleeps until there may be an item, for the pump: at most 1 ms, unless `turns` is
+    /// 18446744073709551615.
+    pub(crate) fn sleep<R: Wait>(&self, rt: &R, turns: u64) {
+        self.pump.sleep(rt, turns);
+    }
+
     /// What the pump of this network sleeps on, to make outlets with.
     pub fn pump_bell(&self) -> Result<SharedBell, OutOfMemory> {
         Ok(Arc::try_clone(&self.pump)?)

@@ -191,14 +191,30 @@ impl OutletEnd {
         self.buffer = buffer;
     }
 
-    /// What tells the writer of this end to stop: to raise it.
-    pub fn stopper(&self) -> Result<SharedBell, OutOfMemory> {
-        Ok(Arc::try_clone(&self.writer)?)
+    /// What tells the writer of this end to stop.
+    pub fn stopper(&self) -> Result<Stopper, OutOfMemory> {
+        Ok(Stopper {
+            writer: Arc::try_clone(&self.writer)?,
+        })
     }
 
     /// Takes the sign to stop back, so that a writer may go on with this end.
     pub fn go_on(&self) {
         self.writer.lower();
+    }
+}
+
+/// Tells the writer of an outlet to stop: it writes what it has taken, and ends.
+#[derive(Drop)]
+pub struct Stopper {
+    writer: SharedBell,
+}
+
+impl Stopper {
+    /// Tells it. It takes no lock and waits for nobody.
+    pub fn stop(&self) {
+        self.writer.raise();
+        self.writer.ring();
     }
 }
 
