@@ -12,6 +12,7 @@ use Rattle.hub_core.specs.declared.said.Said.{Said}
 use Rattle.hub_core.specs.declared.said.Said.TheVariants as said
 use Rattle.hub_core.specs.States.{SessionState, HubState, OutletState}
 use Rattle.hub_core.specs.Given.{Delivered}
+use Rattle.hub_core.specs.Upkeep.{with_upstream}
 use Rattle.hub_core.specs.Saying.{Forwards, Sent, Stays, given_others, own_message, from_us}
 
 -- that more room is known of changes nothing else
@@ -44,21 +45,6 @@ pub no_message : (h : HubState) (line : Parts) (moment : ℕ) → is_message lin
     → own_message h line moment ≡ None
 no_message h line moment e =
     ap (λ b. if b then Some (Received (from_us h line), moment) else None) e
-
--- the same hub with this outlet to the network
-abbrev pub with_upstream : HubState → OutletState → HubState
-with_upstream h o = record {
-  taken = h.taken;
-  ahead = h.ahead;
-  held = h.held;
-  sessions = h.sessions;
-  next = h.next;
-  upstream = o;
-  history = h.history;
-  first = h.first;
-  marks = h.marks;
-  images = h.images;
-}
 
 abbrev pub outlet : List (List Parts) → Option ℕ → ℕ → ℕ → OutletState
 outlet s c m f = record { sent = s; closed = c; capacity = m; free = f }

@@ -9,3 +9,4 @@ pub mod Splits
 pub mod Unread
 pub mod Forwarded
 pub mod Answered
+pub mod Freed

@@ -7,3 +7,4 @@ pub mod Insides
 pub mod Pumping
 pub mod Attaching
 pub mod Saying
+pub mod Upkeep

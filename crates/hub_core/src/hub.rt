@@ -1,12 +1,12 @@
 //! The hub of one network.
 
-ghost use Rattle.std.specs.Prelude.{◌≡◌, ◌↔◌, [], None, Some, false, IfOk, IsErrOf};
+ghost use Rattle.std.specs.Prelude.{◌≡◌, ◌↔◌, [], None, Some, false, IfOk, IsErrOf, option_map};
 ghost use Rattle.std.specs.FinMap as map;
 ghost use Rattle.net_view.specs.View.{empty_view};
 ghost use Rattle.history.specs.Messages.{is_capacity};
 
 use crate::image_table::Made;
-use crate::session::Session;
+use crate::session::{Session, place_of};
 use client_caps::Moment;
 use history::{CapacityError, History, Marks};
 use hub_ends::{Inlet, Outlet, SessionId};
@@ -105,6 +105,7 @@ impl<V: NetworkView + Drop, I: Inlet, O: Outlet> Hub<V, I, O> {
     ghost use Rattle.hub_core.specs.Online.{is_online};
     ghost use Rattle.hub_core.specs.Running.{IsRunning};
     ghost use Rattle.hub_core.specs.Insides.{outlet_of};
+    ghost use Rattle.hub_core.specs.Upkeep.{LendsOutlet};
 
     /// A hub of these parts, without sessions, messages or client names. `BadCapacity` comes
     /// exactly where the setup's history is 0 or above 10,000, and before memory is asked for. After
@@ -170,6 +171,17 @@ impl<V: NetworkView + Drop, I: Inlet, O: Outlet> Hub<V, I, O> {
         ensures { outlet_of O.sent O.closed O.capacity O.free result.now ≡ self.now.upstream }
     {
         &self.upstream
+    }
+
+    /// The outlet of a session; `None` exactly where no session has the number.
+    pub fn outlet(&self, id: SessionId) -> Option<&O>
+        ensures { LendsOutlet self.now id
+            (option_map (λ o. outlet_of O.sent O.closed O.capacity O.free o.now) result) }
+    {
+        let Some(place) = place_of(&self.sessions, id) else {
+            return None;
+        };
+        Some(&self.sessions[place].outlet)
     }
 
     /// How many images were made: for each line pumped, and for each message forwarded, one for

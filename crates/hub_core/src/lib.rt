@@ -12,6 +12,7 @@ mod pump;
 mod respond;
 mod said;
 mod session;
+mod upkeep;
 
 pub use attach::{AttachError, NoSession, SESSION_LIMIT};
 pub use history::CapacityError;

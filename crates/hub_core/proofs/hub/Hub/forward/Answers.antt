@@ -9,7 +9,8 @@ use Rattle.hub_core.specs.Saying.{Forwards, given_others, own_message, entry_sai
 use Rattle.hub_core.specs.Running.{content_said}
 use Rattle.hub_core.proofs.Numbers.{sent_more, unsaid}
 use Rattle.hub_core.proofs.Running.{with_sessions}
-use Rattle.hub_core.proofs.Forwarded.{nobody, no_message, outlet, room_found, sent_from, with_upstream}
+use Rattle.hub_core.proofs.Forwarded.{nobody, no_message, outlet, room_found, sent_from}
+use Rattle.hub_core.specs.Upkeep.{with_upstream}
 use Rattle.hub_core.proofs.hub.Hub.forward.Goals as goal
 use Rattle.hub_core.proofs.hub.Hub.forward.Given
 

@@ -1,0 +1,104 @@
+//! What a hub is asked for between its steps: a sign of life of the network, and who is nearly full.
+
+ghost use Rattle.std.specs.Prelude.{◌≡◌, ◌∷◌, ◌++◌, ◌≤◌, [], true, IfOk, codes, if◌then◌else◌};
+ghost use Rattle.hub_core.specs.Insides.{outlet_of, state_of, states_of};
+ghost use Rattle.hub_core.specs.Upkeep.{AreFreed, Frees, KeepsAlive, is_nearly_full, life_asked, nearly_full};
+ghost use Rattle.hub_core.specs.Upkeep.{with_free};
+
+use crate::hub::Hub;
+use crate::session::Session;
+use hub_ends::{Inlet, Outlet, SessionId};
+use irc_line::{Line, MakeError};
+use net_view::{NetworkView, OutOfMemory};
+use std::alloc::Global;
+use welcome::Packet;
+
+/// `PING bnc`.
+fn ping(alloc: Global) -> Result<Packet, OutOfMemory>
+    ensures { IfOk result (λ packet. packet ≡ life_asked ∷ []) }
+{
+    match Line::make(alloc, None, b"PING", &[b"bnc"]) {
+        Ok(line) => Packet::one(alloc, &line),
+        Err(MakeError::OutOfMemory) => Err(OutOfMemory),
+        Err(MakeError::NotALine) => unreachable!(),
+    }
+}
+
+/// Whether a session's outlet has nearly no room.
+fn is_nearly_full<O: Outlet>(session: &mut Session<O>) -> bool
+    ensures state { state_of O.sent O.closed O.capacity O.free session.new
+        ≡ with_free (state_of O.sent O.closed O.capacity O.free session.old)
+        (O.free session.new.outlet) }
+    ensures more { O.free session.old.outlet ≤ O.free session.new.outlet }
+    ensures alone { O.alone ≡ true → O.free session.new.outlet ≡ O.free session.old.outlet }
+    ensures value { result
+        ≡ is_nearly_full (state_of O.sent O.closed O.capacity O.free session.new) }
+{
+    session.outlet.free() < (session.outlet.capacity() / 4).max(1)
+}
+
+/// Adds a number, where it is to be added.
+fn push_if(numbers: &mut Vec<SessionId>, number: SessionId, is: bool) -> Result<(), OutOfMemory>
+    ensures { IfOk result (λ u. numbers.new.items
+        ≡ numbers.old.items ++ (if is then number ∷ [] else [])) }
+{
+    if is {
+        numbers.push(number)?;
+    }
+    Ok(())
+}
+
+/// The numbers of the sessions whose outlets have nearly no room.
+fn all_nearly_full<O: Outlet>(
+    alloc: Global,
+    sessions: &mut Vec<Session<O>>,
+) -> Result<Vec<SessionId>, OutOfMemory>
+    ensures sessions { AreFreed O.alone
+        (states_of O.sent O.closed O.capacity O.free sessions.old.items)
+        (states_of O.sent O.closed O.capacity O.free sessions.new.items) }
+    ensures numbers { IfOk result (λ numbers. numbers.items
+        ≡ nearly_full (states_of O.sent O.closed O.capacity O.free sessions.new.items)) }
+{
+    let mut numbers = Vec::new(alloc);
+    for place in 0..sessions.len() {
+        let session = &mut sessions[place];
+        let is_full = is_nearly_full(session);
+        push_if(&mut numbers, session.id, is_full)?;
+    }
+    Ok(numbers)
+}
+
+impl<V: NetworkView + Drop, I: Inlet, O: Outlet> Hub<V, I, O> {
+    /// Puts `PING bnc` into the outlet to the network, where we are online and there is room, and
+    /// answers whether it did. The answer of the network, a PONG, is for nobody. After
+    /// `OutOfMemory`, which is told where an allocation was refused, nothing was put.
+    pub fn keepalive(&mut self) -> Result<bool, OutOfMemory>
+        ensures { KeepsAlive O.alone self.old result self.new }
+    {
+        if !self.online {
+            return Ok(false);
+        }
+        if !self.upstream.room() {
+            return Ok(false);
+        }
+        let Ok(ping) = ping(self.alloc) else {
+            return Err(OutOfMemory);
+        };
+        match self.upstream.offer(ping) {
+            Ok(()) => {}
+            Err(_) => unreachable!(),
+        }
+        Ok(true)
+    }
+
+    /// The numbers of the sessions whose outlets have less room than for a quarter of the packets
+    /// that they hold at most, or for none, in the order in which the sessions were attached.
+    /// `OutOfMemory` is told where an allocation was refused. Nothing changes, but that more room
+    /// may be known of.
+    pub fn nearly_full(&mut self) -> Result<Vec<SessionId>, OutOfMemory>
+        ensures hub { Frees O.alone self.old self.new }
+        ensures numbers { IfOk result (λ numbers. numbers.items ≡ nearly_full self.new.sessions) }
+    {
+        all_nearly_full(self.alloc, &mut self.sessions)
+    }
+}
