@@ -6,7 +6,7 @@ ghost use Rattle.hub_core.specs.Running.{IsRunning};
 ghost use Rattle.hub_core.specs.States.{heard, view_now};
 
 use crate::OutOfMemory;
-use crate::bell::SharedBell;
+use crate::bell::{Bell, SharedBell};
 use crate::inlet_ring::RingInlet;
 use crate::outlet_ring::RingOutlet;
 use hub_core::Hub;
@@ -45,10 +45,9 @@ impl<V: NetworkView + Drop> Network<V> {
         hub
     }
 
-    /// Sleeps until there may be an item, for the pump: at most 1 ms, unless `turns` is
-    /// 18446744073709551615.
-    pub(crate) fn sleep<R: Wait>(&self, rt: &R, turns: u64) {
-        self.pump.sleep(rt, turns);
+    /// What the pump of this network sleeps on.
+    pub(crate) fn bell(&self) -> &Bell {
+        &self.pump
     }
 
     /// What the pump of this network sleeps on, to make outlets with.

@@ -57,6 +57,17 @@ impl RingOutlet {
     }
 }
 
+impl RingOutlet {
+    /// How many items the other end is known to have taken.
+    pub(crate) fn taken(&self) -> u64 {
+        let held = self
+            .producer
+            .capacity()
+            .saturating_sub(self.producer.cached_slots());
+        self.count.saturating_sub(held as u64)
+    }
+}
+
 impl Outlet for RingOutlet {
     ghost use Rattle.std.specs.Prelude.{false};
     ghost use Rattle.hub_threads.specs.Rings.{capacity_of, closed_of, free_of, sent_of, told_of};
