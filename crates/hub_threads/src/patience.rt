@@ -37,10 +37,10 @@ impl Patience {
             .any(|stalled| stalled.0 == id && stalled.1 == taken)
     }
 
-    /// Gives sessions that are nearly full time to take packets, outside the lock: at most 50 ms for
-    /// all together, and less where none is nearly full any more. It sleeps on `bell`, at most 1 ms a
-    /// time; while the bell of a network's pump has its flag up, each packet taken wakes it. Who took
-    /// nothing is not waited for again until it does.
+    /// Gives sessions that are nearly full time to take packets, outside the lock: at most 50 ms
+    /// for all together, and less where none is nearly full any more. It sleeps on `bell`, at most
+    /// 1 ms a time; where that is the bell of the network's pump, each packet taken wakes it. Who
+    /// took nothing is not waited for again until it does.
     ///
     /// It is best effort: where memory is refused, a session is given no time.
     pub fn give_time<V: NetworkView + Drop, C: Clock, R: Wait>(

@@ -26,8 +26,8 @@ pub enum PumpEnd {
 /// which the item is tried again. The lock is taken anew for each step. Without an item it sleeps
 /// until it is woken: at most 1 ms, unless `turns` is 18446744073709551615.
 ///
-/// Before an item, sessions that are nearly full are given time, outside the lock: at most 50 ms for
-/// all, and none for who took nothing when it was given some. Who is full then is cut.
+/// Before an item, sessions that are nearly full are given time, outside the lock: at most 50 ms
+/// for all, and none for who took nothing when it was given some. Who is full then is cut.
 pub fn pump_loop<V: NetworkView + Drop, G: Gate, C: Clock, R: Wait>(
     rt: &R,
     alloc: Global,
