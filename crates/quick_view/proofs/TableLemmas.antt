@@ -51,7 +51,7 @@ use Rattle.std.proofs.lemmas.Option.{slice_get-map}
 use Rattle.irc_support.specs.Text.{Text}
 use Rattle.net_view.specs.Names.{bytes_cmp}
 use Rattle.net_view.proofs.Keys.{bytes_exact}
-use Rattle.quick_view.specs.declared.table.Entry.{Entry}
+use Rattle.quick_view.specs.declared.slot.Slot.{Slot}
 use Rattle.std.specs.Option.{unwrap_or, option_map}
 use Rattle.std.specs.List.{slice_get}
 use Rattle.quick_view.specs.Table.{entry_of, swapped_in, swapped_out}

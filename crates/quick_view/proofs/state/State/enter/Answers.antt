@@ -45,14 +45,14 @@ returns-then-again-clause-taken g c known =
     c.args.channel.now n) =
     ap rooms_of c.insert.ensures.all
     ∙ insert-shown bytes_cmp channel_of nat_list_cmp_total bytes_exact c.reserve.new.self.all
-    c.in_ok-place.place.items c.in_ok-room.room
-    ∙ (λ i. fin.insert (rooms_of (c.in_ok-reserve.ensures.all i)) (c.in_ok-place.ensures i)
-    (c.in_ok-room.ensures i)) in
+    c.in_ok-room.room.value.key.items c.in_ok-room.room.value.value
+    ∙ (λ i. fin.insert (rooms_of (c.in_ok-reserve.ensures.all i)) (c.in_ok-room.ensures.key i)
+    (c.in_ok-room.ensures.room i)) in
     let ps : people_of c.name_person.new.people.all ≡ fin.insert v.people n joiner =
     c.name_person.ensures.named
-    ∙ (λ i. fin.insert (people_of (c.in_ok-reserve-2.ensures.all i)) (c.in_ok-key.ensures i)
-    (told_person (Some (Some (c.in_ok-nick.ensures.items i))) (c.in_ok-account.ensures i) None
-    (fin.get (people_of (c.in_ok-reserve-2.ensures.all i)) (c.in_ok-key.ensures i)))) in
+    ∙ (λ i. fin.insert (people_of (c.in_ok-reserve-2.ensures.all i)) (c.in_ok-person.ensures.key i)
+    (told_person (Some (Some (c.in_ok-person.ensures.nick i))) (c.in_ok-account.ensures i) None
+    (fin.get (people_of (c.in_ok-reserve-2.ensures.all i)) (c.in_ok-person.ensures.key i)))) in
     (λ i. record v {
       channels = cs i;
       people = (c.retain_seen.ensures ∙ (λ j. fin.retain_keys (ps j) (is_seen (cs j)))) i;
@@ -73,18 +73,17 @@ returns-else-again-clause-taken g c known =
     c.args.channel.now n) =
     ap rooms_of c.insert.ensures.all
     ∙ insert-shown bytes_cmp channel_of nat_list_cmp_total bytes_exact c.reserve.new.self.all
-    c.in_ok-place.place.items c.in_ok-room.room
-    ∙ (λ i. fin.insert (rooms_of (c.in_ok-reserve.ensures.all i)) (c.in_ok-place.ensures i)
-    (c.in_ok-room.ensures i)) in
+    c.in_ok-room.room.value.key.items c.in_ok-room.room.value.value
+    ∙ (λ i. fin.insert (rooms_of (c.in_ok-reserve.ensures.all i)) (c.in_ok-room.ensures.key i)
+    (c.in_ok-room.ensures.room i)) in
     let ps : people_of c.name_person.new.people.all ≡ fin.insert v.people n joiner =
     c.name_person.ensures.named
-    ∙ (λ i. fin.insert (people_of (c.in_ok-reserve-2.ensures.all i)) (c.in_ok-key.ensures i)
-    (told_person (Some (Some (c.in_ok-nick.ensures.items i))) (c.in_ok-account.ensures i) None
-    (fin.get (people_of (c.in_ok-reserve-2.ensures.all i)) (c.in_ok-key.ensures i)))) in
+    ∙ (λ i. fin.insert (people_of (c.in_ok-reserve-2.ensures.all i)) (c.in_ok-person.ensures.key i)
+    (told_person (Some (Some (c.in_ok-person.ensures.nick i))) (c.in_ok-account.ensures i) None
+    (fin.get (people_of (c.in_ok-reserve-2.ensures.all i)) (c.in_ok-person.ensures.key i)))) in
     let none : fin.get v.channels k ≡ None =
     sym (none_is channel_of c.args.self.now.rooms.all k
-    (sym (λ i. fin.contains_key (c.in_ok-reserve.ensures.all i) ((c.deref.ensures.value ∙
-    c.in_ok-place.ensures) i)) ∙ sym c.if-again.ensures)) in
+    (sym (λ i. fin.contains_key (c.in_ok-reserve.ensures.all i) k) ∙ sym c.if-again.ensures)) in
     (λ i. record v {
       channels = cs i;
       people = all_still_seen v.channels (fin.insert v.people n joiner) (people_of

@@ -52,10 +52,11 @@ returns-clause-taken g c =
     ∙ sym c.contains.ensures ∙ c.if-not-contains.false)
     (c.in_ok-seat.ensures.added
     ∙ (λ i. changed_at (rooms_of c.args.self.now.rooms.all) chan (with_ranks
-    (c.in_ok-member.ensures i) (c.none.ensures i))))
+    (c.in_ok-member.ensures.key i)
+    ((c.in_ok-member.ensures.ranks ∙ c.none.ensures) i))))
     (c.name_person.ensures.named
-    ∙ (λ i. fin.insert (people_of (c.in_ok-reserve.ensures.all i)) (c.in_ok-key.ensures i)
-    (told_person (Some (Some (c.in_ok-nick.ensures.items i))) (c.in_ok-account.ensures i) None
-    (fin.get (people_of (c.in_ok-reserve.ensures.all i)) (c.in_ok-key.ensures i)))))
+    ∙ (λ i. fin.insert (people_of (c.in_ok-reserve.ensures.all i)) (c.in_ok-person.ensures.key i)
+    (told_person (Some (Some (c.in_ok-person.ensures.nick i))) (c.in_ok-account.ensures i) None
+    (fin.get (people_of (c.in_ok-reserve.ensures.all i)) (c.in_ok-person.ensures.key i)))))
     ∙ ap (λ m. joined_view v (key_of m c.args.channel.now) (key_of m who) who told)
     c.mapping-mapping.ensures

@@ -27,7 +27,7 @@ use Rattle.quick_view.specs.Kept.{view_kept}
 use Rattle.quick_view.specs.Rooms.{channel_of, rooms_of}
 use Rattle.quick_view.specs.People.{known_of, people_of}
 use Rattle.quick_view.specs.Views.{quitted_view, left_view, entered_view}
-use Rattle.quick_view.proofs.ShownLemmas.{contains-shown, get-shown, insert-shown, remove-shown}
+use Rattle.quick_view.proofs.ShownLemmas.{shown_some, contains-shown, get-shown, insert-shown, remove-shown}
 use Rattle.quick_view.proofs.SwapLemmas.{none_is, none_of}
 use Rattle.quick_view.proofs.ViewLemmas.{all_still_seen, entered_seen}
 use Rattle.quick_view.proofs.state.State.leave.Goals as goal
@@ -54,7 +54,7 @@ returns-else-is_some g c known =
     bytes_exact c.args.self.now.rooms.all k in
     let none : fin.get v.channels k ≡ None =
     sym (none_is channel_of c.args.self.now.rooms.all k (ap is_some (sym c.remove.ensures.value) ∙
-    sym c.is_some.ensures ∙ c.if-is_some.false)) in
+    shown_some (λ e. e.value.value) c.remove.result ∙ sym c.is_some.ensures ∙ c.if-is_some.false)) in
     (λ i. record v {
       channels = cs i;
       people = all_still_seen v.channels v.people v.people (is_seen (fin.remove v.channels k)) refl
