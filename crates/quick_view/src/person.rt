@@ -131,7 +131,8 @@ pub(crate) fn rename_person<A: Allocator>(
     nick: Vec<u8, A>,
 )
     ensures { people_of people.new.all
-        ≡ renamed_in (spelled_as nick.items) (sought_key old.entry) new.items (people_of people.old.all) }
+        ≡ renamed_in (spelled_as nick.items) (sought_key old.entry) new.items
+        (people_of people.old.all) }
 {
     match people.remove(old) {
         Some(mut person) => {

@@ -19,5 +19,5 @@ pub(crate) struct Slot<V, A: Allocator> {
     pub(crate) head: u64,
     pub(crate) entry: Box<Entry<V, A>, A>,
     ghost same: { head ≡ head_of entry.value.key.items },
-    ghost bytes: { AreBytesTo 8 entry.value.key.items } by { AreBytesTo-prop 8 entry.value.key.items },
+    ghost bytes: { AreBytesTo 8 entry.value.key.items } by { AreBytesTo-prop 8 _ },
 }

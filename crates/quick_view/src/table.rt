@@ -58,7 +58,8 @@ fn place_of<V, A: Allocator>(slots: &[Slot<V, A>], sought: Sought<'_>) -> Result
     slots.binary_search_by(
         |slot: &Slot<V, A>| -> Ordering
             ensures { head ≡ head_of (sought_key sought.entry) →
-                AreBytesTo 8 (sought_key sought.entry) → result ≡ bytes_cmp slot.now.entry.value.key.items (sought_key sought.entry) }
+                AreBytesTo 8 (sought_key sought.entry) → result
+                ≡ bytes_cmp slot.now.entry.value.key.items (sought_key sought.entry) }
         { order_by_head(slot, head, sought) },
     )
 }
@@ -159,7 +160,8 @@ impl<V: Drop, A: Allocator> Table<V, A> {
     /// Puts an entry in its place, or in the place of one of the same key.
     pub(crate) fn insert(&mut self, entry: Box<Entry<V, A>, A>)
         requires { 0 < self.old.spare }
-        ensures all { self.new.all ≡ fin.insert self.old.all entry.value.key.items entry.value.value }
+        ensures all { self.new.all
+            ≡ fin.insert self.old.all entry.value.key.items entry.value.value }
         ensures room { self.old.spare ≤ self.new.spare + 1 }
     {
         let head = key_head(&entry.key);
