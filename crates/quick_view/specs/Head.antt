@@ -1,5 +1,5 @@
 -- The head of a key, by which most keys are told apart without a look at them.
-use Rattle.std.specs.Prelude.{◌≡◌, ℕ, zero, suc, ◌+◌, ◌*◌, ◌^◌, ◌<◌, ⊤, List, [], ◌∷◌}
+use Rattle.std.specs.Prelude.{◌≡◌, ℕ, zero, suc, ◌+◌, ◌*◌, ◌^◌, ◌<◌, ⊤, [], ◌∷◌}
 use Rattle.std.proofs.Common.{refl}
 use Rattle.std.proofs.Math.Bridge.{le_prop}
 use Rattle.irc_support.specs.Text.{Text}

@@ -1,5 +1,5 @@
 -- Entries in the order of their keys.
-use Rattle.std.specs.Prelude.{ℕ, ◌-◌, T, List, map, if◌then◌else◌}
+use Rattle.std.specs.Prelude.{ℕ, ◌-◌, T, map, if◌then◌else◌}
 use Rattle.std.specs.Coded.{Coded, code_by, coded×, coded_ℕ, coded_list}
 use Rattle.std.specs.Option.{unwrap_or}
 use Rattle.std.specs.Borrow.{Bor}

@@ -1,5 +1,4 @@
 use Rattle.std.proofs.Common.{ap, ◌∙◌}
-use Rattle.std.specs.Option.{unwrap_or}
 use Rattle.std.specs.FinMap as fin
 use Rattle.quick_view.specs.People.{people_of}
 use Rattle.quick_view.specs.Table.{swapped_in, swapped_out}

@@ -1,4 +1,4 @@
-use Rattle.std.proofs.Common.{Some, None, sym, ap, ◌∙◌, refl, option_map}
+use Rattle.std.proofs.Common.{sym, ap, ◌∙◌, refl, option_map}
 use Rattle.std.specs.FinMap as fin
 use Rattle.std.specs.Cmp.Lexicographic.{nat_list_cmp_total}
 use Rattle.net_view.specs.Names.{bytes_cmp}

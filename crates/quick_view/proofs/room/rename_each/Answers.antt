@@ -1,24 +1,4 @@
-use Rattle.std.proofs.Common.{
-  ◌≡◌,
-  ◌<◌,
-  ◌+◌,
-  ◌++◌,
-  ◌∷◌,
-  [],
-  List,
-  Some,
-  map,
-  refl,
-  ap,
-  get_or,
-  length,
-  length-append,
-  sym,
-  subst,
-  arith,
-  ◌∙◌,
-}
-use Rattle.std.specs.List.{All}
+use Rattle.std.proofs.Common.{◌≡◌, ◌<◌, ◌+◌, ◌∷◌, [], Some, map, ap, get_or, length, length-append, sym, subst, arith, ◌∙◌}
 use Rattle.std.proofs.lemmas.List.Elements.{All-pop}
 use Rattle.net_view.specs.Changes.{renamed_channel, renamed_in}
 use Rattle.quick_view.specs.Sought.{sought_key}

@@ -1,7 +1,7 @@
-use Rattle.std.proofs.Common.{◌≡◌, sym, refl, ap, ◌∙◌}
-use Rattle.std.specs.Option.{option_map, is_some}
+use Rattle.std.proofs.Common.{sym, ap, ◌∙◌}
+use Rattle.std.specs.Option.{is_some}
 use Rattle.net_view.specs.Step.{old_member}
-use Rattle.net_view.specs.Changes.{with_topic, with_ranks, without_member}
+use Rattle.net_view.specs.Changes.{without_member}
 use Rattle.quick_view.specs.Rooms.{channel_of}
 use Rattle.quick_view.specs.Sought.{sought_key}
 use Rattle.quick_view.proofs.ShownLemmas.{shown_some}

@@ -1,4 +1,4 @@
-use Rattle.std.proofs.Common.{◌∙◌, map, refl, ap, get_or, length, sym, subst, ◌<◌}
+use Rattle.std.proofs.Common.{◌∙◌, map, ap, get_or, sym, subst, ◌<◌}
 use Rattle.net_view.specs.Changes.{without_member}
 use Rattle.quick_view.specs.Sought.{sought_key}
 use Rattle.quick_view.specs.Rooms.{room_entry, channel_of}

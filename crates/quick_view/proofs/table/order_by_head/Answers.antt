@@ -1,6 +1,5 @@
-use Rattle.std.proofs.Common.{sym, ap, ◌∙◌}
+use Rattle.std.proofs.Common.{◌∙◌}
 use Rattle.std.specs.Ordering.{nat_cmp}
-use Rattle.quick_view.specs.Head.{head_of}
 use Rattle.quick_view.specs.Sought.{sought_key}
 use Rattle.quick_view.proofs.HeadLemmas.{by_heads}
 use Rattle.quick_view.proofs.table.order_by_head.Goals as goal

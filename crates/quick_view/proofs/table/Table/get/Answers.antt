@@ -1,8 +1,7 @@
-use Rattle.std.proofs.Common.{Some, ◌≡◌, [], map, length, sym, ap, ◌∙◌, refl, arith}
+use Rattle.std.proofs.Common.{Some, ap, ◌∙◌}
 use Rattle.std.specs.FinMap as fin
 use Rattle.std.specs.Cmp.Lexicographic.{nat_list_cmp_total}
 use Rattle.net_view.proofs.Keys.{bytes_exact}
-use Rattle.net_view.specs.Names.{bytes_cmp}
 use Rattle.quick_view.specs.Table.{entry_of}
 use Rattle.quick_view.specs.Sought.{sought_key}
 use Rattle.quick_view.proofs.TableLemmas.{got, got_none}

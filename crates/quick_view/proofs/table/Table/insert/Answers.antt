@@ -1,4 +1,4 @@
-use Rattle.std.proofs.Common.{◌≡◌, map, sym, ap, ◌∙◌, subst, T}
+use Rattle.std.proofs.Common.{map, sym, ap, ◌∙◌, subst, T}
 use Rattle.std.specs.FinMap as fin
 use Rattle.std.specs.Cmp.Lexicographic.{nat_list_cmp_total}
 use Rattle.net_view.proofs.Keys.{bytes_exact}
