@@ -1,10 +1,10 @@
 -- Keys stand as their heads do where these differ.
-use Rattle.std.specs.Prelude.{◌≡◌, ℕ, zero, suc, ◌+◌, ◌*◌, ◌^◌, ◌<◌, ◌≤◌, [], ◌∷◌}
+use Rattle.std.specs.Prelude.{◌≡◌, ℕ, zero, suc, ◌+◌, ◌*◌, ◌^◌, ◌<◌, ◌≤◌, [], ◌∷◌, length}
 use Rattle.std.specs.declared.cmp.Ordering.{Ordering}
 use Rattle.std.specs.declared.cmp.Ordering.TheVariants.{Less, Equal, Greater}
 use Rattle.std.specs.Ordering.{nat_cmp, ordering_then, MatchOrdering}
 use Rattle.std.specs.Cmp.{ranks}
-use Rattle.std.proofs.Common.{refl, sym, ap, subst, arith, get_or}
+use Rattle.std.proofs.Common.{refl, sym, ap, subst, arith, get_or, drop}
 use Rattle.std.proofs.Math.Nat.{mul-le-mul_right, pow-succ'}
 use Rattle.irc_support.specs.Text.{Text}
 use Rattle.net_view.specs.Names.{bytes_cmp}
@@ -114,3 +114,37 @@ at_eight P a b c d e f g h (suc (suc (suc (suc (suc (suc zero)))))) l = g
 at_eight P a b c d e f g h (suc (suc (suc (suc (suc (suc (suc zero))))))) l = h
 at_eight P a b c d e f g h (suc (suc (suc (suc (suc (suc (suc (suc i)))))))) l = absurd (omega
     (arith, l))
+
+-- keys of one head, by what stands behind it
+module _ (n x y : ℕ) (xs ys : Text) (h : AreBytesTo n xs) (k : AreBytesTo n ys) where
+  behind_by : (head_at n xs ≡ head_at n ys → bytes_cmp (drop n xs) (drop n ys) ≡ bytes_cmp xs ys) →
+      (r : Ordering) → MatchOrdering r (x < y) (x ≡ y) (y < x) → x * 256 ^ n + head_at n xs ≡ y *
+      256 ^ n + head_at n ys → bytes_cmp (drop n xs) (drop n ys) ≡ ordering_then r (bytes_cmp xs ys)
+  behind_by next Less m e =
+      absurd (omega (
+        arith,
+        e,
+        apart (256 ^ n) y x (head_at n xs) (head_at n ys) (head_small n xs
+            h) m,
+      ))
+  behind_by next Equal m e = next (omega (arith, e, ap (λ z. z * 256 ^ n) m))
+  behind_by next Greater m e =
+      absurd (omega (
+        arith,
+        e,
+        apart (256 ^ n) x y (head_at n ys) (head_at n xs) (head_small n ys
+            k) m,
+      ))
+
+pub behind : (n : ℕ) (a b : Text) → n ≤ length a → n ≤ length b → AreBytesTo n a → AreBytesTo n b →
+    head_at n a ≡ head_at n b → bytes_cmp (drop n a) (drop n b) ≡ bytes_cmp a b
+behind zero a b l m h k e = refl
+behind (suc n) [] b l m h k e = absurd (omega (arith, l))
+behind (suc n) (x ∷ xs) [] l m h k e = absurd (omega (arith, m))
+behind (suc n) (x ∷ xs) (y ∷ ys) l m h k e =
+    behind_by n x y xs ys h.1 k.1
+    (behind n xs ys (omega (arith, l)) (omega (arith, m)) h.1 k.1) (nat_cmp x y) (ranks x y) e
+
+-- numbers that are found equal
+pub level : (x y : ℕ) → Equal ≡ nat_cmp x y → x ≡ y
+level x y e = subst (λ r. MatchOrdering r (x < y) (x ≡ y) (y < x)) (sym e) (ranks x y)

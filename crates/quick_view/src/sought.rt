@@ -1,6 +1,6 @@
 //! What is looked for in a table.
 
-ghost use Rattle.std.specs.Prelude.{◌≡◌, ◌<◌, get_or};
+ghost use Rattle.std.specs.Prelude.{◌≡◌, ◌<◌, ◌≤◌, drop, get_or, length};
 ghost use Rattle.irc_names.specs.CaseMapping.{key_of};
 ghost use Rattle.net_view.specs.Names.{bytes_cmp};
 ghost use Rattle.quick_view.specs.Head.{head_of, AreBytesTo};
@@ -26,6 +26,33 @@ pub(crate) fn order(key: &[u8], sought: Sought<'_>) -> Ordering
         Sought::Key(other) => key.cmp(other),
         Sought::Name(mapping, name) => mapping.order_to_key(name, key).reverse(),
     }
+}
+
+/// How a key stands to what is looked for, where their heads are one: what stands behind the first
+/// eight bytes tells, where there is so much of both.
+pub(crate) fn order_behind(key: &[u8], sought: Sought<'_>) -> Ordering
+    ensures { AreBytesTo 8 key.now → AreBytesTo 8 (sought_key sought.entry) →
+        head_of key.now ≡ head_of (sought_key sought.entry) →
+        result ≡ bytes_cmp key.now (sought_key sought.entry) }
+{
+    let Sought::Name(mapping, name) = sought else {
+        return order(key, sought);
+    };
+    if key.len() < 8 {
+        return order(key, sought);
+    }
+    if name.len() < 8 {
+        return order(key, sought);
+    }
+    mapping.order_to_key(rest(name), rest(key)).reverse()
+}
+
+/// What stands behind the first eight bytes.
+fn rest(text: &[u8]) -> &[u8]
+    requires { 8 ≤ length text.now }
+    ensures { result.now ≡ drop 8 text.now }
+{
+    &text[8..]
 }
 
 /// The byte at a place of a key; 0 behind its end.

@@ -13,7 +13,7 @@ ghost use Rattle.quick_view.specs.Head.{head_of, AreBytesTo};
 
 use crate::OutOfMemory;
 use crate::slot::{Entry, Slot};
-use crate::sought::{Sought, head, key_head, order};
+use crate::sought::{Sought, head, key_head, order_behind};
 use std::alloc::Allocator;
 use std::cmp::Ordering;
 use std::marker::Model;
@@ -43,7 +43,7 @@ fn order_by_head<V, A: Allocator>(slot: &Slot<V, A>, head: u64, sought: Sought<'
         result ≡ bytes_cmp slot.now.entry.value.key.items (sought_key sought.entry) }
 {
     match slot.head.cmp(&head) {
-        Ordering::Equal => order(&slot.entry.key, sought),
+        Ordering::Equal => order_behind(&slot.entry.key, sought),
         apart => apart,
     }
 }
