@@ -4,8 +4,12 @@ use crate::OutOfMemory;
 use crate::listing::{keep_all, listed_in};
 use crate::modes::Modes;
 use crate::moding::{change_modes, change_room};
-use crate::person::{Person, name_person, rename_person, retain_seen, set_account, set_away};
-use crate::room::{Rooms, copies, fresh_room, no_room, seat, set_modes, set_topic, unseat};
+use crate::person::{
+    Person, name_person, new_person, rename_person, retain_seen, set_account, set_away,
+};
+use crate::room::{
+    Rooms, copies, fresh_room, new_member, no_room, seat, set_modes, set_topic, unseat,
+};
 use crate::sought::Sought;
 use crate::table::Table;
 use crate::text::{copy_of, copy_of_told};
@@ -160,13 +164,12 @@ impl<A: Allocator + Copy> State<A> {
         if !self.rooms.contains(channel) {
             return Ok(());
         }
-        let member = mapping.key(self.alloc, who)?;
-        let key = mapping.key(self.alloc, who)?;
-        let nick = Vec::from_slice(self.alloc, who)?;
+        let member = new_member(self.alloc, mapping, who, Ranks::none())?;
+        let person = new_person(self.alloc, mapping, who)?;
         let account = copy_of_told(self.alloc, account)?;
         self.people.reserve(1)?;
-        seat(self.alloc, &mut self.rooms, channel, member, Ranks::none())?;
-        name_person(self.alloc, &mut self.people, key, nick, account);
+        seat(self.alloc, &mut self.rooms, channel, member)?;
+        name_person(self.alloc, &mut self.people, person, account);
         Ok(())
     }
 
@@ -221,16 +224,14 @@ impl<A: Allocator + Copy> State<A> {
         ensures kept { OnErr result (view_kept self.new ≡ view_kept self.old) }
     {
         let mapping = self.support.mapping();
-        let place = mapping.key(self.alloc, channel)?;
         let room = fresh_room(self.alloc, mapping, channel, who)?;
-        let key = mapping.key(self.alloc, who)?;
-        let nick = Vec::from_slice(self.alloc, who)?;
+        let person = new_person(self.alloc, mapping, who)?;
         let account = copy_of_told(self.alloc, account)?;
         self.rooms.reserve(1)?;
         self.people.reserve(1)?;
-        let again = self.rooms.contains(Sought::Key(&place));
-        name_person(self.alloc, &mut self.people, key, nick, account);
-        self.rooms.insert(place, room);
+        let again = self.rooms.contains(Sought::Name(mapping, channel));
+        name_person(self.alloc, &mut self.people, person, account);
+        self.rooms.insert(room);
         if again {
             retain_seen(&mut self.people, &self.rooms);
         }
