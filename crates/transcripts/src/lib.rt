@@ -3,6 +3,8 @@
 #![tactic(auto)]
 
 #[cfg(test)]
+mod arrivals;
+#[cfg(test)]
 mod clients;
 #[cfg(test)]
 mod kept_messages;
@@ -10,6 +12,8 @@ mod kept_messages;
 mod lines;
 #[cfg(test)]
 mod login;
+#[cfg(test)]
+mod long_rows;
 #[cfg(test)]
 mod moments;
 #[cfg(test)]

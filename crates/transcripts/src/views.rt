@@ -17,6 +17,24 @@ pub(crate) fn item(alloc: Global, text: &[u8]) -> Result<Item, Fail> {
     Ok(Item::Line(line.ok_or("the text is a line")?))
 }
 
+/// The view that searches, after these texts.
+pub(crate) fn tape_of(alloc: Global, texts: &[&[u8]]) -> Result<TapeView, Fail> {
+    let mut view = TapeView::new(alloc)?;
+    for text in texts {
+        view.take(&item(alloc, text)?)?;
+    }
+    Ok(view)
+}
+
+/// The view by tables, after these texts.
+pub(crate) fn quick_of(alloc: Global, texts: &[&[u8]]) -> Result<QuickView, Fail> {
+    let mut view = QuickView::new(alloc)?;
+    for text in texts {
+        view.take(&item(alloc, text)?)?;
+    }
+    Ok(view)
+}
+
 /// The modes of a channel in braces, in order, each with its parameter.
 fn show_modes<V: NetworkView>(view: &V, channel: usize, text: &mut Vec<u8>) -> Result<(), Fail> {
     if view.mode_at(channel, 0).is_none() {
@@ -95,7 +113,10 @@ pub(crate) fn shown<V: NetworkView>(alloc: Global, view: &V) -> Result<Vec<u8>, 
 }
 
 /// What both views show after each of these texts.
-fn check_rows<R: AllocGlobal + Abort>(rt: &R, rows: &[(&[u8], &[u8])]) -> Result<(), Fail> {
+pub(crate) fn check_rows<R: AllocGlobal + Abort>(
+    rt: &R,
+    rows: &[(&[u8], &[u8])],
+) -> Result<(), Fail> {
     let mut tape = TapeView::new(rt.alloc())?;
     let mut quick = QuickView::new(rt.alloc())?;
     for (text, wanted) in rows {
