@@ -23,6 +23,8 @@ mod playback;
 #[cfg(test)]
 mod quick;
 #[cfg(test)]
+mod read_back;
+#[cfg(test)]
 mod registration;
 #[cfg(test)]
 mod settings;
