@@ -3,6 +3,8 @@
 #![tactic(auto)]
 
 #[cfg(test)]
+mod arrivals;
+#[cfg(test)]
 mod clients;
 #[cfg(test)]
 mod kept_messages;
@@ -11,6 +13,8 @@ mod lines;
 #[cfg(test)]
 mod login;
 #[cfg(test)]
+mod long_rows;
+#[cfg(test)]
 mod moments;
 #[cfg(test)]
 mod names;
@@ -18,6 +22,8 @@ mod names;
 mod playback;
 #[cfg(test)]
 mod quick;
+#[cfg(test)]
+mod read_back;
 #[cfg(test)]
 mod registration;
 #[cfg(test)]
