@@ -110,7 +110,8 @@ impl<A: Allocator + Copy> State<A> {
         topic: Option<&[u8]>,
     ) -> Result<(), OutOfMemory>
         ensures taken { OnOk result (view_kept self.new ≡ on_channel (view_kept self.old)
-            (key_by self.old.support channel.now) (with_topic (option_map (λ t. t.now) topic.entry))) }
+            (key_by self.old.support channel.now)
+            (with_topic (option_map (λ t. t.now) topic.entry))) }
         ensures kept { OnErr result (view_kept self.new ≡ view_kept self.old) }
     {
         let topic = copy_of(self.alloc, topic)?;
@@ -126,7 +127,8 @@ impl<A: Allocator + Copy> State<A> {
         account: Option<&[u8]>,
     ) -> Result<(), OutOfMemory>
         ensures taken { OnOk result (view_kept self.new ≡ on_person (view_kept self.old)
-            (key_by self.old.support who.now) (with_account (option_map (λ t. t.now) account.entry))) }
+            (key_by self.old.support who.now)
+            (with_account (option_map (λ t. t.now) account.entry))) }
         ensures kept { OnErr result (view_kept self.new ≡ view_kept self.old) }
     {
         let account = copy_of(self.alloc, account)?;
@@ -220,7 +222,8 @@ impl<A: Allocator + Copy> State<A> {
     ) -> Result<(), OutOfMemory>
         ensures taken { OnOk result (IsKnowing (view_kept self.old) → view_kept self.new
             ≡ entered_view (view_kept self.old) (key_by self.old.support channel.now) channel.now
-            (key_by self.old.support who.now) who.now (option_map (option_map (λ t. t.now)) account.entry)) }
+            (key_by self.old.support who.now) who.now
+            (option_map (option_map (λ t. t.now)) account.entry)) }
         ensures kept { OnErr result (view_kept self.new ≡ view_kept self.old) }
     {
         let mapping = self.support.mapping();
