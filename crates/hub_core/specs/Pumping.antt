@@ -75,6 +75,7 @@ pub record Takes (inlet outlet : Bool) (old : HubState) (cut : ℕ) (new : HubSt
   pub left : cut + length new.sessions ≡ length old.sessions
   pub upstream : Puts outlet old.upstream (pong_for item.0) new.upstream
   pub history : new.history ≡ with_entry old.history (entry_for item)
+  pub number : IsSome (entry_for item) → IsSome old.history.next
   pub images : new.images
       ≡ counted (old.images + images_for item.0 (length (all_sets_but None [] old.sessions)))
   pub same : (new.next ≡ old.next) × (new.first ≡ old.first) × (new.marks ≡ old.marks)

@@ -103,6 +103,7 @@ impl<V: NetworkView + Drop, I: Inlet, O: Outlet> Model for Hub<V, I, O> {
 impl<V: NetworkView + Drop, I: Inlet, O: Outlet> Hub<V, I, O> {
     ghost use Rattle.hub_core.specs.States.{view_now, heard, started};
     ghost use Rattle.hub_core.specs.Online.{is_online};
+    ghost use Rattle.hub_core.specs.Running.{IsRunning};
     ghost use Rattle.hub_core.specs.Insides.{outlet_of};
     ghost use Rattle.hub_core.specs.Upkeep.{LendsOutlet};
 
@@ -156,6 +157,13 @@ impl<V: NetworkView + Drop, I: Inlet, O: Outlet> Hub<V, I, O> {
         ensures { result ≡ is_online (heard self.now) }
     {
         self.online
+    }
+
+    /// Tells its caller what holds of every hub between calls. It does nothing.
+    pub fn is_running(&self)
+        ensures { IsRunning self.now (view_now self.now) (is_online (heard self.now)) }
+    {
+        let _ = &self.view;
     }
 
     /// The outlet to the network.

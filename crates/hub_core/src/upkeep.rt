@@ -1,9 +1,10 @@
-//! What a hub is asked for between its steps: a sign of life of the network, and who is nearly full.
+//! What a hub is asked for between its steps: a sign of life of the network, and which sessions
+//! are nearly full.
 
 ghost use Rattle.std.specs.Prelude.{◌≡◌, ◌∷◌, ◌++◌, ◌≤◌, [], true, IfOk, codes, if◌then◌else◌};
 ghost use Rattle.hub_core.specs.Insides.{outlet_of, state_of, states_of};
-ghost use Rattle.hub_core.specs.Upkeep.{AreFreed, Frees, KeepsAlive, is_nearly_full, life_asked, nearly_full};
-ghost use Rattle.hub_core.specs.Upkeep.{with_free};
+ghost use Rattle.hub_core.specs.Upkeep.{AreFreed, Frees, KeepsAlive, is_nearly_full};
+ghost use Rattle.hub_core.specs.Upkeep.{life_asked, nearly_full, with_free};
 
 use crate::hub::Hub;
 use crate::session::Session;

@@ -23,8 +23,7 @@ use Rattle.std.specs.Prelude.{
   is_some,
 }
 use Rattle.std.specs.declared.cmp.Ordering.{Ordering}
-use Rattle.std.specs.Ordering.{is_lt, is_eq, eq_by_cmp}
-use Rattle.std.specs.Cmp.{IsTotalOrder}
+use Rattle.std.specs.Ordering.{is_lt, eq_by_cmp}
 use Rattle.std.specs.Cmp.Lexicographic.{nat_list_cmp_total}
 use Rattle.std.specs.List.{list_any}
 use Rattle.std.specs.Option.{option_map_or}
@@ -57,7 +56,7 @@ use Rattle.quick_view.specs.Shown.{shown}
 use Rattle.quick_view.specs.Rooms.{channel_of, rooms_of, room_entry, each_changed, is_in}
 use Rattle.quick_view.specs.Table.{entry_of}
 use Rattle.quick_view.specs.declared.room.Room.{Room}
-use Rattle.quick_view.specs.declared.table.Entry.{Entry}
+use Rattle.quick_view.specs.declared.slot.Slot.{Slot}
 use Rattle.quick_view.proofs.Sorted.{find_at}
 use Rattle.quick_view.proofs.ShownLemmas.{entries-shown}
 
@@ -182,27 +181,27 @@ changed_keys g [] = refl
 changed_keys g (e ∷ es) = ap (λ l. e.0 ∷ l) (changed_keys g es)
 
 module _ {A : Type 0} where
-  room_keys : (xs : List (Entry (Room A) A)) → map (λ e. e.0) (map entry_of xs) ≡ map (λ e. e.0)
+  room_keys : (xs : List (Slot (Room A) A)) → map (λ e. e.0) (map entry_of xs) ≡ map (λ e. e.0)
       (map room_entry xs)
   room_keys [] = refl
-  room_keys (x ∷ xs) = ap (λ l. x.key.items ∷ l) (room_keys xs)
+  room_keys (x ∷ xs) = ap (λ l. x.entry.value.key.items ∷ l) (room_keys xs)
 
   -- the rooms of a table, by their entries
-  pub rooms_are : (xs : List (Entry (Room A) A)) → T (fin.is_sorted bytes_cmp (map entry_of xs)) →
+  pub rooms_are : (xs : List (Slot (Room A) A)) → T (fin.is_sorted bytes_cmp (map entry_of xs)) →
       rooms_of (fin.from_sorted (map entry_of xs)) ≡ fin.from_sorted (map room_entry xs)
   rooms_are xs h =
       shown_sorted bytes_cmp channel_of (map entry_of xs) h ∙ ap (fin.from_sorted {R = bytes_cmp})
       (twice xs) where
-        twice : (xs : List (Entry (Room A) A)) → map (λ e. (e.0, channel_of e.1)) (map entry_of xs)
+        twice : (xs : List (Slot (Room A) A)) → map (λ e. (e.0, channel_of e.1)) (map entry_of xs)
             ≡ map room_entry xs
         twice [] = refl
         twice (x ∷ xs) = ap (λ l. room_entry x ∷ l) (twice xs)
 
-  pub rooms_sorted : (xs : List (Entry (Room A) A)) → T (fin.is_sorted bytes_cmp (map entry_of xs))
+  pub rooms_sorted : (xs : List (Slot (Room A) A)) → T (fin.is_sorted bytes_cmp (map entry_of xs))
       → T (fin.is_sorted bytes_cmp (map room_entry xs))
   rooms_sorted xs h = still_sorted bytes_cmp (map entry_of xs) (map room_entry xs) (room_keys xs) h
 
-  module _ (g : Channel → Channel) (xs ys : List (Entry (Room A) A)) (h : T (fin.is_sorted
+  module _ (g : Channel → Channel) (xs ys : List (Slot (Room A) A)) (h : T (fin.is_sorted
       bytes_cmp (map entry_of xs)))
       (e : map room_entry ys ≡ each_changed g (map room_entry xs)) where
     pub each_sorted : T (fin.is_sorted bytes_cmp (map entry_of ys))

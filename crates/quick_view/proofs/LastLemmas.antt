@@ -32,13 +32,13 @@ use Rattle.irc_support.specs.Settings.{mapping_of}
 use Rattle.irc_support.specs.Ranking.{rank_of_letter}
 use Rattle.net_view.specs.StateLines.{letter_change}
 use Rattle.net_view.specs.Names.{Name, nameable, same, bytes_cmp}
-use Rattle.net_view.specs.Told.{LetterChange, ModeChange}
+use Rattle.net_view.specs.Told.{LetterChange}
 use Rattle.net_view.specs.LookBack.{last_in}
 use Rattle.net_view.specs.Members.{rank_in_change}
 use Rattle.net_view.specs.Modes.{setting_of}
 use Rattle.net_view.proofs.AfterModes.{ranks_changed}
 use Rattle.net_view.proofs.Keys.{is_same, same_refl}
-use Rattle.net_view.proofs.RankSets.{is_rank, ranks_alike, has-ranks, has_of_set}
+use Rattle.net_view.proofs.RankSets.{is_rank, ranks_alike, has-ranks}
 use Rattle.quick_view.specs.Moding.{rank_after}
 use Rattle.quick_view.specs.Table.{swapped_in}
 

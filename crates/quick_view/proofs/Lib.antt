@@ -1,5 +1,6 @@
 pub mod Sorted
 pub mod Places
+pub mod HeadLemmas
 pub mod TableLemmas
 pub mod ShownLemmas
 pub mod SwapLemmas

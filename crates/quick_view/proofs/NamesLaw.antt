@@ -1,6 +1,6 @@
 -- The view after a 353, word by word.
 use Rattle.std.specs.Prelude.{◌≡◌, Bool, true, false, cond, ◌&&◌, List, [], ◌∷◌, ℕ}
-use Rattle.std.specs.Option.{option_map, option_map_or, option_and_then, unwrap_or, ForSome}
+use Rattle.std.specs.Option.{ForSome}
 use Rattle.std.specs.Cmp.Lexicographic.{nat_list_cmp_total}
 use Rattle.std.specs.FinMap as fin
 use Rattle.std.proofs.Common.{Option, Some, None, refl, sym, ap, subst, ◌∙◌}
@@ -12,10 +12,10 @@ use Rattle.net_view.specs.Names.{same, bytes_cmp}
 use Rattle.net_view.specs.Told.{Told, Listing, Present}
 use Rattle.net_view.specs.Transcript.{is_us}
 use Rattle.net_view.specs.Sound.{IsSound}
-use Rattle.net_view.specs.View.{Channel, Person, View}
-use Rattle.net_view.specs.Step.{standing_of, after_told, channels_after, people_after}
+use Rattle.net_view.specs.View.{Channel, View}
+use Rattle.net_view.specs.Step.{standing_of, after_told, people_after}
 use Rattle.net_view.specs.Changes.{told_person, with_ranks}
-use Rattle.net_view.proofs.Keys.{is_same, same_refl}
+use Rattle.net_view.proofs.Keys.{same_refl}
 use Rattle.net_view.proofs.AfterAlike.{
   HasSets,
   AreSets,

@@ -1,18 +1,6 @@
 -- What is read by place.
-use Rattle.std.specs.Prelude.{
-  ◌≡◌,
-  ℕ,
-  Bool,
-  true,
-  false,
-  cond,
-  List,
-  map,
-  is_some,
-  length,
-  slice_get,
-}
-use Rattle.std.specs.Option.{option_map, option_map_or, option_and_then, unwrap_or}
+use Rattle.std.specs.Prelude.{◌≡◌, ℕ, true, false, cond, List, is_some, length, slice_get}
+use Rattle.std.specs.Option.{option_map, option_and_then, unwrap_or}
 use Rattle.std.specs.Cmp.Lexicographic.{nat_list_cmp_total}
 use Rattle.std.specs.FinMap as fin
 use Rattle.std.proofs.Common.{Option, Some, None, refl, sym, ap, subst, ◌∙◌, get_or}
@@ -23,24 +11,14 @@ use Rattle.irc_support.specs.Text.{Text}
 use Rattle.irc_support.specs.Settings.{key_by}
 use Rattle.net_view.specs.Names.{bytes_cmp}
 use Rattle.net_view.specs.View.{Channel, View}
-use Rattle.net_view.specs.Step.{is_seen, old_member}
-use Rattle.net_view.specs.Readers.{
-  channels_shown,
-  channel_shown,
-  members_shown,
-  mode_shown,
-  member_shown,
-  member_parts,
-  MemberParts,
-  account_shown,
-  known_at,
-}
+use Rattle.net_view.specs.Step.{old_member}
+use Rattle.net_view.specs.Readers.{channels_shown, channel_shown, member_shown, member_parts, MemberParts, account_shown, known_at}
 use Rattle.net_view.proofs.AfterAlike.{IsKnowing, view_knowing}
 use Rattle.quick_view.specs.FromLines.{ComesFromLines}
 use Rattle.net_view.proofs.AfterMaps.{seen_in}
 use Rattle.quick_view.specs.Kept.{view_kept}
 use Rattle.quick_view.specs.Rooms.{channel_of, rooms_of}
-use Rattle.quick_view.specs.People.{known_of, people_of}
+use Rattle.quick_view.specs.People.{known_of}
 use Rattle.quick_view.specs.declared.room.Room.{Room}
 use Rattle.quick_view.specs.declared.person.Person.{Person}
 use Rattle.quick_view.specs.declared.state.State.{State}

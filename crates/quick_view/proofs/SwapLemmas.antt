@@ -1,6 +1,6 @@
 -- A value that is taken out of a table, changed, and put back.
-use Rattle.std.specs.Prelude.{◌≡◌, Bool, true, false, cond, is_some}
-use Rattle.std.specs.Option.{option_map, option_map_or, option_and_then, unwrap_or}
+use Rattle.std.specs.Prelude.{◌≡◌, true, false, cond, is_some}
+use Rattle.std.specs.Option.{option_map, option_map_or, unwrap_or}
 use Rattle.std.specs.Cmp.Lexicographic.{nat_list_cmp_total}
 use Rattle.std.specs.declared.vec.Vec.{Vec}
 use Rattle.std.specs.FinMap as fin

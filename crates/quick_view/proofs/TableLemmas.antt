@@ -1,25 +1,6 @@
 -- A table's entries, by the places that a search finds.
-use Rattle.std.specs.Prelude.{
-  ◌≡◌,
-  ℕ,
-  zero,
-  suc,
-  ◌<◌,
-  ◌≤◌,
-  Bool,
-  true,
-  false,
-  cond,
-  is_some,
-  T,
-  List,
-  [],
-  ◌∷◌,
-  ◌++◌,
-  map,
-  length,
-}
-use Rattle.std.specs.declared.cmp.Ordering.TheVariants.{Less, Equal, Greater}
+use Rattle.std.specs.Prelude.{◌≡◌, ℕ, suc, ◌<◌, ◌≤◌, Bool, true, false, cond, is_some, T, List, [], ◌∷◌, ◌++◌, map, length}
+use Rattle.std.specs.declared.cmp.Ordering.TheVariants.{Equal}
 use Rattle.std.specs.declared.cmp.Ordering.{Ordering}
 use Rattle.std.specs.Cmp.{IsTotalOrder}
 use Rattle.std.specs.Ordering.{nat_cmp, eq_by_cmp}
@@ -27,47 +8,18 @@ use Rattle.net_view.specs.Table.{is_equal}
 use Rattle.std.specs.List.{insert, remove, filter}
 use Rattle.std.specs.List.Sorted.{IsBinarySearchResult}
 use Rattle.std.specs.Cmp.Lexicographic.{nat_list_cmp_total}
-use Rattle.std.specs.declared.vec.Vec.{Vec}
 use Rattle.std.specs.FinMap as fin
 use Rattle.std.specs.FinMap.Entries.{find-where_key, is_sorted-where_key}
-use Rattle.std.proofs.Common.{
-  Option,
-  Some,
-  None,
-  Err,
-  refl,
-  sym,
-  ap,
-  subst,
-  ◌∙◌,
-  arith,
-  get_or,
-  set,
-  take,
-  drop,
-}
+use Rattle.std.proofs.Common.{Option, Some, None, Err, refl, sym, ap, subst, ◌∙◌, get_or, set, take, drop}
 use Rattle.std.proofs.lemmas.List.{get_or-map, length-map, map-set, map-append, take-map, drop-map}
 use Rattle.std.proofs.lemmas.Option.{slice_get-map}
 use Rattle.irc_support.specs.Text.{Text}
 use Rattle.net_view.specs.Names.{bytes_cmp}
 use Rattle.net_view.proofs.Keys.{bytes_exact}
-use Rattle.quick_view.specs.declared.table.Entry.{Entry}
 use Rattle.std.specs.Option.{unwrap_or, option_map}
 use Rattle.std.specs.List.{slice_get}
-use Rattle.quick_view.specs.Table.{entry_of, swapped_in, swapped_out}
-use Rattle.net_view.proofs.AfterAlike.{removed_none}
-use Rattle.quick_view.proofs.Sorted.{
-  IsPlace,
-  put_between,
-  find_between,
-  find_at,
-  inserted,
-  is_sorted_inserted,
-  written,
-  is_sorted_written,
-  removed,
-  is_sorted_removed,
-}
+use Rattle.quick_view.specs.Table.{swapped_in, swapped_out}
+use Rattle.quick_view.proofs.Sorted.{IsPlace, find_between, find_at, inserted, is_sorted_inserted, written, is_sorted_written, removed, is_sorted_removed}
 use Rattle.quick_view.proofs.Places.{free_place}
 
 pub map_insert : {X Y : Type 0} (f : X → Y) (xs : List X) (i : ℕ) (x : X) → map f (insert xs i x) ≡

@@ -16,7 +16,7 @@ use Rattle.std.specs.Prelude.{
   IfSome,
 }
 use Rattle.std.specs.List.{cons_option, filter_map}
-use Rattle.std.specs.Option.{option_map, unwrap_or, ForSome}
+use Rattle.std.specs.Option.{option_map, unwrap_or}
 use Rattle.std.specs.FinMap as fin
 use Rattle.std.specs.List.{slice_get}
 use Rattle.std.specs.declared.vec.Vec.{Vec}
@@ -25,7 +25,7 @@ use Rattle.irc_line.specs.Line.{Parts, has_command}
 use Rattle.irc_support.specs.Text.{Text}
 use Rattle.irc_support.specs.Tokens.{Token}
 use Rattle.irc_support.specs.Settings.{key_by}
-use Rattle.irc_support.specs.NamesReply.{Word, word_of, words, words_between}
+use Rattle.irc_support.specs.NamesReply.{word_of, words, words_between}
 use Rattle.net_view.specs.Names.{Name, nameable, same}
 use Rattle.net_view.specs.Told.{Listing}
 use Rattle.net_view.specs.Sound.{IsSound}

@@ -1,6 +1,6 @@
 -- Views, by what a line changes of their maps.
 use Rattle.std.specs.Prelude.{◌≡◌, Bool, true, false, cond, is_some}
-use Rattle.std.specs.Option.{option_map, option_map_or, unwrap_or}
+use Rattle.std.specs.Option.{option_map_or, unwrap_or}
 use Rattle.std.specs.Cmp.Lexicographic.{nat_list_cmp_total}
 use Rattle.std.specs.FinMap as fin
 use Rattle.std.proofs.Common.{ℕ, List, [], Option, Some, None, refl, sym, ap, ◌∙◌}

@@ -1,5 +1,4 @@
 -- What is kept of a network, and the view that it stands for.
-use Rattle.std.specs.Prelude.{List}
 use Rattle.std.specs.Option.{option_map}
 use Rattle.net_view.specs.View.{View}
 use Rattle.quick_view.specs.People.{people_of}

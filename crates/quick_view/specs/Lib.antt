@@ -1,3 +1,4 @@
+pub mod Head
 pub mod Sought
 pub mod Table
 pub mod Modes

@@ -2,7 +2,6 @@
 use Rattle.std.specs.Prelude.{ℕ, T, List, map}
 use Rattle.std.specs.Option.{option_map}
 use Rattle.std.specs.Ordering.{nat_cmp}
-use Rattle.std.specs.declared.vec.Vec.{Vec}
 use Rattle.std.specs.FinMap as fin
 use Rattle.std.proofs.Common.{Option}
 use Rattle.irc_support.specs.Text.{Text}

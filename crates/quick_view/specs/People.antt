@@ -1,8 +1,7 @@
 -- Persons in sight.
-use Rattle.std.specs.Prelude.{List}
 use Rattle.std.specs.Option.{option_map, option_map_or}
 use Rattle.std.specs.FinMap as fin
-use Rattle.std.proofs.Common.{Option, Some, None}
+use Rattle.std.proofs.Common.{Some}
 use Rattle.irc_support.specs.Text.{Text}
 use Rattle.net_view.specs.Names.{bytes_cmp}
 use Rattle.net_view.specs.View as view

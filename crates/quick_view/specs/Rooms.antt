@@ -9,7 +9,7 @@ use Rattle.net_view.specs.Names.{bytes_cmp}
 use Rattle.net_view.specs.View.{Channel}
 use Rattle.quick_view.specs.Shown.{shown}
 use Rattle.quick_view.specs.declared.room.Room.{Room}
-use Rattle.quick_view.specs.declared.table.Entry.{Entry}
+use Rattle.quick_view.specs.declared.slot.Slot.{Slot}
 
 -- what is kept of a channel
 abbrev pub channel_of : {A : Type 0} → Room A → Channel
@@ -25,8 +25,8 @@ abbrev pub rooms_of : {A : Type 0} → fin.FinMap bytes_cmp (Room A) → fin.Fin
 rooms_of rooms = shown channel_of rooms
 
 -- a channel under its key
-abbrev pub room_entry : {A : Type 0} → Entry (Room A) A → Text × Channel
-room_entry entry = (entry.key.items, channel_of entry.value)
+abbrev pub room_entry : {A : Type 0} → Slot (Room A) A → Text × Channel
+room_entry slot = (slot.entry.value.key.items, channel_of slot.entry.value.value)
 
 -- each channel changed
 abbrev pub each_changed : (Channel → Channel) → List (Text × Channel) → List (Text × Channel)

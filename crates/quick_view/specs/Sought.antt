@@ -1,5 +1,4 @@
 -- What is looked for in a table.
-use Rattle.std.specs.Prelude.{List}
 use Rattle.irc_names.specs.CaseMapping.{key_of}
 use Rattle.irc_support.specs.Text.{Text}
 use Rattle.quick_view.specs.declared.sought.Sought.{Sought}

@@ -1,5 +1,5 @@
 -- Entries in the order of their keys.
-use Rattle.std.specs.Prelude.{ℕ, ◌-◌, T, List, map, if◌then◌else◌}
+use Rattle.std.specs.Prelude.{ℕ, ◌-◌, T, map, if◌then◌else◌}
 use Rattle.std.specs.Coded.{Coded, code_by, coded×, coded_ℕ, coded_list}
 use Rattle.std.specs.Option.{unwrap_or}
 use Rattle.std.specs.Borrow.{Bor}
@@ -9,7 +9,7 @@ use Rattle.std.specs.FinMap as fin
 use Rattle.std.proofs.Common.{refl}
 use Rattle.irc_support.specs.Text.{Text}
 use Rattle.net_view.specs.Names.{bytes_cmp}
-use Rattle.quick_view.specs.declared.table.Entry.{Entry}
+use Rattle.quick_view.specs.declared.slot.Slot.{Slot}
 
 -- all entries by their keys, and for how many more there is room
 pub record Tabled (X : Type 0) : Type 0 where
@@ -22,17 +22,17 @@ tabled_code {X} x =
     (λ t. (t.all, t.spare)) (λ p. record { all = p.0; spare = p.1 }) (λ _. refl)
 
 -- an entry, as its key and its value
-abbrev pub entry_of : {X A : Type 0} → Entry X A → Text × X
-entry_of entry = (entry.key.items, entry.value)
+abbrev pub entry_of : {X A : Type 0} → Slot X A → Text × X
+entry_of slot = (slot.entry.value.key.items, slot.entry.value.value)
 
 -- all entries of a list in the order of keys
-abbrev pub tabled : {X A : Type 0} → Vec (Entry X A) A → Tabled X
+abbrev pub tabled : {X A : Type 0} → Vec (Slot X A) A → Tabled X
 tabled entries = record {
   all = fin.from_sorted (map entry_of entries.items);
   spare = vec_capacity entries - vec_len entries;
 }
 
-abbrev pub IsTabled : {X A : Type 0} → Vec (Entry X A) A → Type 0
+abbrev pub IsTabled : {X A : Type 0} → Vec (Slot X A) A → Type 0
 IsTabled entries = T (fin.is_sorted bytes_cmp (map entry_of entries.items))
 
 -- a value in the place of another, where there is one

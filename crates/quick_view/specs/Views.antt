@@ -1,5 +1,5 @@
 -- Views after lines that change several channels.
-use Rattle.std.specs.Prelude.{Bool, List, if◌then◌else◌}
+use Rattle.std.specs.Prelude.{Bool, if◌then◌else◌}
 use Rattle.std.specs.FinMap as fin
 use Rattle.std.proofs.Common.{Option, Some, None}
 use Rattle.irc_support.specs.Text.{Text}

@@ -8,6 +8,7 @@ mod moding;
 mod person;
 mod quick_view;
 mod room;
+mod slot;
 mod sought;
 mod state;
 mod table;

@@ -2,17 +2,15 @@
 
 ghost use Rattle.std.specs.Prelude.{◌≡◌};
 
+use crate::person::Person;
+use crate::slot::Entry;
 use irc_support::Ranks;
 use std::alloc::Allocator;
 
-/// A member that is listed, with what is needed to keep it.
+/// A member that is listed, as it is to be kept.
 #[derive(Drop)]
 pub(crate) struct Listed<A: Allocator> {
-    /// The key among the members.
-    pub(crate) member: Vec<u8, A>,
-    /// The key among the persons.
-    pub(crate) key: Vec<u8, A>,
-    pub(crate) nick: Vec<u8, A>,
-    pub(crate) ranks: Ranks,
-    ghost same: { member.items ≡ key.items },
+    pub(crate) member: Box<Entry<Ranks, A>, A>,
+    pub(crate) person: Box<Entry<Person<A>, A>, A>,
+    ghost same: { member.value.key.items ≡ person.value.key.items },
 }

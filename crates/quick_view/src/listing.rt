@@ -8,8 +8,8 @@ ghost use Rattle.quick_view.specs.Listing.{listings_in, listing_of, members_list
 
 use crate::OutOfMemory;
 use crate::listed::Listed;
-use crate::person::{People, name_person};
-use crate::room::Members;
+use crate::person::{People, name_person, new_person};
+use crate::room::{Members, new_member};
 use irc_line::Line;
 use irc_names::is_nameable;
 use irc_support::{Support, names};
@@ -28,15 +28,9 @@ pub(crate) fn listed_in<A: Allocator + Copy, B: Allocator, C: Allocator>(
     let mut listed = Vec::new(alloc);
     for (ranks, name) in names(support, line) {
         if is_nameable(name) {
-            let member = mapping.key(alloc, name)?;
-            let key = mapping.key(alloc, name)?;
-            let nick = Vec::from_slice(alloc, name)?;
-            listed.push(Listed {
-                member,
-                key,
-                nick,
-                ranks,
-            })?;
+            let member = new_member(alloc, mapping, name, ranks)?;
+            let person = new_person(alloc, mapping, name)?;
+            listed.push(Listed { member, person })?;
         }
     }
     Ok(listed)
@@ -51,16 +45,17 @@ fn keep_listed<A: Allocator + Copy>(
 )
     requires members { 0 < members.old.spare }
     requires people { 0 < people.old.spare }
-    ensures member { members.new.all ≡ fin.insert members.old.all listed.key.items listed.ranks }
+    ensures member { members.new.all
+        ≡ fin.insert members.old.all listed.person.value.key.items listed.member.value.value }
     ensures person { people_of people.new.all ≡ fin.insert (people_of people.old.all)
-        listed.key.items
-        (told_person (Some (Some listed.nick.items)) None None
-        (fin.get (people_of people.old.all) listed.key.items)) }
+        listed.person.value.key.items
+        (told_person (Some (Some listed.person.value.value.nick.items)) None None
+        (fin.get (people_of people.old.all) listed.person.value.key.items)) }
     ensures member_room { members.old.spare ≤ members.new.spare + 1 }
     ensures person_room { people.old.spare ≤ people.new.spare + 1 }
 {
-    members.insert(listed.member, listed.ranks);
-    name_person(alloc, people, listed.key, listed.nick, None);
+    members.insert(listed.member);
+    name_person(alloc, people, listed.person, None);
 }
 
 /// Keeps all members that are listed; for the persons there is room.

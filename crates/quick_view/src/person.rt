@@ -1,6 +1,7 @@
 //! Persons in sight.
 
-ghost use Rattle.std.specs.Prelude.{◌≡◌, ◌+◌, ◌<◌, ◌≤◌, [], Some, None};
+ghost use Rattle.std.specs.Prelude.{◌≡◌, ◌+◌, ◌<◌, ◌≤◌, [], Some, None, IfOk};
+ghost use Rattle.irc_names.specs.CaseMapping.{key_of};
 ghost use Rattle.std.specs.Option.{option_map};
 ghost use Rattle.std.specs.FinMap as fin;
 ghost use Rattle.net_view.specs.Changes.{told_person, with_account, with_away, renamed_in};
@@ -11,9 +12,12 @@ ghost use Rattle.net_view.specs.Step.{is_seen};
 ghost use Rattle.quick_view.specs.Rooms.{rooms_of};
 ghost use Rattle.quick_view.specs.People.{people_of, changed_at};
 
+use crate::OutOfMemory;
 use crate::room::Rooms;
+use crate::slot::{Entry, Slot};
 use crate::sought::Sought;
-use crate::table::{Entry, Table};
+use crate::table::Table;
+use irc_names::CaseMapping;
 use std::alloc::Allocator;
 
 /// What is known of a person in sight.
@@ -40,29 +44,47 @@ pub(crate) fn nobody<A: Allocator>(alloc: A) -> Person<A>
     }
 }
 
+/// A person of this name of whom nothing else is known, as it is to be kept.
+pub(crate) fn new_person<A: Allocator + Copy>(
+    alloc: A,
+    mapping: CaseMapping,
+    name: &[u8],
+) -> Result<Box<Entry<Person<A>, A>, A>, OutOfMemory>
+    ensures key { IfOk result (λ entry. entry.value.key.items ≡ key_of mapping name.now) }
+    ensures nick { IfOk result (λ entry. entry.value.value.nick.items ≡ name.now) }
+{
+    let key = mapping.key(alloc, name)?;
+    let nick = Vec::from_slice(alloc, name)?;
+    let value = Person {
+        nick,
+        account: None,
+        away: None,
+    };
+    Ok(Box::new(alloc, Entry { key, value })?)
+}
+
 /// Names a person, who may come into sight, and tells the account, where one is told. What else is
 /// known of the person stays.
 pub(crate) fn name_person<A: Allocator + Copy>(
     alloc: A,
     people: &mut People<A>,
-    key: Vec<u8, A>,
-    nick: Vec<u8, A>,
+    person: Box<Entry<Person<A>, A>, A>,
     account: Option<Option<Vec<u8, A>>>,
 )
     requires { 0 < people.old.spare }
-    ensures named { people_of people.new.all ≡ fin.insert (people_of people.old.all) key.items
-        (told_person (Some (Some nick.items)) (option_map (option_map (λ t. t.items)) account) None
-        (fin.get (people_of people.old.all) key.items)) }
+    ensures named { people_of people.new.all ≡ fin.insert (people_of people.old.all)
+        person.value.key.items
+        (told_person (Some (Some person.value.value.nick.items))
+        (option_map (option_map (λ t. t.items)) account) None
+        (fin.get (people_of people.old.all) person.value.key.items)) }
     ensures room { people.old.spare ≤ people.new.spare + 1 }
 {
+    let mut person = person;
     let mut old = nobody(alloc);
-    people.swap(Sought::Key(&key), &mut old);
-    let person = Person {
-        nick,
-        account: account.unwrap_or(old.account),
-        away: old.away,
-    };
-    people.insert(key, person);
+    people.swap(Sought::Key(&person.key), &mut old);
+    person.value.account = account.unwrap_or(old.account);
+    person.value.away = old.away;
+    people.insert(person);
 }
 
 /// Changes a person's account, where the person is in sight.
@@ -109,16 +131,14 @@ pub(crate) fn rename_person<A: Allocator>(
     nick: Vec<u8, A>,
 )
     ensures { people_of people.new.all
-        ≡ renamed_in (spelled_as nick.items) (sought_key old.entry) new.items (people_of people.old.all) }
+        ≡ renamed_in (spelled_as nick.items) (sought_key old.entry) new.items
+        (people_of people.old.all) }
 {
     match people.remove(old) {
-        Some(person) => {
-            let person = Person {
-                nick,
-                account: person.account,
-                away: person.away,
-            };
-            people.insert(new, person);
+        Some(mut person) => {
+            person.key = new;
+            person.value.nick = nick;
+            people.insert(person);
         }
         None => people.forget(&new),
     }
@@ -132,14 +152,16 @@ pub(crate) fn retain_seen<A: Allocator>(people: &mut People<A>, rooms: &Rooms<A>
     retain_in(&mut people.entries, rooms);
 }
 
-/// The same of the entries.
-fn retain_in<A: Allocator>(entries: &mut Vec<Entry<Person<A>, A>, A>, rooms: &Rooms<A>)
-    ensures { entries.new.items
-        ≡ filter (λ entry. is_seen (rooms_of rooms.now.all) entry.key.items) entries.old.items }
+/// The same of the slots.
+fn retain_in<A: Allocator>(slots: &mut Vec<Slot<Person<A>, A>, A>, rooms: &Rooms<A>)
+    ensures { slots.new.items
+        ≡ filter (λ slot. is_seen (rooms_of rooms.now.all) slot.entry.value.key.items)
+        slots.old.items }
 {
-    entries.retain(
-        |entry: &Entry<Person<A>, A>| -> bool
-            ensures { result ≡ is_seen (rooms_of rooms.entry.now.all) entry.now.key.items }
-        { rooms.is_seen(Sought::Key(&entry.key)) },
+    slots.retain(
+        |slot: &Slot<Person<A>, A>| -> bool
+            ensures { result
+                ≡ is_seen (rooms_of rooms.entry.now.all) slot.now.entry.value.key.items }
+        { rooms.is_seen(Sought::Key(&slot.entry.key)) },
     );
 }

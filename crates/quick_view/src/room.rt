@@ -16,8 +16,9 @@ ghost use Rattle.quick_view.specs.Rooms.{each_changed, is_in};
 
 use crate::OutOfMemory;
 use crate::modes::Modes;
+use crate::slot::{Entry, Slot};
 use crate::sought::Sought;
-use crate::table::{Entry, Table};
+use crate::table::Table;
 use irc_names::CaseMapping;
 use irc_support::Ranks;
 use std::alloc::Allocator;
@@ -48,27 +49,44 @@ pub(crate) fn no_room<A: Allocator + Copy>(alloc: A) -> Room<A> {
     }
 }
 
-/// A channel of this name, of which somebody is the one member.
+/// A member of this name who holds these ranks, as it is to be kept.
+pub(crate) fn new_member<A: Allocator + Copy>(
+    alloc: A,
+    mapping: CaseMapping,
+    name: &[u8],
+    ranks: Ranks,
+) -> Result<Box<Entry<Ranks, A>, A>, OutOfMemory>
+    ensures key { IfOk result (λ entry. entry.value.key.items ≡ key_of mapping name.now) }
+    ensures ranks { IfOk result (λ entry. entry.value.value ≡ ranks) }
+{
+    let key = mapping.key(alloc, name)?;
+    Ok(Box::new(alloc, Entry { key, value: ranks })?)
+}
+
+/// A channel of this name, of which somebody is the one member, as it is to be kept.
 pub(crate) fn fresh_room<A: Allocator + Copy>(
     alloc: A,
     mapping: CaseMapping,
     name: &[u8],
     who: &[u8],
-) -> Result<Room<A>, OutOfMemory>
-    ensures { IfOk result (λ room. channel_of room ≡ fresh_channel name.now (key_of mapping
-        who.now)) }
+) -> Result<Box<Entry<Room<A>, A>, A>, OutOfMemory>
+    ensures key { IfOk result (λ entry. entry.value.key.items ≡ key_of mapping name.now) }
+    ensures room { IfOk result (λ entry. channel_of entry.value.value
+        ≡ fresh_channel name.now (key_of mapping who.now)) }
 {
+    let key = mapping.key(alloc, name)?;
     let name = Vec::from_slice(alloc, name)?;
-    let key = mapping.key(alloc, who)?;
+    let member = new_member(alloc, mapping, who, Ranks::none())?;
     let mut members = Table::new(alloc);
     members.reserve(1)?;
-    members.insert(key, Ranks::none());
-    Ok(Room {
+    members.insert(member);
+    let value = Room {
         name,
         topic: None,
         modes: Modes::new(alloc),
         members,
-    })
+    };
+    Ok(Box::new(alloc, Entry { key, value })?)
 }
 
 /// Changes a channel's topic, where we are on it.
@@ -107,35 +125,34 @@ pub(crate) fn set_modes<A: Allocator + Copy>(
     }
 }
 
-/// Makes somebody a member who holds these ranks.
+/// Makes somebody a member.
 fn add_member<A: Allocator>(
     members: &mut Members<A>,
-    key: Vec<u8, A>,
-    ranks: Ranks,
+    member: Box<Entry<Ranks, A>, A>,
 ) -> Result<(), OutOfMemory>
-    ensures added { OnOk result (members.new.all ≡ fin.insert members.old.all key.items ranks) }
+    ensures added { OnOk result (members.new.all
+        ≡ fin.insert members.old.all member.value.key.items member.value.value) }
     ensures kept { OnErr result (members.new.all ≡ members.old.all) }
 {
     members.reserve(1)?;
-    members.insert(key, ranks);
+    members.insert(member);
     Ok(())
 }
 
-/// Makes somebody a member of a channel who holds these ranks, where we are on it.
+/// Makes somebody a member of a channel, where we are on it.
 pub(crate) fn seat<A: Allocator + Copy>(
     alloc: A,
     rooms: &mut Rooms<A>,
     channel: Sought<'_>,
-    key: Vec<u8, A>,
-    ranks: Ranks,
+    member: Box<Entry<Ranks, A>, A>,
 ) -> Result<(), OutOfMemory>
     ensures added { OnOk result (rooms_of rooms.new.all ≡ changed_at (rooms_of rooms.old.all)
-        (sought_key channel.entry) (with_ranks key.items ranks)) }
+        (sought_key channel.entry) (with_ranks member.value.key.items member.value.value)) }
     ensures kept { OnErr result (rooms_of rooms.new.all ≡ rooms_of rooms.old.all) }
 {
     let mut room = no_room(alloc);
     if rooms.swap(channel, &mut room) {
-        let added = add_member(&mut room.members, key, ranks);
+        let added = add_member(&mut room.members, member);
         rooms.swap(channel, &mut room);
         added
     } else {
@@ -166,12 +183,12 @@ pub(crate) fn unseat<A: Allocator + Copy>(
 }
 
 /// Takes a member off each of the channels.
-fn unseat_each<A: Allocator>(rooms: &mut [Entry<Room<A>, A>], who: Sought<'_>)
+fn unseat_each<A: Allocator>(rooms: &mut [Slot<Room<A>, A>], who: Sought<'_>)
     ensures { map room_entry rooms.new
         ≡ each_changed (without_member (sought_key who.entry)) (map room_entry rooms.old) }
 {
     for room in rooms.iter_mut() {
-        let _ = room.value.members.remove(who);
+        let _ = room.entry.value.members.remove(who);
     }
 }
 
@@ -181,7 +198,10 @@ fn rename_member<A: Allocator>(members: &mut Members<A>, old: Sought<'_>, new: V
         ≡ renamed_in (λ ranks. ranks) (sought_key old.entry) new.items members.old.all }
 {
     match members.remove(old) {
-        Some(ranks) => members.insert(new, ranks),
+        Some(mut member) => {
+            member.key = new;
+            members.insert(member);
+        }
         None => members.forget(&new),
     }
 }
@@ -204,7 +224,7 @@ pub(crate) fn copies<A: Allocator + Copy>(
 
 /// Gives a member another key in each of the channels, for each of which there is a copy of it.
 fn rename_each<A: Allocator>(
-    rooms: &mut [Entry<Room<A>, A>],
+    rooms: &mut [Slot<Room<A>, A>],
     old: Sought<'_>,
     new: &[u8],
     keys: &mut Vec<Vec<u8, A>, A>,
@@ -216,18 +236,18 @@ fn rename_each<A: Allocator>(
 {
     for room in rooms.iter_mut() {
         match keys.pop() {
-            Some(key) => rename_member(&mut room.value.members, old, key),
+            Some(key) => rename_member(&mut room.entry.value.members, old, key),
             None => unreachable!(),
         }
     }
 }
 
 /// Whether somebody is a member of one of the channels.
-fn is_member_of_any<A: Allocator>(rooms: &[Entry<Room<A>, A>], who: Sought<'_>) -> bool
+fn is_member_of_any<A: Allocator>(rooms: &[Slot<Room<A>, A>], who: Sought<'_>) -> bool
     ensures { result ≡ list_any (is_in (sought_key who.entry)) (map room_entry rooms.now) }
 {
     for room in rooms {
-        if room.value.members.contains(who) {
+        if room.entry.value.members.contains(who) {
             return true;
         }
     }

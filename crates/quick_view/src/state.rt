@@ -4,8 +4,12 @@ use crate::OutOfMemory;
 use crate::listing::{keep_all, listed_in};
 use crate::modes::Modes;
 use crate::moding::{change_modes, change_room};
-use crate::person::{Person, name_person, rename_person, retain_seen, set_account, set_away};
-use crate::room::{Rooms, copies, fresh_room, no_room, seat, set_modes, set_topic, unseat};
+use crate::person::{
+    Person, name_person, new_person, rename_person, retain_seen, set_account, set_away,
+};
+use crate::room::{
+    Rooms, copies, fresh_room, new_member, no_room, seat, set_modes, set_topic, unseat,
+};
 use crate::sought::Sought;
 use crate::table::Table;
 use crate::text::{copy_of, copy_of_told};
@@ -106,7 +110,8 @@ impl<A: Allocator + Copy> State<A> {
         topic: Option<&[u8]>,
     ) -> Result<(), OutOfMemory>
         ensures taken { OnOk result (view_kept self.new ≡ on_channel (view_kept self.old)
-            (key_by self.old.support channel.now) (with_topic (option_map (λ t. t.now) topic.entry))) }
+            (key_by self.old.support channel.now)
+            (with_topic (option_map (λ t. t.now) topic.entry))) }
         ensures kept { OnErr result (view_kept self.new ≡ view_kept self.old) }
     {
         let topic = copy_of(self.alloc, topic)?;
@@ -122,7 +127,8 @@ impl<A: Allocator + Copy> State<A> {
         account: Option<&[u8]>,
     ) -> Result<(), OutOfMemory>
         ensures taken { OnOk result (view_kept self.new ≡ on_person (view_kept self.old)
-            (key_by self.old.support who.now) (with_account (option_map (λ t. t.now) account.entry))) }
+            (key_by self.old.support who.now)
+            (with_account (option_map (λ t. t.now) account.entry))) }
         ensures kept { OnErr result (view_kept self.new ≡ view_kept self.old) }
     {
         let account = copy_of(self.alloc, account)?;
@@ -160,13 +166,12 @@ impl<A: Allocator + Copy> State<A> {
         if !self.rooms.contains(channel) {
             return Ok(());
         }
-        let member = mapping.key(self.alloc, who)?;
-        let key = mapping.key(self.alloc, who)?;
-        let nick = Vec::from_slice(self.alloc, who)?;
+        let member = new_member(self.alloc, mapping, who, Ranks::none())?;
+        let person = new_person(self.alloc, mapping, who)?;
         let account = copy_of_told(self.alloc, account)?;
         self.people.reserve(1)?;
-        seat(self.alloc, &mut self.rooms, channel, member, Ranks::none())?;
-        name_person(self.alloc, &mut self.people, key, nick, account);
+        seat(self.alloc, &mut self.rooms, channel, member)?;
+        name_person(self.alloc, &mut self.people, person, account);
         Ok(())
     }
 
@@ -217,20 +222,19 @@ impl<A: Allocator + Copy> State<A> {
     ) -> Result<(), OutOfMemory>
         ensures taken { OnOk result (IsKnowing (view_kept self.old) → view_kept self.new
             ≡ entered_view (view_kept self.old) (key_by self.old.support channel.now) channel.now
-            (key_by self.old.support who.now) who.now (option_map (option_map (λ t. t.now)) account.entry)) }
+            (key_by self.old.support who.now) who.now
+            (option_map (option_map (λ t. t.now)) account.entry)) }
         ensures kept { OnErr result (view_kept self.new ≡ view_kept self.old) }
     {
         let mapping = self.support.mapping();
-        let place = mapping.key(self.alloc, channel)?;
         let room = fresh_room(self.alloc, mapping, channel, who)?;
-        let key = mapping.key(self.alloc, who)?;
-        let nick = Vec::from_slice(self.alloc, who)?;
+        let person = new_person(self.alloc, mapping, who)?;
         let account = copy_of_told(self.alloc, account)?;
         self.rooms.reserve(1)?;
         self.people.reserve(1)?;
-        let again = self.rooms.contains(Sought::Key(&place));
-        name_person(self.alloc, &mut self.people, key, nick, account);
-        self.rooms.insert(place, room);
+        let again = self.rooms.contains(Sought::Name(mapping, channel));
+        name_person(self.alloc, &mut self.people, person, account);
+        self.rooms.insert(room);
         if again {
             retain_seen(&mut self.people, &self.rooms);
         }

@@ -9,25 +9,20 @@ ghost use Rattle.std.specs.FinMap as fin;
 ghost use Rattle.net_view.specs.Names.{bytes_cmp};
 ghost use Rattle.quick_view.specs.Table.{entry_now, swapped_in, swapped_out};
 ghost use Rattle.quick_view.specs.Sought.{sought_key};
+ghost use Rattle.quick_view.specs.Head.{head_of, AreBytesTo};
 
 use crate::OutOfMemory;
-use crate::sought::{Sought, order};
+use crate::slot::{Entry, Slot};
+use crate::sought::{Sought, head, key_head, order_behind};
 use std::alloc::Allocator;
 use std::cmp::Ordering;
 use std::marker::Model;
 use std::mem;
 
-/// A value under its key.
-#[derive(Drop)]
-pub(crate) struct Entry<V, A: Allocator> {
-    pub(crate) key: Vec<u8, A>,
-    pub(crate) value: V,
-}
-
 /// Values by key, in the order of the keys, byte by byte.
 #[derive(Drop)]
 pub(crate) struct Table<V, A: Allocator> {
-    pub(crate) entries: Vec<Entry<V, A>, A>,
+    pub(crate) entries: Vec<Slot<V, A>, A>,
 }
 
 impl<V, A: Allocator> Model for Table<V, A> {
@@ -42,16 +37,30 @@ impl<V, A: Allocator> Model for Table<V, A> {
     ghost invariant = { λ t. IsTabled t.entries };
 }
 
-/// Where the entry that is looked for stands, or would stand.
-fn place_of<V, A: Allocator>(entries: &[Entry<V, A>], sought: Sought<'_>) -> Result<usize, usize>
-    ensures bound { IsSearchInRange result (length entries.now) }
-    ensures place { IsBinarySearchResult
-        (λ entry. bytes_cmp entry.key.items (sought_key sought.entry)) entries.now result }
+/// How an entry stands to what is looked for, whose head is this.
+fn order_by_head<V, A: Allocator>(slot: &Slot<V, A>, head: u64, sought: Sought<'_>) -> Ordering
+    ensures { head ≡ head_of (sought_key sought.entry) → AreBytesTo 8 (sought_key sought.entry) →
+        result ≡ bytes_cmp slot.now.entry.value.key.items (sought_key sought.entry) }
 {
-    entries.binary_search_by(
-        |entry: &Entry<V, A>| -> Ordering
-            ensures { result ≡ bytes_cmp entry.now.key.items (sought_key sought.entry) }
-        { order(&entry.key, sought) },
+    match slot.head.cmp(&head) {
+        Ordering::Equal => order_behind(&slot.entry.key, sought),
+        apart => apart,
+    }
+}
+
+/// Where the entry that is looked for stands, or would stand.
+fn place_of<V, A: Allocator>(slots: &[Slot<V, A>], sought: Sought<'_>) -> Result<usize, usize>
+    ensures bound { IsSearchInRange result (length slots.now) }
+    ensures place { IsBinarySearchResult
+        (λ slot. bytes_cmp slot.entry.value.key.items (sought_key sought.entry)) slots.now result }
+{
+    let head = head(sought);
+    slots.binary_search_by(
+        |slot: &Slot<V, A>| -> Ordering
+            ensures { head ≡ head_of (sought_key sought.entry) →
+                AreBytesTo 8 (sought_key sought.entry) → result
+                ≡ bytes_cmp slot.now.entry.value.key.items (sought_key sought.entry) }
+        { order_by_head(slot, head, sought) },
     )
 }
 
@@ -116,7 +125,7 @@ impl<V, A: Allocator> Table<V, A> {
             sought.entry) }
     {
         match place_of(&self.entries, sought) {
-            Ok(place) => Some(&self.entries[place].value),
+            Ok(place) => Some(&self.entries[place].entry.value),
             Err(_) => None,
         }
     }
@@ -133,7 +142,7 @@ impl<V, A: Allocator> Table<V, A> {
         ensures { option_map entry_now result ≡ slice_get (fin.entries self.now.all) place }
     {
         match item_at(&self.entries, place) {
-            Some(entry) => Some((entry.key.as_slice(), &entry.value)),
+            Some(slot) => Some((slot.entry.key.as_slice(), &slot.entry.value)),
             None => None,
         }
     }
@@ -148,15 +157,19 @@ impl<V, A: Allocator> Table<V, A> {
 }
 
 impl<V: Drop, A: Allocator> Table<V, A> {
-    /// Puts a value under its key, in the place of one that was there.
-    pub(crate) fn insert(&mut self, key: Vec<u8, A>, value: V)
+    /// Puts an entry in its place, or in the place of one of the same key.
+    pub(crate) fn insert(&mut self, entry: Box<Entry<V, A>, A>)
         requires { 0 < self.old.spare }
-        ensures all { self.new.all ≡ fin.insert self.old.all key.items value }
+        ensures all { self.new.all
+            ≡ fin.insert self.old.all entry.value.key.items entry.value.value }
         ensures room { self.old.spare ≤ self.new.spare + 1 }
     {
-        match place_of(&self.entries, Sought::Key(&key)) {
-            Ok(place) => self.entries[place].value = value,
-            Err(place) => insert_at(&mut self.entries, place, Entry { key, value }),
+        let head = key_head(&entry.key);
+        let found = place_of(&self.entries, Sought::Key(&entry.key));
+        let slot = Slot { head, entry };
+        match found {
+            Ok(place) => self.entries[place] = slot,
+            Err(place) => insert_at(&mut self.entries, place, slot),
         }
     }
 
@@ -170,22 +183,23 @@ impl<V: Drop, A: Allocator> Table<V, A> {
     {
         match place_of(&self.entries, sought) {
             Ok(place) => {
-                mem::swap(&mut self.entries[place].value, value);
+                mem::swap(&mut self.entries[place].entry.value, value);
                 true
             }
             Err(_) => false,
         }
     }
 
-    /// Takes out the value that is looked for, which leaves room for one.
-    pub(crate) fn remove(&mut self, sought: Sought<'_>) -> Option<V>
-        ensures value { result ≡ fin.get self.old.all (sought_key sought.entry) }
+    /// Takes out the entry that is looked for, which leaves room for one.
+    pub(crate) fn remove(&mut self, sought: Sought<'_>) -> Option<Box<Entry<V, A>, A>>
+        ensures value { option_map (λ entry. entry.value.value) result
+            ≡ fin.get self.old.all (sought_key sought.entry) }
         ensures all { self.new.all ≡ fin.remove self.old.all (sought_key sought.entry) }
         ensures room { self.old.spare ≤ self.new.spare }
         ensures left { IsSome result → self.old.spare + 1 ≤ self.new.spare }
     {
         match place_of(&self.entries, sought) {
-            Ok(place) => Some(self.entries.remove(place).value),
+            Ok(place) => Some(self.entries.remove(place).entry),
             Err(_) => None,
         }
     }

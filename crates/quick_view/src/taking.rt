@@ -66,7 +66,8 @@ impl<A: Allocator + Copy> State<A> {
         ensures taken { OnOk result (IsSound (view_kept self.old) → HasSets (view_kept self.old) →
             view_kept self.new ≡ after_told (view_kept self.old) (Joined
             (name_of self.old.support channel.now) (is_channel self.old.support channel.now)
-            (name_of self.old.support who.now) (option_map (option_map (λ t. t.now)) account.entry))) }
+            (name_of self.old.support who.now)
+            (option_map (option_map (λ t. t.now)) account.entry))) }
         ensures kept { OnErr result (view_kept self.new ≡ view_kept self.old) }
     {
         if !self.is_us(who) {

@@ -1,11 +1,12 @@
 //! What clients ask for and are sent.
 
+use crate::views::{quick_of, tape_of};
 use client_caps::{Caps, Moment, image, part_lines, read_request};
 use irc_line::Line;
-use net_view::{Item, NetworkView};
+use net_view::NetworkView;
 use std::alloc::Global;
+use std::process::Abort;
 use std::test::Fail;
-use tape_view::TapeView;
 use welcome::Packet;
 
 fn line(alloc: Global, text: &[u8]) -> Result<Line, Fail> {
@@ -13,34 +14,56 @@ fn line(alloc: Global, text: &[u8]) -> Result<Line, Fail> {
     Ok(line.ok_or("the text is a line")?)
 }
 
-/// The view of these lines, behind a welcome and a JOIN of ours.
-fn view_of(alloc: Global, texts: &[&[u8]]) -> Result<TapeView, Fail> {
-    let mut view = TapeView::new(alloc)?;
-    let welcome: [&[u8]; 4] = [
-        b":s 001 Me :hi",
-        b":s 005 Me PREFIX=(ov)@+ CHANTYPES=# :are supported",
-        b":s 376 Me :end",
-        b":Me!m@h JOIN #c",
-    ];
-    for text in welcome.iter().chain(texts.iter()) {
-        view.take(&Item::Line(line(alloc, text)?))?;
-    }
-    Ok(view)
-}
+/// A welcome, our JOIN, and that of a person with an account.
+const JOINED: [&[u8]; 5] = [
+    b":s 001 Me :hi",
+    b":s 005 Me PREFIX=(ov)@+ CHANTYPES=# :are supported",
+    b":s 376 Me :end",
+    b":Me!m@h JOIN #c",
+    b":bob!b@h JOIN #c bobacc :Bob",
+];
 
 /// The capabilities that a request asks for, from none.
-fn asked(text: &[u8]) -> Result<Caps, Fail> {
+pub(crate) fn asked(text: &[u8]) -> Result<Caps, Fail> {
     Ok(read_request(Caps::none(), text).ok_or("the request is taken")?)
 }
 
-/// The text of the image of a line; `-` where there is none.
-fn image_text(alloc: Global, view: &TapeView, caps: Caps, text: &[u8]) -> Result<Vec<u8>, Fail> {
+/// The text of the image of a line that came at the beginning of 1970; `-` where there is none.
+fn image_text<V: NetworkView>(
+    alloc: Global,
+    view: &V,
+    caps: Caps,
+    text: &[u8],
+) -> Result<Vec<u8>, Fail> {
     let mut out = Vec::new(alloc);
     match image(alloc, view, caps, &line(alloc, text)?, Moment(0))? {
         Some(image) => image.write(&mut out)?,
         None => out.push(b'-')?,
     }
     Ok(out)
+}
+
+/// Images of lines by a view: capabilities, the line, what is sent.
+fn rows_sent<R: AllocGlobal + Abort, V: NetworkView>(
+    rt: &R,
+    view: &V,
+    rows: &[(&[u8], &[u8], &[u8])],
+) -> Result<(), Fail> {
+    for (names, text, wanted) in rows {
+        let sent = image_text(rt.alloc(), view, asked(names)?, text)?;
+        assert!(rt; sent.as_slice() == *wanted);
+    }
+    Ok(())
+}
+
+/// Images of lines by both views, after these texts.
+pub(crate) fn check_images<R: AllocGlobal + Abort>(
+    rt: &R,
+    texts: &[&[u8]],
+    rows: &[(&[u8], &[u8], &[u8])],
+) -> Result<(), Fail> {
+    rows_sent(rt, &tape_of(rt.alloc(), texts)?, rows)?;
+    rows_sent(rt, &quick_of(rt.alloc(), texts)?, rows)
 }
 
 /// Requests, and the names held after them.
@@ -82,87 +105,164 @@ fn capabilities_asked_for(rt: HostRuntime) -> Result<(), Fail> {
 /// Images of lines: capabilities, the line, what is sent.
 #[test]
 fn lines_as_clients_are_sent_them(rt: HostRuntime) -> Result<(), Fail> {
-    let view = view_of(rt.alloc(), &[b":bob!b@h JOIN #c bobacc :Bob"])?;
-    let rows: [(&[u8], &[u8], &[u8]); 17] = [
-        (
-            b"",
-            b"@a=1 :bob!b@h PRIVMSG #c :hi all",
-            b":bob!b@h PRIVMSG #c :hi all\r\n",
-        ),
-        (b"", b"PING x", b"-"),
-        (b"", b"batch +a", b"-"),
-        (b"", b":bob!b@h ACCOUNT x", b"-"),
-        (
-            b"account-notify",
-            b":bob!b@h ACCOUNT x",
-            b":bob!b@h ACCOUNT x\r\n",
-        ),
-        (b"account-notify", b":bob!b@h AWAY :x y", b"-"),
-        (
-            b"away-notify",
-            b":bob!b@h AWAY :x y",
-            b":bob!b@h AWAY :x y\r\n",
-        ),
-        (
-            b"",
-            b":eve!e@h JOIN #d eveacc :Eve",
-            b":eve!e@h JOIN #d\r\n",
-        ),
-        (
-            b"",
-            b":eve!e@h JOIN d eveacc :Eve",
-            b":eve!e@h JOIN d eveacc Eve\r\n",
-        ),
-        (
-            b"extended-join",
-            b":eve!e@h JOIN #d eveacc :Eve E",
-            b":eve!e@h JOIN #d eveacc :Eve E\r\n",
-        ),
-        (
-            b"extended-join",
-            b":eve!e@h JOIN #d eveacc",
-            b":eve!e@h JOIN #d eveacc :\r\n",
-        ),
-        (
-            b"extended-join",
-            b":eve!e@h JOIN #d",
-            b":eve!e@h JOIN #d * :\r\n",
-        ),
-        (
-            b"extended-join",
-            b":BOB!b@h JOIN #d",
-            b":BOB!b@h JOIN #d bobacc :\r\n",
-        ),
-        (
-            b"",
-            b":s 353 Me = #c :Me  @+bob!b@h +eve @",
-            b":s 353 Me = #c :Me @bob!b@h +eve @\r\n",
-        ),
-        (
-            b"multi-prefix",
-            b":s 353 Me = #c :Me  @+bob",
-            b":s 353 Me = #c :Me  @+bob\r\n",
-        ),
-        (b"", b":bob!b@h NICK Me", b":bob!b@h NICK Me\r\n"),
-        (b"", b":@x!u@h JOIN #c", b":@x!u@h JOIN #c\r\n"),
-    ];
-    for (caps, text, wanted) in &rows {
-        let sent = image_text(rt.alloc(), &view, asked(caps)?, text)?;
-        assert!(&rt; sent.as_slice() == *wanted);
+    check_images(
+        &rt,
+        &JOINED,
+        &[
+            (
+                b"",
+                b"@a=1 :bob!b@h PRIVMSG #c :hi all",
+                b":bob!b@h PRIVMSG #c :hi all\r\n",
+            ),
+            (b"", b"PING x", b"-"),
+            (b"", b"batch +a", b"-"),
+            (b"", b":bob!b@h ACCOUNT x", b"-"),
+            (
+                b"account-notify",
+                b":bob!b@h ACCOUNT x",
+                b":bob!b@h ACCOUNT x\r\n",
+            ),
+            (b"account-notify", b":bob!b@h AWAY :x y", b"-"),
+            (
+                b"away-notify",
+                b":bob!b@h AWAY :x y",
+                b":bob!b@h AWAY :x y\r\n",
+            ),
+            (
+                b"",
+                b":eve!e@h JOIN #d eveacc :Eve",
+                b":eve!e@h JOIN #d\r\n",
+            ),
+            (
+                b"",
+                b":eve!e@h JOIN d eveacc :Eve",
+                b":eve!e@h JOIN d eveacc Eve\r\n",
+            ),
+            (
+                b"extended-join",
+                b":eve!e@h JOIN #d eveacc :Eve E",
+                b":eve!e@h JOIN #d eveacc :Eve E\r\n",
+            ),
+            (
+                b"extended-join",
+                b":eve!e@h JOIN #d eveacc",
+                b":eve!e@h JOIN #d eveacc :\r\n",
+            ),
+            (
+                b"extended-join",
+                b":eve!e@h JOIN #d",
+                b":eve!e@h JOIN #d * :\r\n",
+            ),
+            (
+                b"extended-join",
+                b":BOB!b@h JOIN #d",
+                b":BOB!b@h JOIN #d bobacc :\r\n",
+            ),
+            (
+                b"",
+                b":s 353 Me = #c :Me  @+bob!b@h +eve @",
+                b":s 353 Me = #c :Me @bob!b@h +eve @\r\n",
+            ),
+            (
+                b"multi-prefix",
+                b":s 353 Me = #c :Me  @+bob",
+                b":s 353 Me = #c :Me  @+bob\r\n",
+            ),
+            (b"", b":bob!b@h NICK Me", b":bob!b@h NICK Me\r\n"),
+            (b"", b":@x!u@h JOIN #c", b":@x!u@h JOIN #c\r\n"),
+            (b"", b":s MODE #c +k :a b", b":s MODE #c +k :a b\r\n"),
+        ],
+    )
+}
+
+/// The JOIN of a person whose account was forgotten with the last shared channel.
+#[test]
+fn a_join_of_a_person_who_left(rt: HostRuntime) -> Result<(), Fail> {
+    check_images(
+        &rt,
+        &[
+            b":s 001 Me :hi",
+            b":Me!m@h JOIN #c",
+            b":bob!b@h JOIN #c bobacc :Bob",
+            b":bob!b@h PART #c",
+        ],
+        &[
+            (
+                b"extended-join",
+                b":bob!b@h JOIN #c",
+                b":bob!b@h JOIN #c * :\r\n",
+            ),
+            (b"", b":bob!b@h JOIN #c", b":bob!b@h JOIN #c\r\n"),
+        ],
+    )
+}
+
+/// The names of a 353, by five ranks and by none.
+#[test]
+fn name_lists_by_other_ranks(rt: HostRuntime) -> Result<(), Fail> {
+    check_images(
+        &rt,
+        &[
+            b":s 001 Me :hi",
+            b":s 005 Me PREFIX=(qaohv)~&@%+ :are supported",
+        ],
+        &[
+            (
+                b"",
+                b":s 353 Me = #c :~&@%+bob!b@h +%eve Me",
+                b":s 353 Me = #c :~bob!b@h %eve Me\r\n",
+            ),
+            (
+                b"multi-prefix",
+                b":s 353 Me = #c :~&@%+bob!b@h +%eve Me",
+                b":s 353 Me = #c :~&@%+bob!b@h +%eve Me\r\n",
+            ),
+        ],
+    )?;
+    check_images(
+        &rt,
+        &[b":s 001 Me :hi", b":s 005 Me PREFIX= :are supported"],
+        &[
+            (
+                b"",
+                b":s 353 Me = #c :@+bob!b@h  +eve Me",
+                b":s 353 Me = #c :@+bob!b@h +eve Me\r\n",
+            ),
+            (
+                b"multi-prefix",
+                b":s 353 Me = #c :@+bob!b@h  +eve Me",
+                b":s 353 Me = #c :@+bob!b@h  +eve Me\r\n",
+            ),
+        ],
+    )
+}
+
+/// What is sent for a loss, by a view.
+fn is_sent_for_a_loss<R: AllocGlobal + Abort, V: NetworkView>(
+    rt: &R,
+    view: &V,
+    wanted: &[u8],
+) -> Result<(), Fail> {
+    let mut text = Vec::new(rt.alloc());
+    for line in part_lines(rt.alloc(), view)? {
+        line.write(&mut text)?;
     }
+    assert!(rt; text.as_slice() == wanted);
     Ok(())
 }
 
-/// What is sent for a loss.
+/// Three channels are left for a loss.
 #[test]
 fn channels_left_for_a_loss(rt: HostRuntime) -> Result<(), Fail> {
-    let view = view_of(rt.alloc(), &[b":Me!m@h JOIN #b", b":Me!m@h JOIN #a"])?;
-    let mut text = Vec::new(rt.alloc());
-    for line in part_lines(rt.alloc(), &view)? {
-        line.write(&mut text)?;
-    }
-    assert!(&rt; text.as_slice() == b":Me PART #a\r\n:Me PART #b\r\n:Me PART #c\r\n".as_slice());
-    Ok(())
+    let texts: [&[u8]; 4] = [
+        b":s 001 Me :hi",
+        b":Me!m@h JOIN #c",
+        b":Me!m@h JOIN #b",
+        b":Me!m@h JOIN #A",
+    ];
+    let wanted: &[u8] = b":Me PART #A\r\n:Me PART #b\r\n:Me PART #c\r\n";
+    is_sent_for_a_loss(&rt, &tape_of(rt.alloc(), &texts)?, wanted)?;
+    is_sent_for_a_loss(&rt, &quick_of(rt.alloc(), &texts)?, wanted)
 }
 
 /// A packet, and one that shares its bytes.

@@ -1,7 +1,7 @@
 //! The messages that are kept, and the marks of client names.
 
 use client_caps::{Moment, time_text};
-use history::{AdmitError, CapacityError, Entry, History, Marks, Spent, is_message};
+use history::{AdmitError, CapacityError, Entry, History, Marks, PushError, Spent, is_message};
 use irc_line::Line;
 use std::alloc::Global;
 use std::test::Fail;
@@ -97,6 +97,61 @@ fn a_message_made_beforehand(rt: HostRuntime) -> Result<(), Fail> {
     Ok(())
 }
 
+/// Messages that are made and pushed by their parts, as their readers give them back.
+#[test]
+fn messages_by_their_parts(rt: HostRuntime) -> Result<(), Fail> {
+    let mut history = History::<Global>::new(rt.alloc(), 2, u64::MAX)?;
+    let time = b"2020-01-02T03:04:05.678Z";
+    let entry = Entry::<Global>::make(rt.alloc(), time, b"Me", b"privmsg", b"#c", b"m 1")?;
+    assert!(&rt;
+        matches!(
+            history.push(
+                entry.time(),
+                entry.source(),
+                entry.command(),
+                entry.target(),
+                entry.text()
+            ),
+            Ok(u64::MAX)
+        )
+    );
+    let kept = history.entry(0).ok_or("it is kept")?;
+    assert!(&rt; kept.time() == time.as_slice() && kept.source() == b"Me".as_slice());
+    assert!(&rt; kept.command() == b"privmsg".as_slice() && kept.target() == b"#c".as_slice());
+    assert!(&rt; kept.text() == b"m 1".as_slice());
+    assert!(&rt;
+        matches!(
+            history.push(time, b"Me", b"NOTICE", b"bob", b""),
+            Err(PushError::Spent)
+        )
+    );
+    assert!(&rt; history.len() == 1);
+    Ok(())
+}
+
+/// What a client says, as a message of ours: the line, and whether it is one.
+#[test]
+fn messages_that_a_client_says(rt: HostRuntime) -> Result<(), Fail> {
+    let rows: [(&[u8], bool); 4] = [
+        (b"PRIVMSG #c :hi all", true),
+        (b":other NOTICE #c :hi all", true),
+        (b"PRIVMSG #c", false),
+        (b"TOPIC #c :hi all", false),
+    ];
+    let time = time_text(Moment(0));
+    for (text, is_said) in &rows {
+        let line = Line::<Global>::read(rt.alloc(), text)?.ok_or("a line")?;
+        match Entry::of_said(rt.alloc(), &time, b"Me", &line)? {
+            Some(entry) => {
+                assert!(&rt; *is_said && entry.source() == b"Me".as_slice());
+                assert!(&rt; entry.text() == b"hi all".as_slice());
+            }
+            None => assert!(&rt; !*is_said),
+        }
+    }
+    Ok(())
+}
+
 /// Lines, and whether they are messages: of the network, and of a client.
 #[test]
 fn lines_that_are_messages(rt: HostRuntime) -> Result<(), Fail> {
@@ -125,6 +180,7 @@ fn names_and_their_marks(rt: HostRuntime) -> Result<(), Fail> {
     for byte in 0..64 {
         assert!(&rt; matches!(marks.admit(&[byte]), Ok(true)));
     }
+    assert!(&rt; marks.is_full_for(b"pc") && !marks.is_full_for(&[0]));
     assert!(&rt; matches!(marks.admit(b"pc"), Err(AdmitError::NamesFull)));
     assert!(&rt; matches!(marks.admit(&[0]), Ok(false)));
     marks.set_mark(&[0], 5);

@@ -3,13 +3,19 @@
 #![tactic(auto)]
 
 #[cfg(test)]
+mod arrivals;
+#[cfg(test)]
 mod clients;
+#[cfg(test)]
+mod hub_rows;
 #[cfg(test)]
 mod kept_messages;
 #[cfg(test)]
 mod lines;
 #[cfg(test)]
 mod login;
+#[cfg(test)]
+mod long_rows;
 #[cfg(test)]
 mod moments;
 #[cfg(test)]
@@ -18,6 +24,8 @@ mod names;
 mod playback;
 #[cfg(test)]
 mod quick;
+#[cfg(test)]
+mod read_back;
 #[cfg(test)]
 mod registration;
 #[cfg(test)]

@@ -54,7 +54,7 @@ fn claimed(alloc: Global, claim: &Claim) -> Result<Vec<u8>, Fail> {
     Ok(out)
 }
 
-/// What a step is: the lines that are sent, with `closed: ` in front where it is over, or the claim.
+/// What a step is: the lines sent, with `closed: ` in front where it is over, or the claim.
 fn told(alloc: Global, step: &LoginStep) -> Result<Vec<u8>, Fail> {
     match step {
         LoginStep::Send(lines) => texts(alloc, lines.as_slice()),

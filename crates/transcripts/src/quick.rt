@@ -1,6 +1,6 @@
 //! The two views beside one another, line by line.
 
-use crate::views::{item, shown};
+use crate::views::{check_rows, item, shown};
 use net_view::NetworkView;
 use quick_view::QuickView;
 use std::process::Abort;
@@ -43,21 +43,34 @@ const LINES: [&[u8]; 32] = [
     b"lost",
 ];
 
+/// Takes a text into two views, which then show the same.
+fn take_both<R: AllocGlobal + Abort, V: NetworkView, W: NetworkView>(
+    rt: &R,
+    tape: &mut V,
+    quick: &mut W,
+    text: &[u8],
+) -> Result<(), Fail> {
+    let item = item(rt.alloc(), text)?;
+    tape.take(&item)?;
+    quick.take(&item)?;
+    assert!(rt; shown(rt.alloc(), &*tape)? == shown(rt.alloc(), &*quick)?);
+    assert!(rt; tape.account_of(b"ANN") == quick.account_of(b"ANN"));
+    Ok(())
+}
+
 /// What both views show is the same after each line of a script that is drawn from this seed.
-fn check_script<R: AllocGlobal + Abort>(rt: &R, mut seed: u32, lines: u32) -> Result<(), Fail> {
-    let mut tape = TapeView::new(rt.alloc())?;
-    let mut quick = QuickView::new(rt.alloc())?;
-    let welcome = item(rt.alloc(), b":s 001 Me :hi")?;
-    tape.take(&welcome)?;
-    quick.take(&welcome)?;
+fn check_script<R: AllocGlobal + Abort, V: NetworkView, W: NetworkView>(
+    rt: &R,
+    tape: &mut V,
+    quick: &mut W,
+    mut seed: u32,
+    lines: u32,
+) -> Result<(), Fail> {
+    take_both(rt, tape, quick, b":s 001 Me :hi")?;
     for _line in 0..lines {
         seed = seed.wrapping_mul(1_664_525).wrapping_add(1_013_904_223);
         let text = LINES[(seed >> 16) as usize % LINES.len()];
-        let item = item(rt.alloc(), text)?;
-        tape.take(&item)?;
-        quick.take(&item)?;
-        assert!(rt; shown(rt.alloc(), &tape)? == shown(rt.alloc(), &quick)?);
-        assert!(rt; tape.account_of(b"ANN") == quick.account_of(b"ANN"));
+        take_both(rt, tape, quick, text)?;
     }
     Ok(())
 }
@@ -65,25 +78,24 @@ fn check_script<R: AllocGlobal + Abort>(rt: &R, mut seed: u32, lines: u32) -> Re
 #[test]
 fn both_views_show_the_same(rt: HostRuntime) -> Result<(), Fail> {
     for seed in 1..9 {
-        check_script(&rt, seed, 40)?;
+        let mut tape = TapeView::new(rt.alloc())?;
+        check_script(&rt, &mut tape, &mut QuickView::new(rt.alloc())?, seed, 40)?;
     }
     Ok(())
 }
 
 #[test]
 fn a_rename_onto_a_person_who_is_there(rt: HostRuntime) -> Result<(), Fail> {
-    let mut quick = QuickView::new(rt.alloc())?;
-    let rows: [(&[u8], &[u8]); 6] = [
-        (b":s 001 Me :hi", b"Me"),
-        (b":Me!m@h JOIN #c", b"Me / #c Me"),
-        (b":bob!b@h JOIN #c", b"Me / #c bob Me"),
-        (b":eve!e@h JOIN #c", b"Me / #c bob eve Me"),
-        (b":bob!b@h NICK eve", b"Me / #c eve Me"),
-        (b":eve!b@h NICK EVE", b"Me / #c EVE Me"),
-    ];
-    for (text, wanted) in rows {
-        quick.take(&item(rt.alloc(), text)?)?;
-        assert!(rt; shown(rt.alloc(), &quick)?.as_slice() == wanted);
-    }
-    Ok(())
+    check_rows(
+        &rt,
+        &[
+            (b":s 001 Me :hi", b"Me"),
+            (b":Me!m@h JOIN #c", b"Me / #c Me"),
+            (b":bob!b@h JOIN #c", b"Me / #c bob Me"),
+            (b":eve!e@h JOIN #c", b"Me / #c bob eve Me"),
+            (b":s MODE #c +o eve", b"Me / #c bob @eve Me"),
+            (b":bob!b@h NICK eve", b"Me / #c eve Me"),
+            (b":eve!b@h NICK EVE", b"Me / #c EVE Me"),
+        ],
+    )
 }

@@ -17,6 +17,24 @@ pub(crate) fn item(alloc: Global, text: &[u8]) -> Result<Item, Fail> {
     Ok(Item::Line(line.ok_or("the text is a line")?))
 }
 
+/// The view that searches, after these texts.
+pub(crate) fn tape_of(alloc: Global, texts: &[&[u8]]) -> Result<TapeView, Fail> {
+    let mut view = TapeView::new(alloc)?;
+    for text in texts {
+        view.take(&item(alloc, text)?)?;
+    }
+    Ok(view)
+}
+
+/// The view by tables, after these texts.
+pub(crate) fn quick_of(alloc: Global, texts: &[&[u8]]) -> Result<QuickView, Fail> {
+    let mut view = QuickView::new(alloc)?;
+    for text in texts {
+        view.take(&item(alloc, text)?)?;
+    }
+    Ok(view)
+}
+
 /// The modes of a channel in braces, in order, each with its parameter.
 fn show_modes<V: NetworkView>(view: &V, channel: usize, text: &mut Vec<u8>) -> Result<(), Fail> {
     if view.mode_at(channel, 0).is_none() {
@@ -94,18 +112,26 @@ pub(crate) fn shown<V: NetworkView>(alloc: Global, view: &V) -> Result<Vec<u8>, 
     Ok(text)
 }
 
-/// What both views show after each of these texts.
-fn check_rows<R: AllocGlobal + Abort>(rt: &R, rows: &[(&[u8], &[u8])]) -> Result<(), Fail> {
-    let mut tape = TapeView::new(rt.alloc())?;
-    let mut quick = QuickView::new(rt.alloc())?;
+/// What a view shows after each of these texts.
+fn rows_shown<R: AllocGlobal + Abort, V: NetworkView>(
+    rt: &R,
+    view: &mut V,
+    rows: &[(&[u8], &[u8])],
+) -> Result<(), Fail> {
     for (text, wanted) in rows {
-        let item = item(rt.alloc(), text)?;
-        tape.take(&item)?;
-        quick.take(&item)?;
-        assert!(rt; shown(rt.alloc(), &tape)?.as_slice() == *wanted);
-        assert!(rt; shown(rt.alloc(), &quick)?.as_slice() == *wanted);
+        view.take(&item(rt.alloc(), text)?)?;
+        assert!(rt; shown(rt.alloc(), &*view)?.as_slice() == *wanted);
     }
     Ok(())
+}
+
+/// What both views show after each of these texts.
+pub(crate) fn check_rows<R: AllocGlobal + Abort>(
+    rt: &R,
+    rows: &[(&[u8], &[u8])],
+) -> Result<(), Fail> {
+    rows_shown(rt, &mut TapeView::new(rt.alloc())?, rows)?;
+    rows_shown(rt, &mut QuickView::new(rt.alloc())?, rows)
 }
 
 #[test]
@@ -392,6 +418,53 @@ fn what_is_known_of_persons(rt: HostRuntime) -> Result<(), Fail> {
             (b":rob!b@h AWAY", b"Me / #c Me / #d Me rob=r"),
             (b":rob!b@h PART #d", b"Me / #c Me / #d Me"),
             (b":rob!b@h JOIN #c", b"Me / #c Me rob / #d Me"),
+        ],
+    )
+}
+
+/// Modes of a 324 and a MODE together, and a key that is taken away with and without its word.
+#[test]
+fn a_key_that_is_set_and_unset(rt: HostRuntime) -> Result<(), Fail> {
+    check_rows(
+        &rt,
+        &[
+            (b":s 001 Me :hi", b"Me"),
+            (b":Me!m@h JOIN #c", b"Me / #c Me"),
+            (b":s MODE #c +nt", b"Me / #c {n t} Me"),
+            (b":s 324 Me #c +k key", b"Me / #c {kkey} Me"),
+            (b":s MODE #c -k", b"Me / #c {kkey} Me"),
+            (b":s MODE #c -k x", b"Me / #c Me"),
+            (b":bob!b@h JOIN #c", b"Me / #c bob Me"),
+            (b":s MODE #c +lo 5 bob", b"Me / #c {l5} @bob Me"),
+            (b":s MODE #c -l+v bob", b"Me / #c @+bob Me"),
+            (b":bob!b@h NICK rob", b"Me / #c Me @+rob"),
+            (b":s MODE #c -o rob", b"Me / #c Me +rob"),
+        ],
+    )
+}
+
+/// Ranks of a network that has none, and of one that has five.
+#[test]
+fn ranks_of_other_networks(rt: HostRuntime) -> Result<(), Fail> {
+    check_rows(
+        &rt,
+        &[
+            (b":s 001 Me :hi", b"Me"),
+            (b":s 005 Me PREFIX= :are supported", b"Me"),
+            (b":Me!m@h JOIN #c", b"Me / #c Me"),
+            (b":s 353 Me = #c :Me bob @eve", b"Me / #c bob Me"),
+            (b":s MODE #c +o bob", b"Me / #c bob Me"),
+            (b":s 001 Me :hi", b"Me"),
+            (b":s 005 Me PREFIX=(qaohv)~&@%+ :are supported", b"Me"),
+            (b":Me!m@h JOIN #c", b"Me / #c Me"),
+            (
+                b":s 353 Me = #c :+%@&~bob %eve",
+                b"Me / #c ~&@%+bob %eve Me",
+            ),
+            (
+                b":s MODE #c -qh+av bob bob eve Me",
+                b"Me / #c &@+bob &%eve +Me",
+            ),
         ],
     )
 }

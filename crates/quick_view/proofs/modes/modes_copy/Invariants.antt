@@ -1,4 +1,4 @@
-use Rattle.std.proofs.Common.{◌≡◌, map, take, vec_len, vec_capacity}
+use Rattle.std.proofs.Common.{◌≡◌, map, take}
 use Rattle.quick_view.specs.Modes.{mode_of}
 use Rattle.quick_view.proofs.modes.modes_copy.Given as goal
 

@@ -1,10 +1,10 @@
-use Rattle.std.proofs.Common.{◌≡◌, Some, None, cond, option_map, ap, sym, ◌∙◌}
+use Rattle.std.proofs.Common.{Some, None, cond, option_map, ap, sym, ◌∙◌}
 use Rattle.std.specs.Option.{option_and_then, unwrap_or}
 use Rattle.std.specs.Ordering.{nat_cmp, eq_by_cmp}
 use Rattle.std.specs.Cmp.{nat_cmp_total}
 use Rattle.std.specs.FinMap as fin
 use Rattle.net_view.specs.Modes.{setting_of}
-use Rattle.net_view.specs.StateLines.{setting_by, mode_change}
+use Rattle.net_view.specs.StateLines.{setting_by}
 use Rattle.quick_view.proofs.LastLemmas.{mode_put}
 use Rattle.quick_view.proofs.Outcomes.{on_ok}
 use Rattle.quick_view.proofs.moding.change_mode.Goals as goal

@@ -1,4 +1,4 @@
-use Rattle.std.proofs.Common.{Some, None, option_map, ap, sym, ◌∙◌}
+use Rattle.std.proofs.Common.{option_map, ap, sym, ◌∙◌}
 use Rattle.std.specs.FinMap as fin
 use Rattle.irc_names.specs.CaseMapping.{key_of}
 use Rattle.irc_support.specs.ChangeShown.{shown_change}

@@ -6,10 +6,10 @@ use Rattle.quick_view.proofs.person.retain_in.Goals as goal
 
 pub returns : goal.returns
 returns g c =
-    filter_same _ (λ entry. is_seen (rooms_of c.args.rooms.now.all) entry.key.items) _
+    filter_same _ (λ slot. is_seen (rooms_of c.args.rooms.now.all) slot.entry.value.key.items) _
     (λ x b f' k. (
-      k.called.met.1 ∙ ap (λ entry. is_seen (rooms_of c.args.rooms.now.all)
-          entry.key.items) k.shows,
+      k.called.met.1 ∙ ap (λ slot. is_seen (rooms_of c.args.rooms.now.all)
+          slot.entry.value.key.items) k.shows,
       λ j. record { 0 = k.called.met.0 j },
     )) _ _
     c.retain.ensures.filtered

@@ -1,4 +1,5 @@
-use Rattle.std.proofs.Common.{sym, ◌∙◌}
+use Rattle.std.proofs.Common.{sym, ap, ◌∙◌}
+use Rattle.std.specs.FinMap as fin
 use Rattle.quick_view.specs.Sought.{sought_key}
 use Rattle.quick_view.specs.Rooms.{room_entry, is_in}
 use Rattle.quick_view.proofs.EachLemmas.{any_at}
@@ -9,4 +10,5 @@ returns-then-contains g c =
     any_at (is_in (sought_key c.args.who)) room_entry c.args.rooms.now c.loop-room.room-index
     c.room-item.result
     c.loop-room-test.true c.room-item.is
-    (sym c.contains.ensures ∙ c.if-contains.true)
+    (sym (ap (λ e. fin.contains_key e.value.members.all (sought_key c.args.who)) c.deref.ensures)
+    ∙ sym c.contains.ensures ∙ c.if-contains.true)

@@ -1,4 +1,4 @@
-use Rattle.std.proofs.Common.{◌≡◌, map, take, drop, false}
+use Rattle.std.proofs.Common.{◌≡◌, map, take, false}
 use Rattle.std.specs.List.{list_any}
 use Rattle.quick_view.specs.Sought.{sought_key}
 use Rattle.quick_view.specs.Rooms.{room_entry, is_in}

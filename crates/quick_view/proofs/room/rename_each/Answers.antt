@@ -1,24 +1,4 @@
-use Rattle.std.proofs.Common.{
-  ◌≡◌,
-  ◌<◌,
-  ◌+◌,
-  ◌++◌,
-  ◌∷◌,
-  [],
-  List,
-  Some,
-  map,
-  refl,
-  ap,
-  get_or,
-  length,
-  length-append,
-  sym,
-  subst,
-  arith,
-  ◌∙◌,
-}
-use Rattle.std.specs.List.{All}
+use Rattle.std.proofs.Common.{◌≡◌, ◌<◌, ◌+◌, ◌∷◌, [], Some, map, ap, get_or, length, length-append, sym, subst, arith, ◌∙◌}
 use Rattle.std.proofs.lemmas.List.Elements.{All-pop}
 use Rattle.net_view.specs.Changes.{renamed_channel, renamed_in}
 use Rattle.quick_view.specs.Sought.{sought_key}
@@ -44,13 +24,15 @@ loop-room-preserved g c =
           (subst (λ n. i < n) (sym c.loop-room.auto.rooms) c.loop-room-test.true)
           c.loop-room.invariant.changed
           (ap (λ z. get_or s i z) c.room-item.is)
-          (λ j. (
-            x.key.items,
-            record (channel_of x.value) {
+          ((λ j. (
+            c.deref_mut.result.now.key.items,
+            record (channel_of c.deref_mut.result.now.value) {
               members = (c.rename_member.ensures ∙ ap (λ n. renamed_in (λ ranks. ranks) k n
-                  x.value.members.all) (popped.1)) j;
+                  c.deref_mut.result.now.value.members.all) (popped.1)) j;
             },
-          ));
+          ))
+          ∙ ap (λ e. (e.key.items, renamed_channel k c.args.new.now (channel_of e.value)))
+          c.deref_mut.ensures.value);
       enough = omega (arith, less, enough);
       copies = popped.0;
     }

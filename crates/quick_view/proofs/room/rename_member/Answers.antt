@@ -1,4 +1,4 @@
-use Rattle.std.proofs.Common.{sym, ap, ◌∙◌}
+use Rattle.std.proofs.Common.{ap, ◌∙◌}
 use Rattle.std.specs.FinMap as fin
 use Rattle.quick_view.specs.Sought.{sought_key}
 use Rattle.quick_view.proofs.SwapLemmas.{renamed_none}
@@ -8,5 +8,5 @@ pub returns-in-None : goal.returns-in-None
 returns-in-None g c =
     renamed_none (λ ranks. ranks) c.args.members.now.all c.remove.new.self.all
     c.forget.new.self.all (sought_key c.args.old) c.args.new.items
-    (sym c.in-None.is ∙ c.remove.ensures.value) c.remove.ensures.all
+    c.in-None.ensures.value c.remove.ensures.all
     (c.forget.ensures ∙ ap (fin.remove c.remove.new.self.all) c.deref.ensures.value)

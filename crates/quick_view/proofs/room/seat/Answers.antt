@@ -1,6 +1,5 @@
-use Rattle.std.proofs.Common.{◌≡◌, sym, refl, ap, ◌∙◌}
-use Rattle.std.specs.Option.{option_map}
-use Rattle.net_view.specs.Changes.{with_topic, with_ranks, without_member}
+use Rattle.std.proofs.Common.{sym}
+use Rattle.net_view.specs.Changes.{with_ranks}
 use Rattle.quick_view.specs.Rooms.{channel_of}
 use Rattle.quick_view.specs.Sought.{sought_key}
 use Rattle.quick_view.proofs.SwapLemmas.{changed_back, unchanged_at, put_back}
@@ -16,7 +15,7 @@ returns-then-swap-clause-added g c =
       members =
           c.add_member-added.new.members;
     })
-    (with_ranks c.args.key.items c.args.ranks)
+    (with_ranks c.args.member.value.key.items c.args.member.value.value)
     (sym c.if-swap.ensures.found) c.if-swap.ensures.all c.if-swap.ensures.value
     c.swap-then-swap.ensures.all
     (λ i. record (channel_of c.swap.new.value) { members = e i }))
@@ -37,5 +36,5 @@ returns-then-swap-clause-kept g c =
 pub returns-else-swap-clause-added : goal.returns-else-swap-clause-added
 returns-else-swap-clause-added g c =
     unchanged_at channel_of c.args.rooms.now.all c.swap.new.self.all (sought_key c.args.channel)
-    c.no_room-room.result (with_ranks c.args.key.items c.args.ranks)
+    c.no_room-room.result (with_ranks c.args.member.value.key.items c.args.member.value.value)
     (sym c.if-swap.ensures.found) c.if-swap.ensures.all

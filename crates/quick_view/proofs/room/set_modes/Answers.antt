@@ -1,6 +1,4 @@
-use Rattle.std.proofs.Common.{◌≡◌, sym, refl, ap, ◌∙◌}
-use Rattle.std.specs.Option.{option_map}
-use Rattle.net_view.specs.Changes.{with_topic, with_ranks, without_member}
+use Rattle.std.proofs.Common.{sym, refl}
 use Rattle.quick_view.specs.Rooms.{channel_of, with_modes}
 use Rattle.quick_view.specs.Sought.{sought_key}
 use Rattle.quick_view.proofs.SwapLemmas.{changed_back, unchanged_at}

@@ -1,9 +1,10 @@
-use Rattle.std.proofs.Common.{◌≡◌, sym, refl, ap, ◌∙◌}
-use Rattle.std.specs.Option.{option_map, is_some}
+use Rattle.std.proofs.Common.{sym, ap, ◌∙◌}
+use Rattle.std.specs.Option.{is_some}
 use Rattle.net_view.specs.Step.{old_member}
-use Rattle.net_view.specs.Changes.{with_topic, with_ranks, without_member}
+use Rattle.net_view.specs.Changes.{without_member}
 use Rattle.quick_view.specs.Rooms.{channel_of}
 use Rattle.quick_view.specs.Sought.{sought_key}
+use Rattle.quick_view.proofs.ShownLemmas.{shown_some}
 use Rattle.quick_view.proofs.SwapLemmas.{changed_back, unchanged_at, out_is, none_is}
 use Rattle.quick_view.proofs.room.unseat.Goals as goal
 
@@ -23,7 +24,8 @@ returns-then-swap-clause-left g c =
 pub returns-then-swap-clause-was : goal.returns-then-swap-clause-was
 returns-then-swap-clause-was g c =
     let n = sought_key c.args.who in
-    c.is_some.ensures ∙ ap is_some c.remove-was.ensures.value
+    c.is_some.ensures ∙ sym (shown_some (λ e. e.value.value) c.remove-was.result)
+    ∙ ap is_some c.remove-was.ensures.value
     ∙ ap (λ o. is_some (old_member o n)) (out_is channel_of c.args.rooms.now.all (sought_key
     c.args.channel) c.no_room-room.result c.swap.new.value
     (sym c.if-swap.ensures.found) c.if-swap.ensures.value)

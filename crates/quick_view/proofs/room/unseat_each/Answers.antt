@@ -1,4 +1,4 @@
-use Rattle.std.proofs.Common.{map, refl, ap, get_or, length, sym, subst, ◌<◌}
+use Rattle.std.proofs.Common.{◌∙◌, map, ap, get_or, sym, subst, ◌<◌}
 use Rattle.net_view.specs.Changes.{without_member}
 use Rattle.quick_view.specs.Sought.{sought_key}
 use Rattle.quick_view.specs.Rooms.{room_entry, channel_of}
@@ -15,4 +15,9 @@ loop-room-preserved g c =
     (subst (λ n. i < n) (sym c.loop-room.auto.rooms) c.loop-room-test.true)
     c.loop-room.invariant
     (ap (λ z. get_or s i z) c.room-item.is)
-    (λ j. (x.key.items, record (channel_of x.value) { members = c.remove.ensures.all j }))
+    ((λ j. (
+      c.deref_mut.result.now.key.items,
+      record (channel_of c.deref_mut.result.now.value) { members = c.remove.ensures.all j },
+    ))
+    ∙ ap (λ e. (e.key.items, without_member (sought_key c.args.who) (channel_of e.value)))
+    c.deref_mut.ensures.value)

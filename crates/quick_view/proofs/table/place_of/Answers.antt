@@ -4,11 +4,8 @@ use Rattle.quick_view.specs.Sought.{sought_key}
 use Rattle.quick_view.proofs.table.place_of.Goals as goal
 
 pub returns-clause-place : goal.returns-clause-place
-returns-clause-place g c = c.binary_search_by.ensures.position (λ entry. bytes_cmp entry.key.items
+returns-clause-place g c = c.binary_search_by.ensures.position (λ slot. bytes_cmp slot.entry.value.key.items
     (sought_key c.args.sought)) (always_returns_same _ _ _ (λ a r f' k. (
-      k.met.1,
-      λ j. record {
-        0 =
-            k.met.0 j;
-      },
+      k.met.1 c.head-head.ensures.head c.head-head.ensures.bytes,
+      λ j. (k.met.0.0 j, k.met.0.1 j),
     )))

@@ -102,6 +102,7 @@ takes g c = record {
       c.prepare_item.ensures.states;
   upstream = answered g c;
   history = c.keep.ensures ∙ ap (with_entry c.self.inside.history) c.in-Ok.ensures.made.0;
+  number = λ some. c.in-Ok.ensures.numbered (subst IsSome (sym c.in-Ok.ensures.made.0) some);
   images = c.saturating_add-self-inside.ensures ∙ ap (λ n. counted (c.self.inside.images + n))
       (c.images_of.ensures ∙ ap (images_for (item g c).0)
       (sym (map_length (λ m. m.caps) c.prepare_item.new.made.items)

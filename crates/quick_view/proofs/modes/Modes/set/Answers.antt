@@ -1,39 +1,10 @@
-use Rattle.std.proofs.Common.{
-  ◌≡◌,
-  ◌<◌,
-  ◌≤◌,
-  [],
-  map,
-  take,
-  length,
-  is_some,
-  sym,
-  ap,
-  ◌∙◌,
-  refl,
-  subst,
-  Some,
-  None,
-  T,
-  option_map,
-}
+use Rattle.std.proofs.Common.{map, sym, ap, ◌∙◌, refl, subst, T, option_map}
 use Rattle.std.specs.FinMap as fin
 use Rattle.std.specs.List.{insert}
 use Rattle.std.specs.Cmp.{nat_cmp_total}
 use Rattle.std.specs.Ordering.{nat_cmp}
 use Rattle.quick_view.specs.Modes.{mode_of, modes_of}
-use Rattle.quick_view.proofs.TableLemmas.{
-  got,
-  got_none,
-  removed_none_of,
-  put_there,
-  sorted_put,
-  sorted_inserted,
-  inserted_there,
-  sorted_removed,
-  removed_there,
-  no_modes,
-}
+use Rattle.quick_view.proofs.TableLemmas.{put_there, sorted_put, sorted_inserted, inserted_there}
 use Rattle.quick_view.proofs.modes.Modes.set.Goals as goal
 
 pub invariant_of-self : goal.invariant_of-self

@@ -1,52 +1,8 @@
-use Rattle.std.proofs.Common.{
-  ◌≡◌,
-  ◌∷◌,
-  ◌++◌,
-  [],
-  is_some,
-  true,
-  false,
-  Some,
-  None,
-  Option,
-  List,
-  sym,
-  ap,
-  ◌∙◌,
-  refl,
-  subst,
-  option_map,
-  option_and_then,
-  length,
-}
-use Rattle.std.specs.FinMap as fin
-use Rattle.net_view.specs.Arrival.{Received, Lost, arrival_of}
-use Rattle.net_view.specs.StateLines.{is_state_line, may_need_memory}
-use Rattle.net_view.specs.View.{Channel, view_of}
-use Rattle.net_view.specs.Readers.{
-  channels_shown,
-  channel_shown,
-  members_shown,
-  mode_shown,
-  member_shown,
-  MemberParts,
-  account_shown,
-}
-use Rattle.net_view.proofs.StepLaw.{view_unchanged}
-use Rattle.net_view.proofs.Tests.{false_true}
-use Rattle.net_view.proofs.Commands.{is_read}
-use Rattle.quick_view.specs.Kept.{view_kept}
-use Rattle.quick_view.specs.Rooms.{channel_of}
+use Rattle.std.proofs.Common.{Some, sym, ap, ◌∙◌, option_map}
+use Rattle.net_view.specs.View.{Channel}
+use Rattle.net_view.specs.Readers.{channel_shown}
 use Rattle.quick_view.specs.Table.{entry_now}
-use Rattle.quick_view.proofs.Outcomes.{on_ok}
-use Rattle.quick_view.proofs.ReadLemmas.{count_is, room_shown, account_is}
-use Rattle.quick_view.proofs.TakeLemmas.{
-  after_line,
-  line_taken,
-  loss_taken,
-  still_from_lines,
-  no_lines,
-}
+use Rattle.quick_view.proofs.ReadLemmas.{room_shown}
 use Rattle.quick_view.proofs.quick_view.QuickViewNetworkView.channel_at.Goals as goal
 
 pub returns-in-Some : goal.returns-in-Some

@@ -1,34 +1,17 @@
-use Rattle.std.proofs.Common.{
-  ◌≡◌,
-  is_some,
-  option_map,
-  true,
-  false,
-  cond,
-  Some,
-  None,
-  Option,
-  sym,
-  ap,
-  ◌∙◌,
-  refl,
-  [],
-}
+use Rattle.std.proofs.Common.{◌≡◌, option_map, Some, None, sym, ap, ◌∙◌}
 use Rattle.std.specs.FinMap as fin
 use Rattle.std.specs.Cmp.Lexicographic.{nat_list_cmp_total}
 use Rattle.irc_names.specs.CaseMapping.{key_of}
 use Rattle.net_view.specs.Names.{bytes_cmp}
 use Rattle.net_view.specs.Step.{is_seen}
-use Rattle.net_view.specs.View.{Channel}
 use Rattle.net_view.specs.Changes.{told_person, fresh_channel}
 use Rattle.net_view.proofs.Keys.{bytes_exact}
-use Rattle.net_view.proofs.AfterAlike.{removed_none, IsKnowing}
 use Rattle.quick_view.specs.Kept.{view_kept}
 use Rattle.quick_view.specs.Rooms.{channel_of, rooms_of}
-use Rattle.quick_view.specs.People.{known_of, people_of}
-use Rattle.quick_view.specs.Views.{quitted_view, left_view, entered_view}
-use Rattle.quick_view.proofs.ShownLemmas.{contains-shown, get-shown, insert-shown, remove-shown}
-use Rattle.quick_view.proofs.SwapLemmas.{none_is, none_of}
+use Rattle.quick_view.specs.People.{people_of}
+use Rattle.quick_view.specs.Views.{entered_view}
+use Rattle.quick_view.proofs.ShownLemmas.{insert-shown}
+use Rattle.quick_view.proofs.SwapLemmas.{none_is}
 use Rattle.quick_view.proofs.ViewLemmas.{all_still_seen, entered_seen}
 use Rattle.quick_view.proofs.state.State.enter.Goals as goal
 
@@ -45,14 +28,14 @@ returns-then-again-clause-taken g c known =
     c.args.channel.now n) =
     ap rooms_of c.insert.ensures.all
     ∙ insert-shown bytes_cmp channel_of nat_list_cmp_total bytes_exact c.reserve.new.self.all
-    c.in_ok-place.place.items c.in_ok-room.room
-    ∙ (λ i. fin.insert (rooms_of (c.in_ok-reserve.ensures.all i)) (c.in_ok-place.ensures i)
-    (c.in_ok-room.ensures i)) in
+    c.in_ok-room.room.value.key.items c.in_ok-room.room.value.value
+    ∙ (λ i. fin.insert (rooms_of (c.in_ok-reserve.ensures.all i)) (c.in_ok-room.ensures.key i)
+    (c.in_ok-room.ensures.room i)) in
     let ps : people_of c.name_person.new.people.all ≡ fin.insert v.people n joiner =
     c.name_person.ensures.named
-    ∙ (λ i. fin.insert (people_of (c.in_ok-reserve-2.ensures.all i)) (c.in_ok-key.ensures i)
-    (told_person (Some (Some (c.in_ok-nick.ensures.items i))) (c.in_ok-account.ensures i) None
-    (fin.get (people_of (c.in_ok-reserve-2.ensures.all i)) (c.in_ok-key.ensures i)))) in
+    ∙ (λ i. fin.insert (people_of (c.in_ok-reserve-2.ensures.all i)) (c.in_ok-person.ensures.key i)
+    (told_person (Some (Some (c.in_ok-person.ensures.nick i))) (c.in_ok-account.ensures i) None
+    (fin.get (people_of (c.in_ok-reserve-2.ensures.all i)) (c.in_ok-person.ensures.key i)))) in
     (λ i. record v {
       channels = cs i;
       people = (c.retain_seen.ensures ∙ (λ j. fin.retain_keys (ps j) (is_seen (cs j)))) i;
@@ -73,18 +56,17 @@ returns-else-again-clause-taken g c known =
     c.args.channel.now n) =
     ap rooms_of c.insert.ensures.all
     ∙ insert-shown bytes_cmp channel_of nat_list_cmp_total bytes_exact c.reserve.new.self.all
-    c.in_ok-place.place.items c.in_ok-room.room
-    ∙ (λ i. fin.insert (rooms_of (c.in_ok-reserve.ensures.all i)) (c.in_ok-place.ensures i)
-    (c.in_ok-room.ensures i)) in
+    c.in_ok-room.room.value.key.items c.in_ok-room.room.value.value
+    ∙ (λ i. fin.insert (rooms_of (c.in_ok-reserve.ensures.all i)) (c.in_ok-room.ensures.key i)
+    (c.in_ok-room.ensures.room i)) in
     let ps : people_of c.name_person.new.people.all ≡ fin.insert v.people n joiner =
     c.name_person.ensures.named
-    ∙ (λ i. fin.insert (people_of (c.in_ok-reserve-2.ensures.all i)) (c.in_ok-key.ensures i)
-    (told_person (Some (Some (c.in_ok-nick.ensures.items i))) (c.in_ok-account.ensures i) None
-    (fin.get (people_of (c.in_ok-reserve-2.ensures.all i)) (c.in_ok-key.ensures i)))) in
+    ∙ (λ i. fin.insert (people_of (c.in_ok-reserve-2.ensures.all i)) (c.in_ok-person.ensures.key i)
+    (told_person (Some (Some (c.in_ok-person.ensures.nick i))) (c.in_ok-account.ensures i) None
+    (fin.get (people_of (c.in_ok-reserve-2.ensures.all i)) (c.in_ok-person.ensures.key i)))) in
     let none : fin.get v.channels k ≡ None =
     sym (none_is channel_of c.args.self.now.rooms.all k
-    (sym (λ i. fin.contains_key (c.in_ok-reserve.ensures.all i) ((c.deref.ensures.value ∙
-    c.in_ok-place.ensures) i)) ∙ sym c.if-again.ensures)) in
+    (sym (λ i. fin.contains_key (c.in_ok-reserve.ensures.all i) k) ∙ sym c.if-again.ensures)) in
     (λ i. record v {
       channels = cs i;
       people = all_still_seen v.channels (fin.insert v.people n joiner) (people_of

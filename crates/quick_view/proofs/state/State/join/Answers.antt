@@ -1,30 +1,13 @@
-use Rattle.std.proofs.Common.{
-  ◌≡◌,
-  is_some,
-  option_map,
-  true,
-  false,
-  cond,
-  Some,
-  None,
-  sym,
-  ap,
-  ◌∙◌,
-  refl,
-  [],
-}
+use Rattle.std.proofs.Common.{option_map, Some, None, sym, ap, ◌∙◌}
 use Rattle.std.specs.FinMap as fin
-use Rattle.std.specs.Cmp.Lexicographic.{nat_list_cmp_total}
 use Rattle.irc_names.specs.CaseMapping.{key_of}
 use Rattle.net_view.specs.Names.{bytes_cmp}
-use Rattle.net_view.specs.Step.{is_seen}
-use Rattle.net_view.specs.Changes.{joined_view, parted_view, told_person, with_ranks}
-use Rattle.net_view.proofs.Keys.{bytes_exact}
+use Rattle.net_view.specs.Changes.{joined_view, told_person, with_ranks}
 use Rattle.quick_view.specs.Kept.{view_kept}
 use Rattle.quick_view.specs.Rooms.{channel_of, rooms_of}
-use Rattle.quick_view.specs.People.{known_of, people_of, changed_at}
-use Rattle.quick_view.proofs.ShownLemmas.{empty-shown, contains-shown, remove-shown}
-use Rattle.quick_view.proofs.ViewLemmas.{joined_is, joined_none, parted_is, parted_nobody}
+use Rattle.quick_view.specs.People.{people_of, changed_at}
+use Rattle.quick_view.proofs.ShownLemmas.{contains-shown}
+use Rattle.quick_view.proofs.ViewLemmas.{joined_is, joined_none}
 use Rattle.quick_view.proofs.state.State.join.Goals as goal
 
 pub returns-then-not-contains-clause-taken : goal.returns-then-not-contains-clause-taken
@@ -52,10 +35,11 @@ returns-clause-taken g c =
     ∙ sym c.contains.ensures ∙ c.if-not-contains.false)
     (c.in_ok-seat.ensures.added
     ∙ (λ i. changed_at (rooms_of c.args.self.now.rooms.all) chan (with_ranks
-    (c.in_ok-member.ensures i) (c.none.ensures i))))
+    (c.in_ok-member.ensures.key i)
+    ((c.in_ok-member.ensures.ranks ∙ c.none.ensures) i))))
     (c.name_person.ensures.named
-    ∙ (λ i. fin.insert (people_of (c.in_ok-reserve.ensures.all i)) (c.in_ok-key.ensures i)
-    (told_person (Some (Some (c.in_ok-nick.ensures.items i))) (c.in_ok-account.ensures i) None
-    (fin.get (people_of (c.in_ok-reserve.ensures.all i)) (c.in_ok-key.ensures i)))))
+    ∙ (λ i. fin.insert (people_of (c.in_ok-reserve.ensures.all i)) (c.in_ok-person.ensures.key i)
+    (told_person (Some (Some (c.in_ok-person.ensures.nick i))) (c.in_ok-account.ensures i) None
+    (fin.get (people_of (c.in_ok-reserve.ensures.all i)) (c.in_ok-person.ensures.key i)))))
     ∙ ap (λ m. joined_view v (key_of m c.args.channel.now) (key_of m who) who told)
     c.mapping-mapping.ensures

@@ -1,35 +1,17 @@
-use Rattle.std.proofs.Common.{
-  ◌≡◌,
-  is_some,
-  option_map,
-  true,
-  false,
-  cond,
-  Some,
-  None,
-  Option,
-  sym,
-  ap,
-  ◌∙◌,
-  refl,
-  [],
-}
+use Rattle.std.proofs.Common.{◌≡◌, is_some, None, sym, ap, ◌∙◌, refl}
 use Rattle.std.specs.FinMap as fin
 use Rattle.std.specs.Cmp.Lexicographic.{nat_list_cmp_total}
 use Rattle.irc_names.specs.CaseMapping.{key_of}
 use Rattle.net_view.specs.Names.{bytes_cmp}
 use Rattle.net_view.specs.Step.{is_seen}
-use Rattle.net_view.specs.View.{Channel}
-use Rattle.net_view.specs.Changes.{told_person, fresh_channel}
 use Rattle.net_view.proofs.Keys.{bytes_exact}
-use Rattle.net_view.proofs.AfterAlike.{removed_none, IsKnowing}
+use Rattle.net_view.proofs.AfterAlike.{removed_none}
 use Rattle.quick_view.specs.Kept.{view_kept}
 use Rattle.quick_view.specs.Rooms.{channel_of, rooms_of}
-use Rattle.quick_view.specs.People.{known_of, people_of}
-use Rattle.quick_view.specs.Views.{quitted_view, left_view, entered_view}
-use Rattle.quick_view.proofs.ShownLemmas.{contains-shown, get-shown, insert-shown, remove-shown}
-use Rattle.quick_view.proofs.SwapLemmas.{none_is, none_of}
-use Rattle.quick_view.proofs.ViewLemmas.{all_still_seen, entered_seen}
+use Rattle.quick_view.specs.Views.{left_view}
+use Rattle.quick_view.proofs.ShownLemmas.{shown_some, remove-shown}
+use Rattle.quick_view.proofs.SwapLemmas.{none_is}
+use Rattle.quick_view.proofs.ViewLemmas.{all_still_seen}
 use Rattle.quick_view.proofs.state.State.leave.Goals as goal
 
 pub returns-then-is_some : goal.returns-then-is_some
@@ -54,7 +36,7 @@ returns-else-is_some g c known =
     bytes_exact c.args.self.now.rooms.all k in
     let none : fin.get v.channels k ≡ None =
     sym (none_is channel_of c.args.self.now.rooms.all k (ap is_some (sym c.remove.ensures.value) ∙
-    sym c.is_some.ensures ∙ c.if-is_some.false)) in
+    shown_some (λ e. e.value.value) c.remove.result ∙ sym c.is_some.ensures ∙ c.if-is_some.false)) in
     (λ i. record v {
       channels = cs i;
       people = all_still_seen v.channels v.people v.people (is_seen (fin.remove v.channels k)) refl

@@ -1,35 +1,12 @@
-use Rattle.std.proofs.Common.{
-  ◌≡◌,
-  is_some,
-  option_map,
-  true,
-  false,
-  cond,
-  Some,
-  None,
-  Option,
-  sym,
-  ap,
-  ◌∙◌,
-  refl,
-  [],
-}
-use Rattle.std.specs.FinMap as fin
+use Rattle.std.proofs.Common.{ap, ◌∙◌}
 use Rattle.std.specs.Cmp.Lexicographic.{nat_list_cmp_total}
 use Rattle.irc_names.specs.CaseMapping.{key_of}
 use Rattle.net_view.specs.Names.{bytes_cmp}
-use Rattle.net_view.specs.Step.{is_seen}
-use Rattle.net_view.specs.View.{Channel}
-use Rattle.net_view.specs.Changes.{told_person, fresh_channel}
 use Rattle.net_view.proofs.Keys.{bytes_exact}
-use Rattle.net_view.proofs.AfterAlike.{removed_none, IsKnowing}
 use Rattle.quick_view.specs.Kept.{view_kept}
-use Rattle.quick_view.specs.Rooms.{channel_of, rooms_of}
 use Rattle.quick_view.specs.People.{known_of, people_of}
-use Rattle.quick_view.specs.Views.{quitted_view, left_view, entered_view}
-use Rattle.quick_view.proofs.ShownLemmas.{contains-shown, get-shown, insert-shown, remove-shown}
-use Rattle.quick_view.proofs.SwapLemmas.{none_is, none_of}
-use Rattle.quick_view.proofs.ViewLemmas.{all_still_seen, entered_seen}
+use Rattle.quick_view.specs.Views.{quitted_view}
+use Rattle.quick_view.proofs.ShownLemmas.{remove-shown}
 use Rattle.quick_view.proofs.state.State.quit.Goals as goal
 
 pub returns : goal.returns

@@ -1,41 +1,10 @@
-use Rattle.std.proofs.Common.{
-  ◌≡◌,
-  is_some,
-  true,
-  false,
-  cond,
-  Some,
-  None,
-  Option,
-  sym,
-  ap,
-  ◌∙◌,
-  refl,
-  option_map,
-}
-use Rattle.std.specs.Option.{unwrap_or, option_map_or}
-use Rattle.std.specs.Ordering.{nat_cmp}
+use Rattle.std.proofs.Common.{sym, ap, ◌∙◌}
 use Rattle.std.specs.FinMap as fin
 use Rattle.irc_names.specs.CaseMapping.{key_of}
-use Rattle.net_view.specs.Step.{after_told}
-use Rattle.net_view.specs.LookBack.{last_in}
-use Rattle.net_view.specs.Modes.{setting_of}
-use Rattle.net_view.specs.Told as told
-use Rattle.net_view.specs.View.{Channel}
-use Rattle.net_view.proofs.AfterModes.{after_mode, after_mode_elsewhere}
 use Rattle.quick_view.specs.Kept.{view_kept}
-use Rattle.quick_view.specs.Rooms.{channel_of, rooms_of, with_modes}
-use Rattle.quick_view.specs.People.{people_of, changed_at}
-use Rattle.quick_view.specs.Moding.{letters_in, modes_in}
-use Rattle.quick_view.specs.Listing.{
-  listing_of,
-  listings_in,
-  listed_view,
-  members_listed,
-  people_listed,
-}
-use Rattle.quick_view.proofs.Outcomes.{on_ok, on_err}
-use Rattle.quick_view.proofs.ShownLemmas.{contains-shown}
+use Rattle.quick_view.specs.Rooms.{channel_of, rooms_of}
+use Rattle.quick_view.specs.People.{people_of}
+use Rattle.quick_view.specs.Listing.{listings_in, listed_view, members_listed, people_listed}
 use Rattle.quick_view.proofs.SwapLemmas.{put_new, put_back, out_is, none_is}
 use Rattle.quick_view.proofs.ViewLemmas.{listed_is, listed_none}
 use Rattle.quick_view.proofs.state.State.take_names.Goals as goal

@@ -9,9 +9,12 @@ use Rattle.quick_view.proofs.table.Table.at.Goals as goal
 
 pub returns-in-Some : goal.returns-in-Some
 returns-in-Some g c =
-    ap (λ k. Some (k, c.in-Some.entry.now.value)) c.as_slice.ensures.value
+    (λ i. Some (
+      (c.as_slice.ensures.value ∙ ap (λ e. e.key.items) c.deref.ensures) i,
+      (c.deref-in-Some.ensures i).value,
+    ))
     ∙ entry_there bytes_cmp entry_of c.self.inside.entries.items c.self.invariant c.args.place
-    (Some c.in-Some.entry.now)
+    (Some c.in-Some.slot.now)
     (ap (option_map (λ e. e.now)) (sym c.in-Some.is) ∙ c.item_at.ensures)
     ∙ ap (λ t. slice_get (fin.entries t.all) c.args.place) c.self.view_is
 

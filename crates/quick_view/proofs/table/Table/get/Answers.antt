@@ -1,8 +1,7 @@
-use Rattle.std.proofs.Common.{◌≡◌, [], map, length, sym, ap, ◌∙◌, refl, arith}
+use Rattle.std.proofs.Common.{Some, ap, ◌∙◌}
 use Rattle.std.specs.FinMap as fin
 use Rattle.std.specs.Cmp.Lexicographic.{nat_list_cmp_total}
 use Rattle.net_view.proofs.Keys.{bytes_exact}
-use Rattle.net_view.specs.Names.{bytes_cmp}
 use Rattle.quick_view.specs.Table.{entry_of}
 use Rattle.quick_view.specs.Sought.{sought_key}
 use Rattle.quick_view.proofs.TableLemmas.{got, got_none}
@@ -10,7 +9,8 @@ use Rattle.quick_view.proofs.table.Table.get.Goals as goal
 
 pub returns-in-Ok : goal.returns-in-Ok
 returns-in-Ok g c =
-    got nat_list_cmp_total bytes_exact entry_of c.self.inside.entries.items c.self.invariant
+    ap (λ e. Some e.value) c.deref-in-Ok.ensures
+    ∙ got nat_list_cmp_total bytes_exact entry_of c.self.inside.entries.items c.self.invariant
     (sought_key c.args.sought) c.in-Ok.place
     (rw c.deref.ensures.value at c.in-Ok.ensures.bound)
     (rw c.deref.ensures.value at c.in-Ok.ensures.place) c.index.result.now c.index.ensures

@@ -1,8 +1,7 @@
-use Rattle.std.proofs.Common.{◌≡◌, [], map, length, sym, ap, ◌∙◌, refl, arith}
+use Rattle.std.proofs.Common.{length, sym, ap, ◌∙◌}
 use Rattle.std.specs.FinMap as fin
 use Rattle.net_view.specs.Names.{bytes_cmp}
 use Rattle.quick_view.specs.Table.{entry_of}
-use Rattle.quick_view.specs.Sought.{sought_key}
 use Rattle.std.proofs.lemmas.List.{length-map}
 use Rattle.quick_view.proofs.table.Table.len.Goals as goal
 

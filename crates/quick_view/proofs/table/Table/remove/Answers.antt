@@ -1,27 +1,7 @@
-use Rattle.std.proofs.Common.{
-  ◌≡◌,
-  ◌<◌,
-  ◌≤◌,
-  [],
-  map,
-  length,
-  is_some,
-  sym,
-  ap,
-  ◌∙◌,
-  refl,
-  subst,
-  Some,
-  None,
-  Equal,
-  get_or,
-  Err,
-  T,
-}
+use Rattle.std.proofs.Common.{map, sym, ap, ◌∙◌, subst, T}
 use Rattle.std.specs.FinMap as fin
 use Rattle.std.specs.Cmp.Lexicographic.{nat_list_cmp_total}
 use Rattle.net_view.proofs.Keys.{bytes_exact}
-use Rattle.std.specs.List.Sorted.{IsBinarySearchResult}
 use Rattle.net_view.specs.Names.{bytes_cmp}
 use Rattle.net_view.proofs.AfterAlike.{removed_none}
 use Rattle.quick_view.specs.Table.{entry_of}

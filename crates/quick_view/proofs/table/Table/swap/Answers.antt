@@ -1,29 +1,8 @@
-use Rattle.std.proofs.Common.{
-  ◌≡◌,
-  ◌<◌,
-  ◌≤◌,
-  [],
-  map,
-  length,
-  is_some,
-  sym,
-  ap,
-  ◌∙◌,
-  refl,
-  subst,
-  Some,
-  None,
-  Equal,
-  get_or,
-  Err,
-  T,
-}
+use Rattle.std.proofs.Common.{map, is_some, ap, ◌∙◌}
 use Rattle.std.specs.FinMap as fin
 use Rattle.std.specs.Cmp.Lexicographic.{nat_list_cmp_total}
 use Rattle.net_view.proofs.Keys.{bytes_exact}
-use Rattle.std.specs.List.Sorted.{IsBinarySearchResult}
 use Rattle.net_view.specs.Names.{bytes_cmp}
-use Rattle.net_view.proofs.AfterAlike.{removed_none}
 use Rattle.quick_view.specs.Table.{entry_of}
 use Rattle.quick_view.specs.Sought.{sought_key}
 use Rattle.quick_view.proofs.TableLemmas.{
@@ -43,11 +22,8 @@ invariant_of-self g c =
     sorted_there nat_list_cmp_total bytes_exact entry_of c.self.inside.entries.items
     c.self.invariant (sought_key c.args.sought) c.in-Ok.place
     (rw c.deref.ensures.value at c.in-Ok.ensures.bound)
-    (rw c.deref.ensures.value at c.in-Ok.ensures.place) c.index_mut.result.now (record {
-      key =
-          c.index_mut.result.now.key;
-      value = c.swap.new.x;
-    }) c.index_mut.ensures.value refl
+    (rw c.deref.ensures.value at c.in-Ok.ensures.place) c.index_mut.result.now _ c.index_mut.ensures.value
+    (ap (λ e. e.key.items) c.deref_mut.ensures.value)
 
 pub returns-in-Ok-clause-found : goal.returns-in-Ok-clause-found
 returns-in-Ok-clause-found g c =
@@ -63,15 +39,12 @@ returns-in-Ok-clause-all g c =
     written_there nat_list_cmp_total bytes_exact entry_of c.self.inside.entries.items
     c.self.invariant (sought_key c.args.sought) c.in-Ok.place
     (rw c.deref.ensures.value at c.in-Ok.ensures.bound)
-    (rw c.deref.ensures.value at c.in-Ok.ensures.place) c.index_mut.result.now (record {
-      key =
-          c.index_mut.result.now.key;
-      value = c.swap.new.x;
-    }) c.index_mut.ensures.value refl
+    (rw c.deref.ensures.value at c.in-Ok.ensures.place) c.index_mut.result.now _ c.index_mut.ensures.value
+    (ap (λ e. e.key.items) c.deref_mut.ensures.value)
     ∙ ap (λ v. fin.insert (fin.from_sorted {R = bytes_cmp} (map entry_of
     c.self.inside.entries.items)) (sought_key c.args.sought) v) c.swap.ensures.x_after
     ∙ ap (λ t. fin.insert t.all (sought_key c.args.sought) c.args.value.now) c.self.view_is
-    ∙ in_found c.args.self.now.all (sought_key c.args.sought) c.index_mut.result.now.value
+    ∙ in_found c.args.self.now.all (sought_key c.args.sought) c.index_mut.result.now.entry.value.value
     c.args.value.now
     (got nat_list_cmp_total bytes_exact entry_of c.self.inside.entries.items c.self.invariant
     (sought_key c.args.sought) c.in-Ok.place
@@ -83,7 +56,8 @@ returns-in-Ok-clause-all g c =
 pub returns-in-Ok-clause-value : goal.returns-in-Ok-clause-value
 returns-in-Ok-clause-value g c =
     c.swap.ensures.y_after
-    ∙ out_found c.args.self.now.all (sought_key c.args.sought) c.index_mut.result.now.value
+    ∙ ap (λ e. e.value) c.deref_mut.ensures.value
+    ∙ out_found c.args.self.now.all (sought_key c.args.sought) c.index_mut.result.now.entry.value.value
     c.args.value.now
     (got nat_list_cmp_total bytes_exact entry_of c.self.inside.entries.items c.self.invariant
     (sought_key c.args.sought) c.in-Ok.place

@@ -1,0 +1,8 @@
+use Rattle.std.proofs.Common.{◌≡◌, ◌++◌, map}
+use Rattle.net_view.specs.Arrival.{Received}
+use Rattle.hub_ends.specs.Came.{arrivals}
+use Rattle.hub_threads.specs.Rings.{put_of}
+use Rattle.hub_threads.proofs.reading.put_lines.Given as goal
+
+abbrev pub invariant-loop-line : goal.invariant-loop-line
+invariant-loop-line g l = arrivals (put_of l.end) ≡ arrivals (put_of l.initial.end) ++ map Received l.yielded

@@ -1,0 +1,4 @@
+pub mod Queues
+pub mod Reads
+pub mod Rings
+pub mod Writes

@@ -1,0 +1,49 @@
+-- What contracts see of the rings between threads.
+use Rattle.std.specs.Prelude.{ℕ, List, Option, Bool, map, cond, is_some}
+use Rattle.irc_line.specs.Line.{Parts}
+use Rattle.rtrb.specs.Ring.{sent, received, known_free, known_items, producer_capacity, IsPair}
+use Rattle.hub_ends.specs.Came.{Came, came}
+use Rattle.hub_threads.specs.declared.inlet_ring.InletEnd.{InletEnd}
+use Rattle.hub_threads.specs.declared.inlet_ring.RingInlet.{RingInlet}
+use Rattle.hub_threads.specs.declared.outlet_ring.RingOutlet.{RingOutlet}
+use Rattle.hub_threads.specs.Queues.{packets_in, is_closed}
+
+-- ---- items, from the thread that reads to the hub
+
+-- what was put
+abbrev pub put_of : InletEnd → List Came
+put_of end = map came (sent end.producer)
+
+-- how many slots are known to be free
+abbrev pub slots_of : InletEnd → ℕ
+slots_of end = known_free end.producer
+
+abbrev pub taken_of : RingInlet → List Came
+taken_of inlet = map came (received inlet.consumer)
+
+-- what is known to come next
+abbrev pub ahead_of : RingInlet → List Came
+ahead_of inlet = map came (known_items inlet.consumer)
+
+-- both ends are of one ring
+abbrev pub AreEnds : InletEnd → RingInlet → Type 0
+AreEnds end inlet = IsPair end.producer inlet.consumer
+
+-- ---- packets, from the hub to the thread that writes
+
+abbrev pub sent_of : RingOutlet → List (List Parts)
+sent_of outlet = packets_in (sent outlet.producer)
+
+abbrev pub closed_of : RingOutlet → Option ℕ
+closed_of outlet = outlet.closed
+
+abbrev pub capacity_of : RingOutlet → ℕ
+capacity_of outlet = producer_capacity outlet.producer
+
+-- how many slots are known to be free: none once it is closed
+abbrev pub free_of : RingOutlet → ℕ
+free_of outlet = cond (is_some outlet.closed) 0 (known_free outlet.producer)
+
+-- whether the closing item found a slot
+abbrev pub told_of : RingOutlet → Bool
+told_of outlet = is_closed (sent outlet.producer)

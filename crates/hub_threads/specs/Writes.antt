@@ -1,0 +1,45 @@
+-- What a thread that writes packets did.
+use Rattle.std.specs.Prelude.{◌≡◌, ℕ, List, ◌++◌, Option, Some, Bool, Result, Ok, Err, length, take}
+use Rattle.std.specs.List.{flat_map}
+use Rattle.std.specs.Io.KnownBytes.{Appends}
+use Rattle.irc_line.specs.Line.{Parts}
+use Rattle.irc_line.specs.Lines.{counted}
+use Rattle.irc_line.specs.Writing.{written}
+use Rattle.hub_threads.specs.declared.queued.Queued.{Queued}
+use Rattle.hub_threads.specs.declared.writing.WriteFault.{WriteFault}
+use Rattle.hub_threads.specs.Queues.{packets_in, ended_by, is_nil}
+
+-- the written form of a packet: its lines, each with CR LF (RFC 2812, section 2.3)
+abbrev pub bytes_of : List Parts → List ℕ
+bytes_of packet = flat_map written packet
+
+-- the written form of packets, one behind the other
+abbrev pub all_bytes : List (List Parts) → List ℕ
+all_bytes packets = flat_map bytes_of packets
+
+-- what a writer got of packets: all of it, and the count of bytes; after a fault a beginning
+abbrev pub Wrote : Option (List ℕ) → Option (List ℕ) → List (List Parts) → Result ℕ WriteFault
+    → Type 0
+Wrote began out taken (Ok n) =
+    Appends began out (all_bytes taken) × (n ≡ counted (length (all_bytes taken)))
+Wrote began out taken (Err e) = (k : ℕ) × Appends began out (take k (all_bytes taken))
+
+-- What a call of `write_out` did: what its end had taken before and has taken now, what the writer
+-- had got before and has got now, and its answers.
+pub record IsWritten (was all : List Queued) (began out : Option (List ℕ)) (fresh : Bool)
+    (outcome : Result ℕ WriteFault) : Type 0 where
+  -- the packets that were taken in the call
+  pub taken : List (List Parts)
+  pub all_are : packets_in all ≡ packets_in was ++ taken
+  -- they are all that the end ever took
+  pub fresh_is : fresh ≡ is_nil (packets_in was)
+  pub wrote : Wrote began out taken outcome
+
+-- A session's end was seen whole: all that the end ever took is packets, and then the closing item
+-- of this session with their count; and the writer got the written form of all of them, so many
+-- bytes.
+pub record IsWhole (id : ℕ) (all : List Queued) (began out : Option (List ℕ)) (count : ℕ)
+    : Type 0 where
+  pub all_are : all ≡ ended_by (packets_in all) (Some id)
+  pub wrote : Appends began out (all_bytes (packets_in all))
+  pub counts : count ≡ counted (length (all_bytes (packets_in all)))

@@ -1,0 +1,68 @@
+//! What a worker sleeps on.
+
+use crate::OutOfMemory;
+use std::alloc::Global;
+use std::sync::atomic::{AtomicBool, Ordering};
+use std::sync::{Arc, Wait};
+use std::thread::Parker;
+use std::time::Duration;
+
+/// How many milliseconds a worker sleeps at most that has a finite count of turns.
+const SHORT_REST: u64 = 1;
+
+/// What one worker sleeps on, and others wake it by: a ring that comes before it sleeps keeps it
+/// awake. With a flag, which the pump of a network raises while it waits for room in an outlet, and
+/// which is raised for a writer to tell it to stop. One worker at a time sleeps on it.
+#[derive(Drop)]
+pub struct Bell {
+    parker: Parker,
+    raised: AtomicBool,
+}
+
+/// A bell, in as many hands as need be.
+pub type SharedBell = Arc<Bell, Global>;
+
+/// A bell that nobody has rung, with its flag down.
+pub fn shared_bell(alloc: Global) -> Result<SharedBell, OutOfMemory> {
+    Ok(Arc::new(
+        alloc,
+        Bell {
+            parker: Parker::new(),
+            raised: AtomicBool::new(false),
+        },
+    )?)
+}
+
+impl Bell {
+    /// Wakes the worker, or keeps it from sleeping the next time. It takes no lock and waits for
+    /// nobody.
+    pub fn ring(&self) {
+        self.parker.unpark();
+    }
+
+    /// Sleeps until it is rung: at most 1 ms for a worker whose turns are counted, without a limit
+    /// where `turns` is 18446744073709551615.
+    pub fn sleep<R: Wait>(&self, rt: &R, turns: u64) {
+        if turns == u64::MAX {
+            self.parker.park(rt);
+        } else {
+            self.parker
+                .park_timeout(rt, Duration::from_millis(SHORT_REST));
+        }
+    }
+
+    /// Raises the flag. It wakes nobody.
+    pub fn raise(&self) {
+        self.raised.store(true, Ordering::SeqCst);
+    }
+
+    /// Takes the flag down.
+    pub fn lower(&self) {
+        self.raised.store(false, Ordering::SeqCst);
+    }
+
+    /// Whether the flag is up.
+    pub fn is_raised(&self) -> bool {
+        self.raised.load(Ordering::SeqCst)
+    }
+}

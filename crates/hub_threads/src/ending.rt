@@ -1,0 +1,65 @@
+//! The end of a session.
+
+ghost use Rattle.std.specs.Prelude.{◌≡◌, ◌↔◌, IfOk, IsTrue, Some, true};
+ghost use Rattle.hub_threads.specs.Queues.{closed_in};
+ghost use Rattle.hub_threads.specs.Writes.{IsWhole, IsWritten};
+
+use crate::network::Network;
+use crate::outlet_end::OutletEnd;
+use crate::writer::Given;
+use crate::writing::{WriteFault, Written};
+use hub_core::NoSession;
+use hub_ends::SessionId;
+use net_view::NetworkView;
+use std::io::Write;
+use std::sync::Wait;
+use std::thread::{PromisedHandle, Threads};
+
+/// What the writer of a session handed back, and whether the session's end was seen whole.
+#[derive(Drop)]
+pub struct Ended<W: Write> {
+    /// Whether all that the session's outlet was sent has been taken, and written if no write
+    /// failed: the end was fresh, and took the closing item of this session.
+    pub token: bool,
+    /// The end that the packets were taken from.
+    pub end: OutletEnd,
+    /// What they were written to.
+    pub out: W,
+    /// Whether the packets that the writer took are all that the end ever took.
+    pub fresh: bool,
+    /// How many bytes were written, at most 18446744073709551615.
+    pub written: Result<u64, WriteFault>,
+}
+
+/// Ends a session: detaches it, drops its outlet, and waits for its writer. At `NoSession` the
+/// writer runs on to its own end.
+pub fn end_session<V: NetworkView + Drop, W: Write + Drop, R: Threads + Wait>(
+    rt: &R,
+    network: &Network<V>,
+    id: SessionId,
+    writer: PromisedHandle<Written<W>, Given<W>>,
+) -> Result<Ended<W>, NoSession>
+    ensures token { IfOk result (λ e. IsTrue e.token
+        ↔ ((e.fresh ≡ true) × (closed_in e.end ≡ Some id))) }
+    ensures written { IfOk result (λ e. IsWritten writer.promise.0.value e.end
+        (W.contents writer.promise.1.value) (W.contents e.out) e.fresh e.written) }
+    ensures whole { IfOk result (λ e. e.token ≡ true → IfOk e.written
+        (IsWhole id e.end (W.contents writer.promise.1.value) (W.contents e.out))) }
+{
+    let outlet = network.lock(rt).detach(id)?;
+    drop(outlet);
+    let Written {
+        end,
+        out,
+        fresh,
+        outcome,
+    } = writer.join(rt);
+    let token = fresh && end.closed() == Some(id);
+    Ok(Ended {
+        token,
+        end,
+        out,
+        fresh,
+        written: outcome,
+    })
+}

@@ -1,0 +1,140 @@
+//! Items from the thread that reads.
+
+ghost use Rattle.std.specs.Prelude.{◌≡◌, ◌∷◌, ◌++◌, ◌<◌, [], IfErr, IfOk, IsOk, List, OnOk, length};
+ghost use Rattle.hub_ends.specs.Came.{Came, came};
+ghost use Rattle.hub_threads.specs.Rings.{AreEnds, ahead_of, put_of, slots_of, taken_of};
+
+use crate::OutOfMemory;
+use crate::bell::{SharedBell, shared_bell};
+use client_caps::Moment;
+use hub_ends::Inlet;
+use net_view::Item;
+use rtrb::{Consumer, Producer, PushError, RingBuffer};
+use std::alloc::Global;
+use std::sync::{Arc, Wait};
+
+/// The end that items are put into, each with the moment at which it came. Dropping it wakes the
+/// pump.
+pub struct InletEnd {
+    producer: Producer<(Item, Moment)>,
+    // wakes the pump
+    pump: SharedBell,
+    // wakes the thread that has this end
+    reader: SharedBell,
+}
+
+/// The end that a hub takes items from.
+pub struct RingInlet {
+    consumer: Consumer<(Item, Moment)>,
+    // wakes the thread that has the other end
+    reader: SharedBell,
+}
+
+impl Drop for InletEnd {
+    fn drop(self) {
+        let InletEnd {
+            producer,
+            pump,
+            reader,
+        } = self;
+        drop(producer);
+        pump.ring();
+        drop(pump);
+        drop(reader);
+    }
+}
+
+impl Drop for RingInlet {
+    fn drop(self) {
+        let RingInlet { consumer, reader } = self;
+        drop(consumer);
+        reader.ring();
+        drop(reader);
+    }
+}
+
+/// Both ends of one ring, for this many items at a time. Whoever sleeps on `pump` is woken by each
+/// item that is put. `OutOfMemory` is told where an allocation was refused, and for no other cause.
+pub fn inlet(
+    alloc: Global,
+    capacity: usize,
+    pump: SharedBell,
+) -> Result<(InletEnd, RingInlet), OutOfMemory>
+    requires { 0 < capacity }
+    ensures put { IfOk result (λ r. (put_of r.0 ≡ []) × (slots_of r.0 ≡ capacity)) }
+    ensures taken { IfOk result (λ r. (taken_of r.1 ≡ []) × (ahead_of r.1 ≡ [])) }
+    ensures ends { IfOk result (λ r. AreEnds r.0 r.1) }
+{
+    let reader = shared_bell(alloc)?;
+    let theirs = Arc::try_clone(&reader)?;
+    let (producer, consumer) = RingBuffer::new(alloc, capacity)?;
+    let end = InletEnd {
+        producer,
+        pump,
+        reader,
+    };
+    let inlet = RingInlet {
+        consumer,
+        reader: theirs,
+    };
+    Ok((end, inlet))
+}
+
+impl InletEnd {
+    /// Puts an item and wakes the pump, or hands it back where no slot is known to be free. It
+    /// takes no lock and waits for nobody.
+    pub fn put(&mut self, item: Item, moment: Moment) -> Result<(), (Item, Moment)>
+        ensures ok { OnOk result (put_of self.new ≡ put_of self.old ++ came (item, moment) ∷ []) }
+        ensures full { IfErr result (λ x. (came x ≡ came (item, moment)) ×
+            (put_of self.new ≡ put_of self.old) × (slots_of self.new ≡ 0)) }
+        ensures room { 0 < slots_of self.old → IsOk result }
+    {
+        match self.producer.push((item, moment)) {
+            Ok(()) => {
+                self.pump.ring();
+                Ok(())
+            }
+            Err(PushError::Full(pair)) => Err(pair),
+        }
+    }
+}
+
+impl InletEnd {
+    /// Sleeps until the hub has taken an item.
+    pub(crate) fn sleep<R: Wait>(&self, rt: &R) {
+        self.reader.sleep(rt, u64::MAX);
+    }
+}
+
+impl Inlet for RingInlet {
+    ghost use Rattle.std.specs.Prelude.{false};
+    ghost use Rattle.hub_threads.specs.Rings.{ahead_of, taken_of};
+
+    ghost taken = { taken_of };
+
+    ghost ahead = { ahead_of };
+
+    ghost alone = { false };
+
+    fn next(&mut self) -> Option<(Item, Moment)> {
+        match self.consumer.pop() {
+            Ok(pair) => {
+                self.reader.ring();
+                Some(pair)
+            }
+            Err(_) => None,
+        }
+    }
+}
+
+/// How many items were put and not taken. Both ends are in one thread here.
+pub fn waiting(inlet: &mut RingInlet, end: &mut InletEnd) -> usize
+    requires { AreEnds end.old inlet.old }
+    ensures put { put_of end.new ≡ put_of end.old }
+    ensures taken { taken_of inlet.new ≡ taken_of inlet.old }
+    ensures waiting { (rest : List Came) × (length rest ≡ result) ×
+        (taken_of inlet.new ++ rest ≡ put_of end.new) }
+    ensures ends { AreEnds end.new inlet.new }
+{
+    inlet.consumer.slots_beside(&mut end.producer)
+}

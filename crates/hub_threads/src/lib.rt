@@ -1,0 +1,32 @@
+//! Hubs between threads: rings as their ends, the writer of a session, and how a session ends.
+#![tactic(auto)]
+
+mod batch;
+mod bell;
+mod ending;
+mod gate;
+mod inlet_ring;
+mod network;
+mod outlet_end;
+mod outlet_ring;
+mod patience;
+mod pumping;
+mod queued;
+mod reading;
+mod writer;
+mod writing;
+
+pub use bell::{Bell, SharedBell, shared_bell};
+pub use ending::{Ended, end_session};
+pub use gate::{Clock, FreeGate, Gate, Point};
+pub use hub_ends::OutOfMemory;
+pub use inlet_ring::{InletEnd, RingInlet, inlet, waiting};
+pub use network::{Network, RingHub};
+pub use outlet_end::{OutletEnd, Stopper, outlet};
+pub use outlet_ring::RingOutlet;
+pub use patience::Patience;
+pub use pumping::{PumpEnd, pump_loop};
+pub use queued::{Counted, Queued};
+pub use reading::{ReadEnd, Reading, read_in};
+pub use writer::{Given, Writer, spawn_writer};
+pub use writing::{WriteFault, Written, write_out};

@@ -1,0 +1,110 @@
+//! Time for sessions that lag.
+
+use crate::bell::Bell;
+use crate::gate::Clock;
+use crate::network::Network;
+use hub_ends::SessionId;
+use net_view::NetworkView;
+use std::alloc::Global;
+use std::sync::Wait;
+
+/// How many milliseconds sessions that are nearly full are given at most before an item, all
+/// together.
+const PATIENCE: u64 = 50;
+
+/// For whom no more time is to be spent: the sessions that took nothing while they were given time,
+/// each until it takes a packet.
+#[derive(Drop)]
+pub struct Patience {
+    alloc: Global,
+    // each with how many items its writer had taken
+    stalled: Vec<(SessionId, u64)>,
+}
+
+impl Patience {
+    /// Patience with everybody.
+    pub fn new(alloc: Global) -> Patience {
+        Patience {
+            alloc,
+            stalled: Vec::new(alloc),
+        }
+    }
+
+    /// Whether it was waited for this session in vain, and it has taken nothing since.
+    fn is_lost_with(&self, id: SessionId, taken: u64) -> bool {
+        self.stalled
+            .iter()
+            .any(|stalled| stalled.0 == id && stalled.1 == taken)
+    }
+
+    /// Gives sessions that are nearly full time to take packets, outside the lock: at most 50 ms
+    /// for all together, and less where none is nearly full any more. It sleeps on `bell`, at most
+    /// 1 ms a time; where that is the bell of the network's pump, each packet taken wakes it. Who
+    /// took nothing is not waited for again until it does.
+    ///
+    /// It is best effort: where memory is refused, a session is given no time.
+    pub fn give_time<V: NetworkView + Drop, C: Clock, R: Wait>(
+        &mut self,
+        rt: &R,
+        network: &Network<V>,
+        bell: &Bell,
+        clock: &C,
+    ) {
+        let waited = self.lagging(rt, network);
+        if waited.is_empty() {
+            return;
+        }
+        bell.raise();
+        let began = clock.now();
+        for _ in 0..PATIENCE {
+            bell.sleep(rt, 0);
+            let are_left = !self.lagging(rt, network).is_empty();
+            if !are_left || clock.now().0.saturating_sub(began.0) >= PATIENCE {
+                break;
+            }
+        }
+        bell.lower();
+        self.note(rt, network, waited);
+    }
+
+    /// The sessions that are nearly full and worth waiting for.
+    fn lagging<V: NetworkView + Drop, R: Wait>(
+        &self,
+        rt: &R,
+        network: &Network<V>,
+    ) -> Vec<(SessionId, u64)> {
+        let mut found = Vec::new(self.alloc);
+        let mut hub = network.lock(rt);
+        let Ok(ids) = hub.nearly_full() else {
+            return found;
+        };
+        for id in ids {
+            if let Some(outlet) = hub.outlet(id) {
+                let taken = outlet.taken();
+                if !self.is_lost_with(id, taken) && found.push((id, taken)).is_err() {
+                    break;
+                }
+            }
+        }
+        found
+    }
+
+    /// Remembers those that took nothing, of those waited for and those known before.
+    fn note<V: NetworkView + Drop, R: Wait>(
+        &mut self,
+        rt: &R,
+        network: &Network<V>,
+        waited: Vec<(SessionId, u64)>,
+    ) {
+        let hub = network.lock(rt);
+        let mut stalled = Vec::new(self.alloc);
+        for one in waited.iter().chain(self.stalled.iter()) {
+            if let Some(outlet) = hub.outlet(one.0) {
+                if outlet.taken() == one.1 && stalled.push(*one).is_err() {
+                    break;
+                }
+            }
+        }
+        self.stalled = stalled;
+    }
+}

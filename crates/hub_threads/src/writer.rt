@@ -1,0 +1,58 @@
+//! A writer in a thread of its own.
+
+ghost use Rattle.std.specs.Prelude.{◌≡◌, IfOk};
+
+use crate::OutOfMemory;
+use crate::gate::Gate;
+use crate::outlet_end::OutletEnd;
+use crate::writing::{Written, write_out};
+use std::alloc::AllocError;
+use std::io::Write;
+use std::snapshot::Snapshot;
+use std::sync::Wait;
+use std::thread;
+use std::thread::{Promise, PromisedHandle, Threads};
+
+/// What a writer was given: its end, and what it writes to. Its thread promises what `write_out`
+/// says of them. It has no bytes.
+pub struct Given<W>(Snapshot<OutletEnd>, Snapshot<W>);
+
+impl<W> Drop for Given<W> {
+    fn drop(self) {
+        let Given(end, out) = self;
+        drop(end);
+        drop(out);
+    }
+}
+
+impl<W: Write> Promise<Written<W>> for Given<W> {
+    ghost use Rattle.hub_threads.specs.Writes.{IsWritten};
+
+    ghost kept_by = { λ p r. IsWritten p.0.value r.end (W.contents p.1.value) (W.contents r.out)
+        r.fresh r.outcome };
+}
+
+/// The thread of a writer.
+pub type Writer<W> = PromisedHandle<Written<W>, Given<W>>;
+
+/// Starts a thread that does `write_out`. `OutOfMemory` where no thread could be started; what was
+/// handed in is dropped then.
+pub fn spawn_writer<
+    W: Write + Send + Drop + 'static,
+    G: Gate + Send + Drop + 'static,
+    R: Threads + Wait + Send + Copy + 'static,
+>(
+    rt: R,
+    end: OutletEnd,
+    out: W,
+    gate: G,
+    idle: u64,
+) -> Result<PromisedHandle<Written<W>, Given<W>>, OutOfMemory>
+    ensures { IfOk result (λ h. (h.promise.0.value ≡ end) × (h.promise.1.value ≡ out)) }
+{
+    let given = Given(Snapshot::of(&end), Snapshot::of(&out));
+    match thread::spawn_with(&rt, given, move || write_out(&rt, end, out, &gate, idle)) {
+        Ok(handle) => Ok(handle),
+        Err(_) => Err(AllocError),
+    }
+}

@@ -1,0 +1,169 @@
+//! What a client that comes is told of the network, by both views.
+
+use crate::clients::asked;
+use crate::playback::history_of;
+use crate::views::{quick_of, tape_of};
+use history::Entry;
+use net_view::NetworkView;
+use std::alloc::Global;
+use std::process::Abort;
+use std::test::Fail;
+use welcome::burst;
+
+/// A welcome, our JOIN, and what the network says of the channel and of one person.
+const TOLD: [&[u8]; 10] = [
+    b":s 001 Me :hi",
+    b":s 005 Me PREFIX=(ov)@+ CHANTYPES=# :are supported",
+    b":s 376 Me :end",
+    b":Me!m@h JOIN #c",
+    b":s 332 Me #c :Hello all",
+    b":s 324 Me #c +kl key 9",
+    b":s 353 Me = #c :Me @+bob +eve",
+    b":s 366 Me #c :End",
+    b":bob!b@h ACCOUNT bobacc",
+    b":bob!b@h AWAY :gone fishing",
+];
+
+/// What a client with these capabilities is told that missed these messages.
+fn told<V: NetworkView>(
+    alloc: Global,
+    view: &V,
+    names: &[u8],
+    missed: &[&Entry],
+) -> Result<Vec<u8>, Fail> {
+    let caps = asked(names)?;
+    if view.ready() {
+        let packet = burst(alloc, view, caps, missed)?;
+        Ok(Vec::from_slice(alloc, packet.bytes())?)
+    } else {
+        Ok(Vec::from_slice(alloc, b"not ready")?)
+    }
+}
+
+/// What a view has told: capabilities, what is told.
+fn rows_told<R: AllocGlobal + Abort, V: NetworkView>(
+    rt: &R,
+    view: &V,
+    missed: &[&Entry],
+    rows: &[(&[u8], &[u8])],
+) -> Result<(), Fail> {
+    for (names, wanted) in rows {
+        let text = told(rt.alloc(), view, names, missed)?;
+        assert!(rt; text.as_slice() == *wanted);
+    }
+    Ok(())
+}
+
+/// What both views have told of themselves and of the messages of these lines.
+fn check_told<R: AllocGlobal + Abort>(
+    rt: &R,
+    texts: &[&[u8]],
+    said: &[&[u8]],
+    rows: &[(&[u8], &[u8])],
+) -> Result<(), Fail> {
+    let history = history_of(rt.alloc(), said)?;
+    let missed = history.missed(rt.alloc(), None)?;
+    rows_told(rt, &tape_of(rt.alloc(), texts)?, &missed, rows)?;
+    rows_told(rt, &quick_of(rt.alloc(), texts)?, &missed, rows)
+}
+
+/// No capabilities, and all six.
+#[test]
+fn a_channel_with_all_that_is_known(rt: HostRuntime) -> Result<(), Fail> {
+    check_told(
+        &rt,
+        &TOLD,
+        &[],
+        &[
+            (
+                b"",
+                b":bnc 001 Me :Welcome to the bouncer\r\n\
+                :bnc 002 Me :Your host is bnc, running version 1\r\n\
+                :bnc 003 Me :This server was created for you\r\n\
+                :bnc 004 Me bnc 1 i biklmnopstv\r\n\
+                :bnc 005 Me PREFIX=(ov)@+ CHANTYPES=# :are supported by this server\r\n\
+                :bnc 422 Me :MOTD File is missing\r\n\
+                :Me JOIN #c\r\n\
+                :bnc 332 Me #c :Hello all\r\n\
+                :bnc 324 Me #c +kl key 9\r\n\
+                :bnc 353 Me = #c :@bob +eve Me\r\n\
+                :bnc 366 Me #c :End of NAMES list\r\n",
+            ),
+            (
+                b"multi-prefix extended-join account-notify away-notify server-time batch",
+                b":bnc 001 Me :Welcome to the bouncer\r\n\
+                :bnc 002 Me :Your host is bnc, running version 1\r\n\
+                :bnc 003 Me :This server was created for you\r\n\
+                :bnc 004 Me bnc 1 i biklmnopstv\r\n\
+                :bnc 005 Me PREFIX=(ov)@+ CHANTYPES=# :are supported by this server\r\n\
+                :bnc 422 Me :MOTD File is missing\r\n\
+                :Me JOIN #c * :\r\n\
+                :bnc 332 Me #c :Hello all\r\n\
+                :bnc 324 Me #c +kl key 9\r\n\
+                :bnc 353 Me = #c :@+bob +eve Me\r\n\
+                :bnc 366 Me #c :End of NAMES list\r\n\
+                :bob ACCOUNT bobacc\r\n\
+                :bob AWAY :gone fishing\r\n",
+            ),
+        ],
+    )
+}
+
+/// Without channels, before the settings are fixed and behind that.
+#[test]
+fn no_channel(rt: HostRuntime) -> Result<(), Fail> {
+    check_told(&rt, &[b":s 001 Me :hi"], &[], &[(b"", b"not ready")])?;
+    check_told(
+        &rt,
+        &[b":s 001 Me :hi", b":s 422 Me :none"],
+        &[],
+        &[(
+            b"",
+            b":bnc 001 Me :Welcome to the bouncer\r\n\
+            :bnc 002 Me :Your host is bnc, running version 1\r\n\
+            :bnc 003 Me :This server was created for you\r\n\
+            :bnc 004 Me bnc 1 i biklmnopstv\r\n\
+            :bnc 422 Me :MOTD File is missing\r\n",
+        )],
+    )
+}
+
+/// Persons on two channels: each is told once, in the order of their keys, and then a message.
+#[test]
+fn persons_of_several_channels(rt: HostRuntime) -> Result<(), Fail> {
+    check_told(
+        &rt,
+        &[
+            b":s 001 Me :hi",
+            b":s 376 Me :end",
+            b":Me!m@h JOIN #b",
+            b":s 353 Me = #b :Me bob Al",
+            b":Me!m@h JOIN #a",
+            b":s 353 Me = #a :Me BOB",
+            b":bob!b@h ACCOUNT bobacc",
+            b":bob!b@h AWAY :gone fishing",
+            b":al!a@h AWAY :lunch",
+        ],
+        &[b":bob!b@h PRIVMSG #A :hi all"],
+        &[(
+            b"account-notify away-notify batch",
+            b":bnc 001 Me :Welcome to the bouncer\r\n\
+            :bnc 002 Me :Your host is bnc, running version 1\r\n\
+            :bnc 003 Me :This server was created for you\r\n\
+            :bnc 004 Me bnc 1 i biklmnopstv\r\n\
+            :bnc 422 Me :MOTD File is missing\r\n\
+            :Me JOIN #a\r\n\
+            :bnc 353 Me = #a :BOB Me\r\n\
+            :bnc 366 Me #a :End of NAMES list\r\n\
+            :Me JOIN #b\r\n\
+            :bnc 353 Me = #b :Al BOB Me\r\n\
+            :bnc 366 Me #b :End of NAMES list\r\n\
+            :Al AWAY lunch\r\n\
+            :BOB ACCOUNT bobacc\r\n\
+            :BOB AWAY :gone fishing\r\n\
+            :bnc BATCH +h0 chathistory #a\r\n\
+            @batch=h0 :bob!b@h PRIVMSG #A :hi all\r\n\
+            :bnc BATCH -h0\r\n",
+        )],
+    )
+}

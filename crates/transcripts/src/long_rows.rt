@@ -1,0 +1,238 @@
+//! Name lists and settings that take more than one line, and ranks other than the common two, as
+//! both views have them told.
+
+use crate::clients::asked;
+use crate::views::{quick_of, tape_of};
+use irc_line::Line;
+use net_view::NetworkView;
+use std::alloc::Global;
+use std::process::Abort;
+use std::test::Fail;
+use welcome::state_part;
+
+/// The lines of this command that a client is told where it comes.
+fn lines_told<V: NetworkView>(
+    alloc: Global,
+    view: &V,
+    names: &[u8],
+    command: &[u8],
+) -> Result<Vec<u8>, Fail> {
+    let caps = asked(names)?;
+    let mut out = Vec::new(alloc);
+    if view.ready() {
+        let packet = state_part(alloc, view, caps)?;
+        for place in 0..packet.line_count() {
+            let line: Line = packet.line(alloc, place)?;
+            if line.is(command) {
+                line.write(&mut out)?;
+            }
+        }
+    }
+    Ok(out)
+}
+
+/// The lines of this command that a view has told, for each set of capabilities.
+fn rows_told<R: AllocGlobal + Abort, V: NetworkView>(
+    rt: &R,
+    view: &V,
+    command: &[u8],
+    rows: &[(&[u8], &[u8])],
+) -> Result<(), Fail> {
+    for (names, wanted) in rows {
+        let text = lines_told(rt.alloc(), view, names, command)?;
+        assert!(rt; text.as_slice() == *wanted);
+    }
+    Ok(())
+}
+
+/// The lines of this command that both views have told after these texts.
+fn check_lines<R: AllocGlobal + Abort>(
+    rt: &R,
+    texts: &[&[u8]],
+    command: &[u8],
+    rows: &[(&[u8], &[u8])],
+) -> Result<(), Fail> {
+    rows_told(rt, &tape_of(rt.alloc(), texts)?, command, rows)?;
+    rows_told(rt, &quick_of(rt.alloc(), texts)?, command, rows)
+}
+
+/// Adds a byte so many times.
+fn push_times(text: &mut Vec<u8>, byte: u8, count: usize) -> Result<(), Fail> {
+    for _ in 0..count {
+        text.push(byte)?;
+    }
+    Ok(())
+}
+
+/// Adds our nick and nine more: 362 bytes with the spaces between them.
+fn push_ten(text: &mut Vec<u8>) -> Result<(), Fail> {
+    text.extend_from_slice(b"Me")?;
+    for letter in b'n'..b'w' {
+        text.push(b' ')?;
+        push_times(text, letter, 39)?;
+    }
+    Ok(())
+}
+
+/// A name list of eleven members, of whom the last has these symbols and a nick of this length:
+/// all behind `start`, and the last behind `gap`.
+fn name_list(
+    alloc: Global,
+    start: &[u8],
+    gap: &[u8],
+    symbols: &[u8],
+    len: usize,
+) -> Result<Vec<u8>, Fail> {
+    let mut text = Vec::from_slice(alloc, start)?;
+    push_ten(&mut text)?;
+    text.extend_from_slice(gap)?;
+    text.extend_from_slice(symbols)?;
+    push_times(&mut text, b'w', len)?;
+    Ok(text)
+}
+
+/// A 353 of 400 bytes of words is one line, and one of 401 bytes two: capabilities, the last
+/// member's symbols, those that are shown, the length of its nick, what stands before it.
+#[test]
+fn names_up_to_400_bytes(rt: HostRuntime) -> Result<(), Fail> {
+    let rows: [(&[u8], &[u8], &[u8], usize, &[u8]); 6] = [
+        (b"", b"", b"", 37, b" "),
+        (b"", b"", b"", 38, b"\r\n:bnc 353 Me = #c "),
+        (b"multi-prefix", b"@+", b"@+", 35, b" "),
+        (b"multi-prefix", b"@+", b"@+", 36, b"\r\n:bnc 353 Me = #c "),
+        (b"", b"@+", b"@", 36, b" "),
+        (b"", b"@+", b"@", 37, b"\r\n:bnc 353 Me = #c "),
+    ];
+    for (names, symbols, shown, len, gap) in &rows {
+        let told = name_list(rt.alloc(), b":s 353 Me = #c :", b" ", symbols, *len)?;
+        let mut wanted = name_list(rt.alloc(), b":bnc 353 Me = #c :", gap, shown, *len)?;
+        wanted.extend_from_slice(b"\r\n")?;
+        check_lines(
+            &rt,
+            &[b":s 001 Me :hi", b":Me!m@h JOIN #c", &told],
+            b"353",
+            &[(*names, &wanted)],
+        )?;
+    }
+    Ok(())
+}
+
+/// A nick of 450 bytes has a line of its own.
+#[test]
+fn a_name_longer_than_a_row(rt: HostRuntime) -> Result<(), Fail> {
+    let mut told = Vec::from_slice(rt.alloc(), b":s 353 Me = #c :{ ")?;
+    push_times(&mut told, b'z', 450)?;
+    let mut wanted = Vec::from_slice(rt.alloc(), b":bnc 353 Me = #c Me\r\n:bnc 353 Me = #c ")?;
+    push_times(&mut wanted, b'z', 450)?;
+    wanted.extend_from_slice(b"\r\n:bnc 353 Me = #c {\r\n")?;
+    check_lines(
+        &rt,
+        &[b":s 001 Me :hi", b":Me!m@h JOIN #c", &told],
+        b"353",
+        &[(b"", &wanted)],
+    )
+}
+
+/// Twelve tokens are one line, and thirteen two.
+#[test]
+fn tokens_up_to_twelve(rt: HostRuntime) -> Result<(), Fail> {
+    let rows: [(&[u8], &[u8]); 2] = [
+        (
+            b":s 005 Me A B C D E F G H I J K L=1 :are supported",
+            b":bnc 005 Me A B C D E F G H I J K L=1 :are supported by this server\r\n",
+        ),
+        (
+            b":s 005 Me A B C D E F G H I J K L M=1 :are supported",
+            b":bnc 005 Me A B C D E F G H I J K L :are supported by this server\r\n\
+            :bnc 005 Me M=1 :are supported by this server\r\n",
+        ),
+    ];
+    for (told, wanted) in &rows {
+        check_lines(
+            &rt,
+            &[b":s 001 Me :hi", *told, b":s 422 Me :none"],
+            b"005",
+            &[(b"", *wanted)],
+        )?;
+    }
+    Ok(())
+}
+
+/// Four tokens, of which three take 299 bytes with the spaces between them: all behind `start`, and
+/// the last, of this length, behind `gap`.
+fn token_list(
+    alloc: Global,
+    start: &[u8],
+    gap: &[u8],
+    len: usize,
+    end: &[u8],
+) -> Result<Vec<u8>, Fail> {
+    let mut text = Vec::from_slice(alloc, start)?;
+    for letter in b"ABC" {
+        text.push(b' ')?;
+        text.push(*letter)?;
+        text.push(b'=')?;
+        push_times(&mut text, b'x', 97)?;
+    }
+    text.extend_from_slice(gap)?;
+    push_times(&mut text, b'D', len)?;
+    text.extend_from_slice(end)?;
+    Ok(text)
+}
+
+/// Tokens of 400 bytes are one line, those of 401 bytes two; one that is longer has its own.
+#[test]
+fn tokens_up_to_400_bytes(rt: HostRuntime) -> Result<(), Fail> {
+    let rows: [(usize, &[u8]); 3] = [
+        (100, b" "),
+        (101, b" :are supported by this server\r\n:bnc 005 Me "),
+        (450, b" :are supported by this server\r\n:bnc 005 Me "),
+    ];
+    for (len, gap) in &rows {
+        let told = token_list(rt.alloc(), b":s 005 Me", b" ", *len, b" :are supported")?;
+        let end = b" :are supported by this server\r\n";
+        let wanted = token_list(rt.alloc(), b":bnc 005 Me", gap, *len, end)?;
+        check_lines(
+            &rt,
+            &[b":s 001 Me :hi", &told, b":s 422 Me :none"],
+            b"005",
+            &[(b"", &wanted)],
+        )?;
+    }
+    Ok(())
+}
+
+/// A network without ranks, and one of five.
+#[test]
+fn members_by_other_ranks(rt: HostRuntime) -> Result<(), Fail> {
+    check_lines(
+        &rt,
+        &[
+            b":s 001 Me :hi",
+            b":s 005 Me PREFIX= :are supported",
+            b":Me!m@h JOIN #c",
+            b":s 353 Me = #c :Me bob @eve",
+            b":s MODE #c +o bob",
+        ],
+        b"353",
+        &[
+            (b"", b":bnc 353 Me = #c :bob Me\r\n"),
+            (b"multi-prefix", b":bnc 353 Me = #c :bob Me\r\n"),
+        ],
+    )?;
+    check_lines(
+        &rt,
+        &[
+            b":s 001 Me :hi",
+            b":s 005 Me PREFIX=(qaohv)~&@%+ :are supported",
+            b":Me!m@h JOIN #c",
+            b":s 353 Me = #c :Me +%@&~bob %+eve",
+            b":s MODE #c -q+v bob Me",
+        ],
+        b"353",
+        &[
+            (b"", b":bnc 353 Me = #c :&bob %eve +Me\r\n"),
+            (b"multi-prefix", b":bnc 353 Me = #c :&@%+bob %+eve +Me\r\n"),
+        ],
+    )
+}
