@@ -7,6 +7,8 @@ mod arrivals;
 #[cfg(test)]
 mod clients;
 #[cfg(test)]
+mod hub_rows;
+#[cfg(test)]
 mod kept_messages;
 #[cfg(test)]
 mod lines;

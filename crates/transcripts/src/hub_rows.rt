@@ -1,0 +1,262 @@
+//! What a hub does of scripts of events: what it answers, what its clients and the network are sent.
+
+mod scripts;
+
+use crate::hub_rows::scripts::{Story, check};
+use std::test::Fail;
+
+/// What a client without capabilities is sent first, behind a welcome and a JOIN of ours.
+const BURST: [&[u8]; 9] = [
+    b":bnc 001 Me :Welcome to the bouncer",
+    b":bnc 002 Me :Your host is bnc, running version 1",
+    b":bnc 003 Me :This server was created for you",
+    b":bnc 004 Me bnc 1 i biklmnopstv",
+    b":bnc 005 Me PREFIX=(ov)@+ CHANTYPES=# :are supported by this server",
+    b":bnc 422 Me :MOTD File is missing",
+    b":Me JOIN #c",
+    b":bnc 353 Me = #c Me",
+    b":bnc 366 Me #c :End of NAMES list",
+];
+
+const STORY: Story = Story {
+    history: 3,
+    first_number: 1,
+    first_session: 0,
+    upstream: 8,
+    of: 1,
+    from: 1,
+};
+
+/// What somebody missed who was away for three messages, and nothing where none came.
+#[test]
+fn messages_that_were_missed(rt: HostRuntime) -> Result<(), Fail> {
+    let events: [&[u8]; 9] = [
+        b"attach - pc 8",
+        b"up :bob!b@h PRIVMSG #c m1",
+        b"up :bob!b@h PRIVMSG #c m2",
+        b"detach 0",
+        b"up :bob!b@h PRIVMSG #c m3",
+        b"up :bob!b@h PRIVMSG #c m4",
+        b"up :bob!b@h PRIVMSG #c m5",
+        b"attach batch pc 8",
+        b"up :bob!b@h PRIVMSG #d m6",
+    ];
+    let told: [&[u8]; 17] = [
+        b"session 0",
+        b"session 1",
+        b":bnc 001 Me :Welcome to the bouncer",
+        b":bnc 002 Me :Your host is bnc, running version 1",
+        b":bnc 003 Me :This server was created for you",
+        b":bnc 004 Me bnc 1 i biklmnopstv",
+        b":bnc 005 Me PREFIX=(ov)@+ CHANTYPES=# :are supported by this server",
+        b":bnc 422 Me :MOTD File is missing",
+        b":Me JOIN #c",
+        b":bnc 353 Me = #c Me",
+        b":bnc 366 Me #c :End of NAMES list",
+        b":bnc BATCH +h0 chathistory #c",
+        b"@batch=h0 :bob!b@h PRIVMSG #c m3",
+        b"@batch=h0 :bob!b@h PRIVMSG #c m4",
+        b"@batch=h0 :bob!b@h PRIVMSG #c m5",
+        b":bnc BATCH -h0",
+        b":bob!b@h PRIVMSG #d m6",
+    ];
+    check(&rt, Story { from: 0, ..STORY }, &events, &told)?;
+    Ok(())
+}
+
+/// Who comes again at once missed nothing.
+#[test]
+fn nothing_was_missed(rt: HostRuntime) -> Result<(), Fail> {
+    let events: [&[u8]; 4] = [
+        b"up :bob!b@h PRIVMSG #c m1",
+        b"attach batch pc 8",
+        b"detach 0",
+        b"attach batch pc 8",
+    ];
+    let mut told: Vec<&[u8]> = Vec::new(rt.alloc());
+    told.push(b"session 0")?;
+    told.push(b"session 1")?;
+    told.extend_from_slice(&BURST)?;
+    check(&rt, Story { from: 0, ..STORY }, &events, &told)?;
+    Ok(())
+}
+
+/// A message goes to the network and to the other session.
+#[test]
+fn a_message_said(rt: HostRuntime) -> Result<(), Fail> {
+    let events: [&[u8]; 4] = [
+        b"attach - - 8",
+        b"attach - - 8",
+        b"said 0 PRIVMSG #c :hi all",
+        b"said 0 @a=1 :x NOTICE bob m",
+    ];
+    let told: [&[u8]; 8] = [
+        b"session 0",
+        b"session 1",
+        b"forwarded",
+        b"forwarded",
+        b":Me PRIVMSG #c :hi all",
+        b":Me NOTICE bob m",
+        b"> PRIVMSG #c :hi all",
+        b"> NOTICE bob m",
+    ];
+    check(&rt, STORY, &events, &told)?;
+    let quiet: [&[u8]; 6] = [
+        b"session 0",
+        b"session 1",
+        b"forwarded",
+        b"forwarded",
+        b"> PRIVMSG #c :hi all",
+        b"> NOTICE bob m",
+    ];
+    check(&rt, Story { of: 0, ..STORY }, &events, &quiet)?;
+    Ok(())
+}
+
+/// The connection is lost and comes again.
+#[test]
+fn a_loss_with_two_channels(rt: HostRuntime) -> Result<(), Fail> {
+    let events: [&[u8]; 7] = [
+        b"up :Me!m@h JOIN #b",
+        b"attach - - 8",
+        b"piece :s 001 Yo",
+        b"lost",
+        b"said 0 PRIVMSG x y",
+        b"up :t 001 You :hi",
+        b"attach - - 8",
+    ];
+    let told: [&[u8]; 6] = [
+        b"session 0",
+        b"offline",
+        b"not ready",
+        b":Me PART #b",
+        b":Me PART #c",
+        b":t 001 You hi",
+    ];
+    check(&rt, Story { of: 0, ..STORY }, &events, &told)?;
+    Ok(())
+}
+
+/// A session that is not drained is cut at the packet that finds no room, and the other is not.
+#[test]
+fn a_session_that_is_cut(rt: HostRuntime) -> Result<(), Fail> {
+    let events: [&[u8]; 7] = [
+        b"attach - - 2",
+        b"attach - - 8",
+        b"drained 0 1",
+        b"up :bob!b@h PRIVMSG #c m1",
+        b"up :bob!b@h PRIVMSG #c m2",
+        b"up :bob!b@h PRIVMSG #c m3",
+        b"said 0 PING x",
+    ];
+    let told: [&[u8]; 8] = [
+        b"session 0",
+        b"session 1",
+        b"drained 1",
+        b"cut 1",
+        b"no session",
+        b":bob!b@h PRIVMSG #c m1",
+        b":bob!b@h PRIVMSG #c m2",
+        b":bob!b@h PRIVMSG #c m3",
+    ];
+    check(&rt, STORY, &events, &told)?;
+    Ok(())
+}
+
+/// What a client asks of us.
+#[test]
+fn lines_that_are_answered(rt: HostRuntime) -> Result<(), Fail> {
+    let events: [&[u8]; 8] = [
+        b"attach - - 8",
+        b"said 0 CAP REQ :batch",
+        b"said 0 CAP LIST",
+        b"said 0 PING a b",
+        b"said 0 PONG x",
+        b"said 0 CAP END",
+        b"said 0 QUIT :bye",
+        b"detach 99",
+    ];
+    let told: [&[u8]; 11] = [
+        b"session 0",
+        b"answered",
+        b"answered",
+        b"answered",
+        b"answered",
+        b"answered",
+        b"quit",
+        b"no session",
+        b":bnc CAP Me NAK batch",
+        b":bnc CAP Me LIST :",
+        b":bnc PONG bnc a",
+    ];
+    check(&rt, Story { of: 0, ..STORY }, &events, &told)?;
+    Ok(())
+}
+
+/// What has no room, or no number.
+#[test]
+fn refusals(rt: HostRuntime) -> Result<(), Fail> {
+    let full: [&[u8]; 4] = [
+        b"attach - pc 0",
+        b"attach - - 8",
+        b"said 0 PRIVMSG #c m",
+        b"said 0 TIME",
+    ];
+    let told: [&[u8]; 5] = [
+        b"outlet full",
+        b"session 0",
+        b"forwarded",
+        b"busy",
+        b"> PRIVMSG #c m",
+    ];
+    let one_place = Story {
+        upstream: 1,
+        of: 0,
+        ..STORY
+    };
+    check(&rt, one_place, &full, &told)?;
+    let sessions: [&[u8]; 2] = [b"attach - - 8", b"attach - - 8"];
+    let told: [&[u8]; 2] = [b"session 18446744073709551615", b"numbers spent"];
+    let last_session = Story {
+        first_session: u64::MAX,
+        ..STORY
+    };
+    check(&rt, last_session, &sessions, &told)?;
+    let messages: [&[u8]; 3] = [
+        b"attach - - 8",
+        b"up :bob!b@h PRIVMSG #c m1",
+        b"up :bob!b@h PRIVMSG #c m2",
+    ];
+    let told: [&[u8]; 3] = [
+        b"session 0",
+        b"stopped: numbers spent",
+        b":bob!b@h PRIVMSG #c m1",
+    ];
+    let last_number = Story {
+        first_number: u64::MAX,
+        of: 0,
+        ..STORY
+    };
+    check(&rt, last_number, &messages, &told)?;
+    Ok(())
+}
+
+/// Lines that come in pieces, one of them in the middle of a line.
+#[test]
+fn lines_in_pieces(rt: HostRuntime) -> Result<(), Fail> {
+    let events: [&[u8]; 5] = [
+        b"attach - - 8",
+        b"piece :bob!b@h PRIV",
+        b"up MSG #c m1",
+        b"up :s PING x",
+        b"up PING a b",
+    ];
+    let told: [&[u8]; 4] = [
+        b"session 0",
+        b":bob!b@h PRIVMSG #c m1",
+        b"> PONG x",
+        b"> PONG a b",
+    ];
+    check(&rt, Story { of: 0, ..STORY }, &events, &told)?;
+    Ok(())
+}
