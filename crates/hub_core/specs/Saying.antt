@@ -27,7 +27,8 @@ use Rattle.hub_core.specs.Pumping.{counted, entry_for, with_entry}
 
 -- ---- what a line is for
 
--- what only two neighbours say to each other, and a client's login (RFC 2812, sections 3.1 and 3.7)
+-- what only two neighbours say to each other, and a client's login (RFC 2812, sections 3.1 and 3.7;
+-- AUTHENTICATE: IRCv3 sasl)
 abbrev pub unheard_commands : List Text
 unheard_commands =
     codes "PASS" ∷ codes "USER" ∷ codes "PONG" ∷ codes "AUTHENTICATE" ∷ []
