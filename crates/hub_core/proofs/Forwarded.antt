@@ -31,6 +31,7 @@ forwards_from alone old mid new id line moment s f0 =
       };
       sessions = f.sessions;
       history = f.history;
+      number = f.number;
       images = f.images;
       same = f.same;
     }) f0

@@ -11,3 +11,4 @@ pub mod Forwarded
 pub mod Drained
 pub mod Answered
 pub mod Freed
+pub mod LostChannels

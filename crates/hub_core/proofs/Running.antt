@@ -1,14 +1,16 @@
 -- The running fact goes on.
 use Rattle.std.proofs.Common.{◌≡◌, ◌+◌, ◌-◌, ◌<◌, ◌^◌, ℕ, List, [], ◌∷◌, ◌++◌, refl, sym, ap, ◌∙◌, arith}
 use Rattle.std.proofs.Common.{Option, None, Some, Bool, false, map, length, take, subst, inl, inr}
-use Rattle.std.proofs.Common.{append-nil, length-append, option_to_list, cond, is_some}
-use Rattle.std.proofs.lemmas.List.{map-append, take_all, take-append-le}
+use Rattle.std.proofs.Common.{append-nil, reverse, length-append, option_to_list, cond, is_some}
+use Rattle.std.proofs.lemmas.List.{map-append, reverse-append, take_all, take-append-le}
 use Rattle.std.proofs.lemmas.Grind.{flat_map-append}
+use Rattle.std.specs.FinMap.{empty, entries, len-empty, len-entries}
+use Rattle.net_view.specs.Names.{bytes_cmp}
 use Rattle.irc_line.specs.Line.{Parts}
 use Rattle.irc_support.specs.Text.{Text}
 use Rattle.net_view.specs.Agrees.{Agrees}
-use Rattle.net_view.specs.Arrival.{Arrival}
-use Rattle.net_view.specs.View.{View, view_of, empty_view}
+use Rattle.net_view.specs.Arrival.{Arrival, Received, Lost}
+use Rattle.net_view.specs.View.{Channel, View, view_of, view_back, empty_view}
 use Rattle.net_view.proofs.StepLaw.{view_start}
 use Rattle.client_caps.specs.Caps.{held}
 use Rattle.client_caps.specs.Moment.{time_text_of}
@@ -25,6 +27,7 @@ use Rattle.std.proofs.Common.{unwrap_or}
 use Rattle.std.specs.Option.{option_or, option_map_or}
 use Rattle.net_view.specs.LookBack.{last_in}
 use Rattle.hub_core.specs.Online.{is_online, says_online}
+use Rattle.hub_core.specs.LostChannels.{Joining, before_loss, channels_of_view, lost_by, lost_channels}
 use Rattle.hub_core.proofs.Prepared.{map_length}
 use Rattle.hub_core.specs.Running.{Fits, EachFits, IsRunning, AreNumbered, lines_sent}
 use Rattle.hub_core.specs.Running.{content, content_heard, content_said, messages_of}
@@ -75,16 +78,30 @@ heard_still done x now e =
 
 -- ---- a new hub
 
-pub started_runs : (h : HubState) (v : View) (capacity : ℕ) → h.taken ≡ [] → h.held ≡ None → h.sessions ≡ []
+none_there : {A : Type 0} (xs : List A) → length xs ≡ 0 → xs ≡ []
+none_there [] e = refl
+none_there (x ∷ xs) e = cc
+
+-- before the first loss there is nothing to join again
+no_loss : lost_channels [] ≡ []
+unfolding view_of
+no_loss =
+    ap channels_of_view view_start
+    ∙ ap (map _) (none_there (entries empty) (sym (len-entries empty)
+    ∙ len-empty bytes_cmp Channel))
+
+pub started_runs : (h : HubState) (v : View) (lost : List Joining) (capacity : ℕ) → lost ≡ []
+    → h.taken ≡ [] → h.held ≡ None → h.sessions ≡ []
     → v ≡ empty_view → h.upstream.sent ≡ [] → h.first < 2 ^ 64
-    → h.history ≡ no_messages capacity h.first → IsRunning h v false
-started_runs h v capacity t o s e u small k =
+    → h.history ≡ no_messages capacity h.first → IsRunning h v false lost
+started_runs h v lost capacity l0 t o s e u small k =
     let l : less h.taken h.held ≡ [] = ap (λ k. less k h.held) t ∙ (ap (less []) o ∙ less_none []) in
     let a : heard h ≡ [] = ap arrivals l in
     record {
       held_last = t ∙ (sym (ap (λ k. k ++ []) l) ∙ ap (λ k. less h.taken h.held ++ option_to_list k) (sym o));
       view_is = e ∙ (sym view_start ∙ ap view_of (sym a));
       online_is = sym (ap is_online a);
+      lost_is = l0 ∙ sym (ap lost_channels a ∙ no_loss);
       fit = (let P : List SessionState → Type 0 = EachFits v in subst P (sym s) tt);
       numbered = subst (AreNumbered (messages_of h) h.first) (sym k)
           (subst (λ all. AreNumbered all h.first (no_messages capacity h.first))
@@ -158,8 +175,8 @@ pub record Goes (alone : Bool) (h h' : HubState) (x : Came) : Type 0 where
   pub taken : h'.taken ≡ h.taken ++ cond (is_some h.held) [] (x ∷ [])
   pub comes : Comes alone h.held h.ahead x h'.ahead
 
-module _ (alone : Bool) (h h' : HubState) (x : Came) (v : View) (online : Bool) (g : Goes alone h h' x)
-    (run : IsRunning h v online) where
+module _ (alone : Bool) (h h' : HubState) (x : Came) (v : View) (online : Bool)
+    {lost : List Joining} (g : Goes alone h h' x) (run : IsRunning h v online lost) where
   now : h'.taken ≡ less h.taken h.held ++ x ∷ []
   now = next_taken alone h.taken h.held h.ahead x h'.taken h'.ahead run.held_last g.taken g.comes
 
@@ -169,14 +186,16 @@ module _ (alone : Bool) (h h' : HubState) (x : Came) (v : View) (online : Bool) 
       ap (λ k. arrivals (less h'.taken k)) e ∙ heard_more (less h.taken h.held) x h'.taken now
 
   -- it was dealt with
-  pub goes_on : (outlet : Bool) (w : View) (online' : Bool) → h'.held ≡ None
+  pub goes_on : (outlet : Bool) (w : View) (online' : Bool) (lost' : List Joining)
+      → h'.held ≡ None
       → w ≡ view_of (heard h ++ x.0 ∷ []) → online' ≡ is_online (heard h ++ x.0 ∷ [])
+      → lost' ≡ lost_channels (heard h ++ x.0 ∷ [])
       → Delivered outlet (λ s. packet_for (view_of (heard h)) x s.caps) h.sessions h'.sessions
       → h'.history ≡ with_entry h.history (entry_for x) → h'.first ≡ h.first
       → (IsSome (entry_for x) → IsSome h.history.next)
       → filter_map content_said h'.upstream.sent ≡ filter_map content_said h.upstream.sent
-      → IsRunning h' w online'
-  goes_on outlet w online' e view on d k f numbers u =
+      → IsRunning h' w online' lost'
+  goes_on outlet w online' lost' e view on left d k f numbers u =
       let l : less h'.taken h'.held ≡ h'.taken = ap (less h'.taken) e ∙ less_none h'.taken in
       let more : List (List Text) = (filter_map content_heard (less h.taken h.held)
       ++ option_to_list (content_heard x)) ++ filter_map content_said h.upstream.sent in
@@ -190,6 +209,7 @@ module _ (alone : Bool) (h h' : HubState) (x : Came) (v : View) (online : Bool) 
             ∙ ap (λ k. less h'.taken h'.held ++ option_to_list k) (sym e));
         view_is = view ∙ ap view_of (sym (heard_then e));
         online_is = on ∙ ap is_online (sym (heard_then e));
+        lost_is = left ∙ ap lost_channels (sym (heard_then e));
         fit = subst (λ k. EachFits k h'.sessions) (sym view)
             (each_fits_after outlet (heard h) x h.sessions h'.sessions
             (subst (λ k. EachFits k h.sessions) run.view_is run.fit) d);
@@ -205,7 +225,7 @@ module _ (alone : Bool) (h h' : HubState) (x : Came) (v : View) (online : Bool) 
   -- it is held
   pub holds_on : (w : View) → w ≡ v → h'.held ≡ Some x → h'.sessions ≡ h.sessions
       → h'.history ≡ h.history → h'.first ≡ h.first → h'.upstream.sent ≡ h.upstream.sent
-      → IsRunning h' w online
+      → IsRunning h' w online lost
   holds_on w same e s k f u =
       let l : less h'.taken h'.held ≡ less h.taken h.held =
       ap (less h'.taken) e ∙ (ap (λ k. less k (Some x)) now ∙ less_some (less h.taken h.held) x x) in
@@ -215,6 +235,7 @@ module _ (alone : Bool) (h h' : HubState) (x : Came) (v : View) (online : Bool) 
             ∙ ap (λ k. less h'.taken h'.held ++ option_to_list k) (sym e));
         view_is = same ∙ (run.view_is ∙ ap view_of (sym a));
         online_is = run.online_is ∙ ap is_online (sym a);
+        lost_is = run.lost_is ∙ ap lost_channels (sym a);
         fit = subst (λ k. EachFits k h'.sessions) (sym same)
             (subst (λ k. EachFits v k) (sym s) run.fit);
         numbered = numbered_alike h h' (said_alike h h' l (ap (filter_map content_said) u)) f k
@@ -248,6 +269,19 @@ online_more items x =
       go None b = refl
       go (Some a) b = refl
 
+-- ---- the channels to be joined again
+
+reverse_more : {A : Type 0} (xs : List A) (x : A) → reverse (xs ++ x ∷ []) ≡ x ∷ reverse xs
+reverse_more xs x = reverse-append xs (x ∷ [])
+
+pub lost_more : (items : List Arrival) (x : Arrival)
+    → unwrap_or (lost_by (view_of items) x) (lost_channels items) ≡ lost_channels (items ++ x ∷ [])
+unfolding view_of
+lost_more items (Received line) =
+    ap (λ l. channels_of_view (view_back (before_loss l))) (sym (reverse_more items (Received line)))
+lost_more items Lost =
+    ap (λ l. channels_of_view (view_back (before_loss l))) (sym (reverse_more items Lost))
+
 -- ---- counts
 
 pub left_states : {S : Type 0} (state : S → SessionState) (xs ys : List S) (ss : List SessionState)
@@ -274,10 +308,11 @@ fits_at v [] s ts h = h.0
 fits_at v (r ∷ ss) s ts h = fits_at v ss s ts h.1
 
 -- other sessions of the same hub
-pub with_sessions : (h h' : HubState) (v : View) (online : Bool) → IsRunning h v online
+pub with_sessions : (h h' : HubState) (v : View) (online : Bool) {lost : List Joining}
+    → IsRunning h v online lost
     → h'.taken ≡ h.taken → h'.held ≡ h.held → h'.history ≡ h.history → h'.first ≡ h.first
     → filter_map content_said h'.upstream.sent ≡ filter_map content_said h.upstream.sent
-    → EachFits v h'.sessions → IsRunning h' v online
+    → EachFits v h'.sessions → IsRunning h' v online lost
 with_sessions h h' v online run t e k f u fit =
     let l : less h'.taken h'.held ≡ less h.taken h.held =
     ap (λ l. less l h'.held) t ∙ ap (λ o. less h.taken o) e in
@@ -288,14 +323,15 @@ with_sessions h h' v online run t e k f u fit =
           ∙ ap (λ o. less h'.taken o ++ option_to_list o) (sym e)));
       view_is = run.view_is ∙ ap view_of (sym a);
       online_is = run.online_is ∙ ap is_online (sym a);
+      lost_is = run.lost_is ∙ ap lost_channels (sym a);
       fit = fit;
       numbered = numbered_alike h h' (said_alike h h' l u) f k run.numbered;
     }
 
 -- the burst is read as the view
-pub attached_fits : (alone : Bool) (h : HubState) (v : View) (online : Bool) (caps : Caps)
-    (name : Option (List ℕ)) (mark : Option ℕ) (id : ℕ) (o o' : OutletState)
-    → IsRunning h v online → v.ready ≡ true → o.sent ≡ [] → o.closed ≡ None
+pub attached_fits : (alone : Bool) (h : HubState) (v : View) (online : Bool) {lost : List Joining}
+    (caps : Caps) (name : Option (List ℕ)) (mark : Option ℕ) (id : ℕ) (o o' : OutletState)
+    → IsRunning h v online lost → v.ready ≡ true → o.sent ≡ [] → o.closed ≡ None
     → Took alone o (burst_of v caps (missed_by mark h.history)) o'
     → EachFits v (h.sessions ++ record { id = id; name = name; caps = caps; outlet = o' } ∷ [])
 attached_fits alone h v online caps name mark id o o' run ready fresh unclosed took =
@@ -333,12 +369,12 @@ pushed_states state xs ys zs s e f =
     ap (map state) (f ∙ ap (λ l. l ++ s ∷ []) e) ∙ map-append state xs (s ∷ [])
 
 -- a line was sent to the network, and a message to the sessions
-pub said_on : (h h' : HubState) (v : View) (online : Bool) (e : Option EntryParts) (p : List Parts)
-    → IsRunning h v online → h'.taken ≡ h.taken → h'.held ≡ h.held
+pub said_on : (h h' : HubState) (v : View) (online : Bool) {lost : List Joining}
+    (e : Option EntryParts) (p : List Parts) → IsRunning h v online lost → h'.taken ≡ h.taken → h'.held ≡ h.held
     → h'.history ≡ with_entry h.history e → h'.first ≡ h.first
     → h'.upstream.sent ≡ h.upstream.sent ++ p ∷ [] → content_said p ≡ option_map content e
     → (IsSome e → IsSome h.history.next) → IfSome e (λ e. IsTrue (is_message_command e.command))
-    → EachFits v h'.sessions → IsRunning h' v online
+    → EachFits v h'.sessions → IsRunning h' v online lost
 said_on h h' v online e p run t o k f u c some is fit =
     let l : less h'.taken h'.held ≡ less h.taken h.held =
     ap (λ l. less l h'.held) t ∙ ap (λ o. less h.taken o) o in
@@ -356,6 +392,7 @@ said_on h h' v online e p run t o k f u c some is fit =
           ∙ ap (λ p. less h'.taken p ++ option_to_list p) (sym o)));
       view_is = run.view_is ∙ ap view_of (sym a);
       online_is = run.online_is ∙ ap is_online (sym a);
+      lost_is = run.lost_is ∙ ap lost_channels (sym a);
       fit = fit;
       numbered = subst (λ l. AreNumbered l h'.first h'.history) (sym m)
           (subst (λ n. AreNumbered more n h'.history) (sym f)

@@ -8,4 +8,5 @@ pub mod Pumping
 pub mod Attaching
 pub mod Saying
 pub mod Upkeep
+pub mod LostChannels
 pub mod InMemory

@@ -13,6 +13,7 @@ use Rattle.history.specs.Messages.{Messages, numbered}
 use Rattle.hub_ends.specs.Came.{Came}
 use Rattle.irc_support.specs.Text.{Text}
 use Rattle.hub_core.specs.Online.{is_online}
+use Rattle.hub_core.specs.LostChannels.{Joining, lost_channels}
 use Rattle.hub_core.specs.Pumping.{entry_for}
 use Rattle.hub_core.specs.States.{SessionState, HubState, less, heard}
 
@@ -64,12 +65,14 @@ pub record AreNumbered (all : List (List Text)) (first : ℕ) (h : Messages) : T
   pub origins : AllByRecursion (λ m. Contains all (content m.1)) h.kept
   pub numbers : h.next ≡ numbered (first + length all)
 
--- the running fact, of a hub with this view, which is online or not
-pub record IsRunning (h : HubState) (v : View) (online : Bool) : Type 0 where
+-- the running fact, of a hub with this view, which is online or not, and with these channels for
+-- joining again
+pub record IsRunning (h : HubState) (v : View) (online : Bool) (lost : List Joining) : Type 0 where
   -- a held item is the last one that was taken
   pub held_last : h.taken ≡ less h.taken h.held ++ option_to_list h.held
   -- the view is that of the items taken, but for a held one
   pub view_is : v ≡ view_of (heard h)
   pub online_is : online ≡ is_online (heard h)
+  pub lost_is : lost ≡ lost_channels (heard h)
   pub fit : EachFits v h.sessions
   pub numbered : AreNumbered (messages_of h) h.first h.history

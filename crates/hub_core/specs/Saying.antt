@@ -148,6 +148,7 @@ pub record Forwards (alone : Bool) (old : HubState) (id : ℕ) (line : Parts) (m
   pub sessions : Delivered alone (given_others old id (own_message old line moment)) old.sessions
       new.sessions
   pub history : new.history ≡ with_entry old.history (entry_said (own_message old line moment))
+  pub number : is_message line ≡ true → IsSome old.history.next
   pub images : new.images ≡ images_said old id (own_message old line moment)
   pub same : (new.taken ≡ old.taken) × (new.ahead ≡ old.ahead) × (new.held ≡ old.held) ×
       (new.next ≡ old.next) × (new.first ≡ old.first) × (new.marks ≡ old.marks)

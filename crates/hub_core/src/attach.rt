@@ -82,7 +82,7 @@ fn admit(marks: &mut Marks, name: Option<&[u8]>) -> Result<(), OutOfMemory>
 }
 
 /// A copy of a client's name.
-fn copy_of(alloc: Global, name: Option<&[u8]>) -> Result<Option<Vec<u8>>, OutOfMemory>
+pub fn copy_of(alloc: Global, name: Option<&[u8]>) -> Result<Option<Vec<u8>>, OutOfMemory>
     ensures { IfOk result (λ copy. option_map (λ c. c.items) copy
         ≡ option_map (λ n. n.now) name.entry) }
 {

@@ -1,11 +1,11 @@
 //! The hub of one network.
 
-ghost use Rattle.std.specs.Prelude.{◌≡◌, ◌↔◌, [], None, Some, false, IfOk, IsErrOf, option_map};
-ghost use Rattle.std.specs.FinMap as map;
+ghost use Rattle.std.specs.Prelude.{◌≡◌, ◌↔◌, [], None, Some, false, IfOk, IsErrOf, map, option_map};
 ghost use Rattle.net_view.specs.View.{empty_view};
 ghost use Rattle.history.specs.Messages.{is_capacity};
 
 use crate::image_table::Made;
+use crate::lost::LostChannel;
 use crate::session::{Session, place_of};
 use client_caps::Moment;
 use history::{CapacityError, History, Marks};
@@ -82,6 +82,8 @@ pub struct Hub<V: NetworkView + Drop, I: Inlet, O: Outlet> {
     pub(crate) images: u64,
     // what was made for the sets of capabilities of the last item
     pub(crate) made: Vec<Made>,
+    // the channels at the last loss that was taken
+    pub(crate) lost: Vec<LostChannel>,
 }
 
 impl<V: NetworkView + Drop, I: Inlet, O: Outlet> Model for Hub<V, I, O> {
@@ -89,6 +91,8 @@ impl<V: NetworkView + Drop, I: Inlet, O: Outlet> Model for Hub<V, I, O> {
     ghost use Rattle.hub_core.specs.Running.{IsRunning};
     ghost use Rattle.hub_core.specs.Insides.{hub_of};
     ghost use Rattle.hub_core.specs.Codes.{hub_code};
+    ghost use Rattle.hub_core.specs.LostChannels.{joining};
+    ghost use Rattle.std.specs.Prelude.{map};
 
     ghost Value = { HubState };
 
@@ -97,7 +101,7 @@ impl<V: NetworkView + Drop, I: Inlet, O: Outlet> Model for Hub<V, I, O> {
     ghost view = { hub_of I.taken I.ahead O.sent O.closed O.capacity O.free };
 
     ghost invariant = { λ h. IsRunning (hub_of I.taken I.ahead O.sent O.closed O.capacity O.free h)
-        (V.view h.view) h.online };
+        (V.view h.view) h.online (map joining h.lost.items) };
 }
 
 impl<V: NetworkView + Drop, I: Inlet, O: Outlet> Hub<V, I, O> {
@@ -105,6 +109,7 @@ impl<V: NetworkView + Drop, I: Inlet, O: Outlet> Hub<V, I, O> {
     ghost use Rattle.hub_core.specs.Online.{is_online};
     ghost use Rattle.hub_core.specs.Running.{IsRunning};
     ghost use Rattle.hub_core.specs.Insides.{outlet_of};
+    ghost use Rattle.hub_core.specs.LostChannels.{joining, lost_channels};
     ghost use Rattle.hub_core.specs.Upkeep.{LendsOutlet};
 
     /// A hub of these parts, without sessions, messages or client names. `BadCapacity` comes
@@ -142,6 +147,7 @@ impl<V: NetworkView + Drop, I: Inlet, O: Outlet> Hub<V, I, O> {
             marks,
             images: 0,
             made: Vec::new(alloc),
+            lost: Vec::new(alloc),
         })
     }
 
@@ -161,7 +167,8 @@ impl<V: NetworkView + Drop, I: Inlet, O: Outlet> Hub<V, I, O> {
 
     /// Tells its caller what holds of every hub between calls. It does nothing.
     pub fn is_running(&self)
-        ensures { IsRunning self.now (view_now self.now) (is_online (heard self.now)) }
+        ensures { IsRunning self.now (view_now self.now) (is_online (heard self.now))
+            (lost_channels (heard self.now)) }
     {
         let _ = &self.view;
     }
@@ -182,6 +189,15 @@ impl<V: NetworkView + Drop, I: Inlet, O: Outlet> Hub<V, I, O> {
             return None;
         };
         Some(&self.sessions[place].outlet)
+    }
+
+    /// The channels that we were on when the connection was lost last, with their keys, in the
+    /// order of the keys of their names: those of the view before the last loss that was taken. No
+    /// channel before the first loss.
+    pub fn lost_channels(&self) -> &[LostChannel]
+        ensures { map joining result.now ≡ lost_channels (heard self.now) }
+    {
+        &self.lost
     }
 
     /// How many images were made: for each line pumped, and for each message forwarded, one for

@@ -12,6 +12,7 @@ ghost use Rattle.client_caps.specs.Moment.{is_tag_byte};
 ghost use Rattle.hub_ends.specs.Came.{came};
 ghost use Rattle.hub_core.specs.Given.{all_sets_but, given_but, packet_for};
 ghost use Rattle.hub_core.specs.Insides.{outlet_of, state_of, states_of};
+ghost use Rattle.hub_core.specs.LostChannels.{joining, lost_by};
 ghost use Rattle.hub_core.specs.Online.{is_welcome, says_online};
 ghost use Rattle.hub_core.specs.Pumping.{Comes, Pumps, Puts, Spends, counted, entry_for};
 ghost use Rattle.hub_core.specs.Pumping.{images_for, pong_for, with_entry};
@@ -19,6 +20,7 @@ ghost use Rattle.hub_core.specs.Pumping.{images_for, pong_for, with_entry};
 use crate::deliver::deliver;
 use crate::hub::{Hub, HubError, Pumped};
 use crate::image_table::Made;
+use crate::lost::{LostChannel, lost_by, renew};
 use crate::prepare::prepare;
 use crate::session::Session;
 use client_caps::{Moment, shown_time};
@@ -180,6 +182,38 @@ pub fn images_of(item: &Item, made: &Vec<Made>) -> u64
     }
 }
 
+/// Makes what an item from the network leads to: that for the sessions, and the channels to be
+/// joined again.
+fn prepare_arrival<V: NetworkView, O: Outlet>(
+    alloc: Global,
+    view: &V,
+    sessions: &mut Vec<Session<O>>,
+    history: &History,
+    item: &Item,
+    moment: Moment,
+    made: &mut Vec<Made>,
+) -> Result<(Option<Entry>, Option<Packet>, Option<Vec<LostChannel>>), HubError>
+    ensures states { states_of O.sent O.closed O.capacity O.free sessions.new.items
+        ≡ states_of O.sent O.closed O.capacity O.free sessions.old.items }
+    ensures made { IfOk result (λ r. (r.0 ≡ entry_for (arrival_of item.now, moment.0)) ×
+        (r.1 ≡ pong_for (arrival_of item.now)) ×
+        (option_map (λ channels. map joining channels.items) r.2
+        ≡ lost_by (V.view view.now) (arrival_of item.now))) }
+    ensures coming { OnOk result (AllByRecursion (λ s. s.coming
+        ≡ given_but None (packet_for (V.view view.now) (arrival_of item.now, moment.0))
+        (state_of O.sent O.closed O.capacity O.free s)) sessions.new.items) }
+    ensures numbered { IfOk result (λ r. IsSome r.0 → IsSome history.now.next) }
+    ensures sets { OnOk result (map (λ m. m.caps) made.new.items ≡ all_sets_but None []
+        (states_of O.sent O.closed O.capacity O.free sessions.old.items)) }
+    ensures spent { IsErrOf result HubError.Spent ↔
+        (IsSome (entry_for (arrival_of item.now, moment.0)) × (history.now.next ≡ None)) }
+{
+    let (entry, pong) =
+        prepare_item(alloc, view, sessions, history, item, moment, None, made)?;
+    let lost = lost_by(alloc, view, item)?;
+    Ok((entry, pong, lost))
+}
+
 impl<V: NetworkView + Drop, I: Inlet, O: Outlet> Hub<V, I, O> {
     /// Tries the held item, or else takes the next one from the inlet. For a line, each session is
     /// sent its image, as its client's capabilities have it, by the view before the line; a message
@@ -196,14 +230,13 @@ impl<V: NetworkView + Drop, I: Inlet, O: Outlet> Hub<V, I, O> {
         let Some((item, moment)) = next_item(&mut self.held, &mut self.inlet) else {
             return Ok(Pumped::Nothing);
         };
-        let (entry, pong) = match prepare_item(
+        let (entry, pong, lost) = match prepare_arrival(
             self.alloc,
             &self.view,
             &mut self.sessions,
             &self.history,
             &item,
             moment,
-            None,
             &mut self.made,
         ) {
             Ok(made) => made,
@@ -218,6 +251,7 @@ impl<V: NetworkView + Drop, I: Inlet, O: Outlet> Hub<V, I, O> {
         }
         self.images = self.images.saturating_add(images_of(&item, &self.made));
         self.online = online_after(self.online, &item);
+        renew(&mut self.lost, lost);
         keep(&mut self.history, entry);
         put(&mut self.upstream, pong);
         let cut = deliver(&mut self.sessions);

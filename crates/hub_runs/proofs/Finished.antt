@@ -7,13 +7,15 @@ use Rattle.hub_runs.specs.declared.outcome.Stop.{Stop}
 use Rattle.hub_runs.specs.Ran.{Ran}
 use Rattle.hub_runs.specs.Worlds.{Stops, WorldState}
 use Rattle.hub_runs.proofs.Chain.{Standing, finishes, stops}
+use Rattle.hub_runs.proofs.CourseOf.{Begins, course_part, course_whole}
 use Rattle.hub_runs.proofs.Numbers.{numbers_rise}
 
 -- all events are done
 pub ran_whole : (start : WorldState) (events : List Event) (done : ℕ) (replies : List Reply)
-    (w : WorldState) → done ≡ length events → Standing start (take done events) replies w
+    (w : WorldState) → done ≡ length events → Begins start
+    → Standing start (take done events) replies w
     → Ran start events done None replies w
-ran_whole start events done replies w whole s =
+ran_whole start events done replies w whole b s =
     let f = finishes start (take done events) replies w s in
     record {
       last = w;
@@ -22,16 +24,17 @@ ran_whole start events done replies w whole s =
       ends = (whole, refl, refl);
       heard_all = f.heard_all;
       late_attach = f.each;
+      course = course_whole start (take done events) replies w b s.so_far;
       numbers = λ first e. numbers_rise _ replies first start _ (inr e) s.so_far;
     }
 
 -- it stopped at an event
 pub ran_part : (start : WorldState) (events : List Event) (done : ℕ) (replies : List Reply)
     (last w : WorldState) (e : Event) (why : Stop) (taken : List Came)
-    → Standing start (take done events) replies last → slice_get events done ≡ Some e
+    → Begins start → Standing start (take done events) replies last → slice_get events done ≡ Some e
     → Stops e why last taken w.hub → w.gone ≡ last.gone
     → Ran start events done (Some why) replies w
-ran_part start events done replies last w e why taken s next so same =
+ran_part start events done replies last w e why taken b s next so same =
     let f = stops start (take done events) replies last e why taken w.hub s so in
     record {
       last = last;
@@ -40,5 +43,6 @@ ran_part start events done replies last w e why taken s next so same =
       ends = (e, next, so, same);
       heard_all = f.heard_all;
       late_attach = f.each;
+      course = course_part start (take done events) replies last e why taken w.hub b s.so_far so;
       numbers = λ first e. numbers_rise _ replies first start _ (inr e) s.so_far;
     }

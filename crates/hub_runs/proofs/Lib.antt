@@ -5,4 +5,9 @@ pub mod Told
 pub mod Steps
 pub mod Chain
 pub mod Numbers
+pub mod Course
+pub mod Upward
+pub mod Marked
+pub mod Following
+pub mod CourseOf
 pub mod Finished

@@ -1,4 +1,5 @@
 pub mod Transcripts
 pub mod Worlds
+pub mod Course
 pub mod Late
 pub mod Ran

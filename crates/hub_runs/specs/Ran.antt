@@ -6,6 +6,7 @@ use Rattle.hub_core.specs.States.{heard}
 use Rattle.hub_runs.specs.declared.event.Event.{Event}
 use Rattle.hub_runs.specs.declared.outcome.Reply.{Reply}
 use Rattle.hub_runs.specs.declared.outcome.Stop.{Stop}
+use Rattle.hub_runs.specs.Course.{Follows, course_of, with_items}
 use Rattle.hub_runs.specs.Late.{EachHasAttached}
 use Rattle.hub_runs.specs.Transcripts.{transcript_of}
 use Rattle.hub_runs.specs.Worlds.{AllHappen, Stops, WorldState, numbers_given}
@@ -33,6 +34,9 @@ pub record Ran (start : WorldState) (events : List Event) (done : ℕ) (stopped_
   -- each session's client knows what is to be known since it attached
   pub late_attach : EachHasAttached start (take done events) replies (heard world.hub)
       world.hub.sessions
+  -- what each session and the network were sent, which messages are kept and what each name has seen
+  -- is what all that happened says
+  pub course : Follows start.hub (with_items (course_of (take done events) replies) taken) world.hub
   -- the numbers of sessions rise by one from the first, so none was given twice
   pub numbers : (first : ℕ) → start.hub.next ≡ Some first
       → numbers_given replies ≡ range_with_len first (length (numbers_given replies))

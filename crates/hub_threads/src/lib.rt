@@ -25,7 +25,7 @@ pub use network::{Network, RingHub};
 pub use outlet_end::{OutletEnd, Stopper, outlet};
 pub use outlet_ring::RingOutlet;
 pub use patience::Patience;
-pub use pumping::{PumpEnd, pump_loop};
+pub use pumping::{PumpEnd, Refusals, pump_loop};
 pub use queued::{Counted, Queued};
 pub use reading::{ReadEnd, Reading, read_in};
 pub use writer::{Given, Writer, spawn_writer};

@@ -1,6 +1,7 @@
 //! A hub behind one lock.
 
 ghost use Rattle.std.specs.Sync.Mutex.{mutex_guard_value};
+ghost use Rattle.hub_core.specs.LostChannels.{lost_channels};
 ghost use Rattle.hub_core.specs.Online.{is_online};
 ghost use Rattle.hub_core.specs.Running.{IsRunning};
 ghost use Rattle.hub_core.specs.States.{heard, view_now};
@@ -38,7 +39,8 @@ impl<V: NetworkView + Drop> Network<V> {
     /// each session's lines agree with it.
     pub fn lock<R: Wait>(&self, rt: &R) -> MutexGuard<'_, Hub<V, RingInlet, RingOutlet>>
         ensures running { IsRunning (mutex_guard_value result) (view_now (mutex_guard_value result))
-            (is_online (heard (mutex_guard_value result))) }
+            (is_online (heard (mutex_guard_value result)))
+            (lost_channels (heard (mutex_guard_value result))) }
     {
         let hub = self.hub.lock(rt);
         hub.is_running();

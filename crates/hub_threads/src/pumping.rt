@@ -1,11 +1,15 @@
 //! The thread that takes items into a hub.
 
+ghost use Rattle.std.specs.Prelude.{◌≡◌, ℕ};
+ghost use Rattle.hub_threads.specs.Pumping.{end_after, refused_after};
+
 use crate::gate::{Clock, Gate, Point};
 use crate::network::Network;
 use crate::patience::Patience;
 use hub_core::{HubError, Pumped};
 use net_view::NetworkView;
 use std::alloc::Global;
+use std::marker::Model;
 use std::sync::Wait;
 
 /// How many refusals for memory there may be in succession.
@@ -20,6 +24,51 @@ pub enum PumpEnd {
     Memory,
     /// There is no number left for a message, which stays held.
     Spent,
+}
+
+/// How many allocations were refused in succession, counted up to 1,000: what decides when a
+/// loop of pumps ends.
+#[derive(Clone, Copy, Debug, PartialEq, Eq)]
+pub struct Refusals {
+    count: u32,
+}
+
+impl Model for Refusals {
+    ghost Value = { ℕ };
+
+    ghost view = { λ refusals. refusals.count };
+}
+
+impl Refusals {
+    /// No refusal.
+    pub fn none() -> Refusals
+        ensures { result ≡ 0 }
+    {
+        Refusals { count: 0 }
+    }
+
+    /// Counts what a pump answered, and tells whether the loop ends there: with `Spent` at the first
+    /// message without a number, with `Memory` at the thousandth refusal for memory in succession.
+    /// An item, or none, begins the count anew.
+    pub fn note(&mut self, outcome: Result<Pumped, HubError>) -> Option<PumpEnd>
+        ensures count { self.new ≡ refused_after self.old outcome }
+        ensures end { result ≡ end_after self.old outcome }
+    {
+        match outcome {
+            Ok(_) => {
+                self.count = 0;
+                None
+            }
+            Err(HubError::Spent) => Some(PumpEnd::Spent),
+            Err(HubError::OutOfMemory) => {
+                self.count = self.count.saturating_add(1).min(REFUSALS);
+                if self.count >= REFUSALS {
+                    return Some(PumpEnd::Memory);
+                }
+                None
+            }
+        }
+    }
 }
 
 /// Pumps this many times. A turn without an item counts, and so does a refusal for memory, after
@@ -37,25 +86,17 @@ pub fn pump_loop<V: NetworkView + Drop, G: Gate, C: Clock, R: Wait>(
     turns: u64,
 ) -> PumpEnd {
     let mut patience = Patience::new(alloc);
-    let mut refused = 0;
+    let mut refusals = Refusals::none();
     for _ in 0..turns {
         gate.pass(Point::BeforeStep);
         patience.give_time(rt, network, network.bell(), clock);
         let outcome = network.lock(rt).pump();
         gate.pass(Point::AfterStep);
-        match outcome {
-            Ok(Pumped::Taken { .. }) => refused = 0,
-            Ok(Pumped::Nothing) => {
-                refused = 0;
-                network.bell().sleep(rt, turns);
-            }
-            Err(HubError::Spent) => return PumpEnd::Spent,
-            Err(HubError::OutOfMemory) => {
-                refused += 1;
-                if refused >= REFUSALS {
-                    return PumpEnd::Memory;
-                }
-            }
+        if let Some(end) = refusals.note(outcome) {
+            return end;
+        }
+        if let Ok(Pumped::Nothing) = outcome {
+            network.bell().sleep(rt, turns);
         }
     }
     PumpEnd::Turns

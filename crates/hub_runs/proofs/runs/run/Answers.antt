@@ -1,4 +1,4 @@
-use Rattle.std.proofs.Common.{◌≡◌, ◌∙◌, ◌+◌, ◌<◌, ◌++◌, ◌∷◌, [], ℕ, List, Some, refl, sym, ap, arith, subst, length, take, slice_get}
+use Rattle.std.proofs.Common.{◌≡◌, ◌∙◌, ◌+◌, ◌<◌, ◌++◌, ◌∷◌, [], ℕ, List, Some, refl, sym, ap, arith, rules, subst, length, take, slice_get}
 use Rattle.std.specs.Vec.{vec_len, vec_capacity}
 use Rattle.std.proofs.lemmas.List.{take_more}
 use Rattle.std.proofs.lemmas.Option.{slice_get_read}
@@ -7,6 +7,7 @@ use Rattle.hub_runs.specs.declared.outcome.Reply.{Reply}
 use Rattle.hub_runs.specs.Ran.{Ran}
 use Rattle.hub_runs.specs.Worlds.{WorldState, beginning, outlets_of, world_of}
 use Rattle.hub_runs.proofs.Chain.{Standing, goes_on, starts}
+use Rattle.hub_runs.proofs.CourseOf.{begins}
 use Rattle.hub_runs.proofs.Finished.{ran_part, ran_whole}
 use Rattle.hub_runs.proofs.runs.run.Goals as goal
 
@@ -51,6 +52,7 @@ returns-in-Err-clause-ran g c =
     (sym c.apply.ensures.replies)
     (ran_part start events c.loop-event.done w.replies.items last world c.event-item.result
     c.in-Err.stop err.0
+    (begins s.history s.first_number s.first_session c.args.upstream_capacity (search rules))
     (counted start events i c.loop-event.done w.replies.items last inv.count inv.stands)
     (ap (slice_get events) inv.count
     ∙ slice_get_read events (length events) i c.event-item.result refl less c.event-item.is)
@@ -95,4 +97,5 @@ returns-clause-ran g c =
     let last = world_of w.hub w.splitter.rest (outlets_of w.gone.items) in
     let whole : c.loop-event.done ≡ length events = omega arith in
     ran_whole start events c.loop-event.done w.replies.items last whole
+    (begins s.history s.first_number s.first_session c.args.upstream_capacity (search rules))
     (counted start events i c.loop-event.done w.replies.items last inv.count inv.stands)

@@ -72,6 +72,7 @@ module _ (g : Given.Over) (c : goal.After-push_reserved g) where
         marks = c.admit.new.marks;
         images = c.self.inside.images;
         made = c.self.inside.made;
+        lost = c.self.inside.lost;
       }
 
   allowed : refusal_of old (option_map (λ n. n.now) c.args.name) ≡ None

@@ -43,6 +43,7 @@ module _ (g : Given.Over) (c : goal.Joined-gone-2 g) where
         marks = c.set_mark.new.marks;
         images = c.self.inside.images;
         made = c.self.inside.made;
+        lost = c.self.inside.lost;
       }
 
   abbrev front : List SessionState

@@ -1,4 +1,4 @@
-use Rattle.std.proofs.Common.{◌≡◌, ◌∙◌, ◌∷◌, ◌++◌, [], refl, sym, ap, subst, None}
+use Rattle.std.proofs.Common.{◌≡◌, ◌∙◌, ◌∷◌, ◌++◌, [], refl, sym, ap, subst, None, true, false}
 use Rattle.hub_core.specs.declared.hub.Hub.TheInside.{Inside}
 use Rattle.hub_core.specs.Insides.{hub_of}
 use Rattle.hub_core.specs.Given.{Delivered}
@@ -34,6 +34,9 @@ returns-then-is_for_all-2 g c =
     c.room.ensures.closed c.room.ensures.capacity c.room.ensures.more c.room.ensures.alone)
     c.spread.ensures.ok c.spread.ensures.err)
 
+not_both : true ≡ false → ⊥
+not_both e = cc
+
 forwards : (g : Given.Over) (c : goal.In-Ok-offer g) → Forwards g.O.Outlet.alone
     (old g c.self.inside) c.args.id c.args.line.now c.args.moment.0
     (with_upstream (old g c.self.inside) (outlet (g.O.Outlet.sent c.offer.new.self)
@@ -56,6 +59,7 @@ forwards g c =
           (old g c.self.inside).sessions (old g c.self.inside).sessions) (sym none)
           (nobody g.O.Outlet.alone (old g c.self.inside) c.args.id (old g c.self.inside).sessions);
       history = ap (λ o. with_entry (old g c.self.inside).history (entry_said o)) (sym none);
+      number = λ message. absurd (not_both (sym message ∙ sym c.if-is_for_all-2.ensures));
       images = ap (images_said (old g c.self.inside) c.args.id) (sym none);
       same = (refl, refl, refl, refl, refl, refl);
     }

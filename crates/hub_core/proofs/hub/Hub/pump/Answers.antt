@@ -1,6 +1,7 @@
-use Rattle.std.proofs.Common.{◌∙◌, ◌+◌, refl, sym, ap, subst, length, map, None}
+use Rattle.std.proofs.Common.{◌≡◌, ◌∷◌, [], ◌++◌, unwrap_or, ◌∙◌, ◌+◌, refl, sym, ap, subst, length, map, None}
 use Rattle.std.specs.Option.{option_map, option_map_or}
 use Rattle.hub_core.specs.Online.{says_online}
+use Rattle.hub_core.specs.LostChannels.{joining, lost_by, lost_channels}
 use Rattle.net_view.specs.View.{view_of}
 use Rattle.hub_ends.specs.Came.{Came, came}
 use Rattle.hub_core.specs.declared.session.Session.{Session}
@@ -11,7 +12,7 @@ use Rattle.std.specs.Prelude.{IsSome}
 use Rattle.hub_core.specs.Pumping.{Takes, Puts, pong_for, with_entry, images_for, counted}
 use Rattle.hub_core.proofs.Numbers.{puts_unsaid}
 use Rattle.hub_core.proofs.Prepared.{map_length}
-use Rattle.hub_core.proofs.Running.{goes_on, holds_on, online_more, left_states}
+use Rattle.hub_core.proofs.Running.{goes_on, holds_on, lost_more, online_more, left_states}
 use Rattle.hub_core.proofs.hub.Hub.pump.Goals as goal
 use Rattle.hub_core.proofs.hub.Hub.pump.Given
 
@@ -19,13 +20,13 @@ pub invariant_of-self-in-Err : goal.invariant_of-self-in-Err
 invariant_of-self-in-Err g c =
     holds_on g.I.Inlet.alone _ _ _ _ _
     record { taken = c.in-Some.ensures.taken; comes = c.in-Some.ensures.ahead }
-    c.self.invariant _ refl refl c.prepare_item.ensures.states refl refl refl
+    c.self.invariant _ refl refl c.prepare_arrival.ensures.states refl refl refl
 
 pub invariant_of-self-in-Err-take : goal.invariant_of-self-in-Err-take
 invariant_of-self-in-Err-take g c =
     holds_on g.I.Inlet.alone _ _ _ _ _
     record { taken = c.in-Some.ensures.taken; comes = c.in-Some.ensures.ahead }
-    c.self.invariant _ c.in-Err-take.ensures.kept refl c.prepare_item.ensures.states refl refl refl
+    c.self.invariant _ c.in-Err-take.ensures.kept refl c.prepare_arrival.ensures.states refl refl refl
 
 module _ (g : Given.Over) (c : goal.Joined-item g) where
   abbrev state : Session g.row.O.Denot → SessionState
@@ -52,7 +53,8 @@ module _ (g : Given.Over) (c : goal.Joined-item g) where
         first = c.self.inside.first;
         marks = c.self.inside.marks;
         images = c.saturating_add-self-inside.result;
-        made = c.prepare_item.new.made;
+        made = c.prepare_arrival.new.made;
+        lost = c.renew.new.channels;
       }
 
   abbrev item : Came
@@ -65,7 +67,7 @@ module _ (g : Given.Over) (c : goal.Joined-item g) where
       (map state c.deliver-cut.new.sessions.items)) c.self.invariant.view_is
       (subst (λ ss. Delivered g.O.Outlet.alone
       (λ s. packet_for (g.V.NetworkView.view c.self.inside.view) item s.caps) ss
-      (map state c.deliver-cut.new.sessions.items)) c.prepare_item.ensures.states
+      (map state c.deliver-cut.new.sessions.items)) c.prepare_arrival.ensures.states
       (c.deliver-cut.ensures.all
       (given_but None (packet_for (g.V.NetworkView.view c.self.inside.view) item))
       c.in-Ok.ensures.coming))
@@ -76,15 +78,27 @@ answered g c =
     subst (λ p. Puts g.O.Outlet.alone (old g c).upstream p (new g c).upstream)
     c.in-Ok.ensures.made.1 c.put.ensures
 
+lost_then : (g : Given.Over) (c : goal.Joined-item g)
+    → map joining c.renew.new.channels.items ≡ lost_channels (heard (old g c) ++ (item g c).0 ∷ [])
+lost_then g c =
+    c.renew.ensures
+    ∙ ap (λ o. unwrap_or o (map joining c.self.inside.lost.items)) c.in-Ok.ensures.made.2
+    ∙ ap (unwrap_or (lost_by (g.V.NetworkView.view c.self.inside.view) (item g c).0))
+    c.self.invariant.lost_is
+    ∙ ap (λ v. unwrap_or (lost_by v (item g c).0) (lost_channels (heard (old g c))))
+    c.self.invariant.view_is
+    ∙ lost_more (heard (old g c)) (item g c).0
+
 pub invariant_of-self-2 : goal.invariant_of-self-2
 invariant_of-self-2 g c =
     goes_on g.I.Inlet.alone _ _ _ _ _
     record { taken = c.in-Some.ensures.taken; comes = c.in-Some.ensures.ahead }
-    c.self.invariant g.O.Outlet.alone _ _ (ap (option_map came) c.in-Some.ensures.held)
+    c.self.invariant g.O.Outlet.alone _ _ _ (ap (option_map came) c.in-Some.ensures.held)
     (c.in_default-take.ensures.taken (heard (old g c)) c.self.invariant.view_is)
     (c.online_after-self-inside.ensures
     ∙ (ap (λ b. option_map_or (λ said. said) (says_online (item g c).0) b) c.self.invariant.online_is
     ∙ online_more (heard (old g c)) (item g c).0))
+    (lost_then g c)
     (delivered g c)
     (c.keep.ensures ∙ ap (with_entry c.self.inside.history) c.in-Ok.ensures.made.0) refl
     (λ some. c.in-Ok.ensures.numbered (subst IsSome (sym c.in-Ok.ensures.made.0) some))
@@ -99,13 +113,13 @@ takes g c = record {
   held = ap (option_map came) c.in-Some.ensures.held;
   sessions = delivered g c;
   left = left_states (state g c) _ _ _ c.deliver-cut.result c.deliver-cut.ensures.count
-      c.prepare_item.ensures.states;
+      c.prepare_arrival.ensures.states;
   upstream = answered g c;
   history = c.keep.ensures ∙ ap (with_entry c.self.inside.history) c.in-Ok.ensures.made.0;
   number = λ some. c.in-Ok.ensures.numbered (subst IsSome (sym c.in-Ok.ensures.made.0) some);
   images = c.saturating_add-self-inside.ensures ∙ ap (λ n. counted (c.self.inside.images + n))
       (c.images_of.ensures ∙ ap (images_for (item g c).0)
-      (sym (map_length (λ m. m.caps) c.prepare_item.new.made.items)
+      (sym (map_length (λ m. m.caps) c.prepare_arrival.new.made.items)
       ∙ ap length c.in-Ok.ensures.sets));
   same = (refl, refl, refl);
 }

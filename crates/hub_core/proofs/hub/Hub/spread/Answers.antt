@@ -64,6 +64,7 @@ module _ (g : Given.Over) (c : goal.Joined-own-2 g) where
         marks = c.self.inside.marks;
         images = c.saturating_add-self-inside.result;
         made = c.prepare_item.new.made;
+        lost = c.self.inside.lost;
       }
 
   is_own : is_message own ≡ true
@@ -105,6 +106,8 @@ module _ (g : Given.Over) (c : goal.Joined-own-2 g) where
     sessions = subst (λ o. Delivered g.O.Outlet.alone (given_others old c.args.id o) old.sessions
         new.sessions) (sym own_said) (delivered (view_now old) (sym c.self.invariant.view_is));
     history = kept ∙ ap (λ o. with_entry old.history (entry_said o)) (sym own_said);
+    number = λ message. subst (λ (h : HubState). IsSome h.history.next) (sym c.self.view_is)
+        c.requires.number;
     images = c.saturating_add-self-inside.ensures ∙ (ap (λ n. counted (old.images + n))
         (c.images_of.ensures ∙ (sym (map_length (λ m. m.caps) c.prepare_item.new.made.items)
         ∙ ap length c.in_ok-entry.ensures.sets))

@@ -1,0 +1,151 @@
+-- The channels of a view, and the key among a channel's modes.
+use Rattle.std.proofs.Common.{◌≡◌, ◌∙◌, ◌+◌, ◌<◌, ◌≤◌, ℕ, zero, suc, List, [], ◌∷◌, ◌++◌, refl, sym, ap, arith}
+use Rattle.std.proofs.Common.{Option, None, Some, Bool, true, false, length, map, take, subst, cond}
+use Rattle.std.proofs.Common.{append-nil, option_to_list}
+use Rattle.std.specs.Prelude.{drop}
+use Rattle.std.specs.List.{slice_get}
+use Rattle.std.specs.Option.{option_and_then, option_map, option_map_or}
+use Rattle.std.specs.Ordering.{MatchOrdering, nat_cmp, is_eq, eq_by_cmp}
+use Rattle.std.specs.declared.cmp.Ordering.TheVariants.{Less, Equal, Greater}
+use Rattle.std.proofs.lemmas.Cmp.{ranked}
+use Rattle.std.specs.FinMap as fin
+use Rattle.std.specs.FinMap.Entries.{find}
+use Rattle.std.proofs.lemmas.List.{take_all}
+use Rattle.std.proofs.lemmas.Option.{slice_get-map}
+use Rattle.irc_support.specs.Text.{Text}
+use Rattle.net_view.specs.View.{Channel, View}
+use Rattle.net_view.specs.Readers.{channel_shown, channels_shown, mode_shown}
+use Rattle.welcome.specs.Lent.{modes_at}
+use Rattle.welcome.proofs.Places.{Mode, mode_here, take_next, take_whole}
+use Rattle.hub_core.specs.LostChannels.{Joining, channels_of_view, key_of_channel}
+
+-- ---- the key
+
+-- the key found among these modes
+abbrev pub key_in : List Mode → Option Text
+key_in modes = option_and_then (λ param. param) (find nat_cmp 107 modes)
+
+-- the key of the channel at a place is found among its modes
+pub key_at : (v : View) (i : ℕ)
+    → option_and_then key_of_channel (channel_shown v i) ≡ key_in (modes_at v i)
+key_at v i = go (channel_shown v i) where
+  go : (o : Option Channel) → option_and_then key_of_channel o
+      ≡ key_in (option_map_or (λ (ch : Channel). fin.entries ch.modes) o [])
+  go None = refl
+  go (Some ch) = ap (option_and_then (λ param. param)) (fin.get-entries ch.modes 107)
+
+drop_found : {X : Type 0} (xs : List X) (j : ℕ) (x : X) → slice_get xs j ≡ Some x
+    → drop j xs ≡ x ∷ drop (j + 1) xs
+drop_found [] j x e = cc
+drop_found (y ∷ ys) zero x e =
+    let f : y ≡ x = cc in ap (λ z. z ∷ ys) f
+drop_found (y ∷ ys) (suc j) x e =
+    let n : suc (j + 1) ≡ suc j + 1 = omega arith in
+    drop_found ys j x e ∙ ap (λ k. x ∷ drop k (y ∷ ys)) n
+
+drop_past : {X : Type 0} (xs : List X) (j : ℕ) → slice_get xs j ≡ None → drop j xs ≡ []
+drop_past [] zero e = refl
+drop_past [] (suc j) e = refl
+drop_past (y ∷ ys) zero e = cc
+drop_past (y ∷ ys) (suc j) e = drop_past ys j e
+
+-- the letter k is found
+is_k : (letter : ℕ) → letter ≡ 107 → eq_by_cmp nat_cmp 107 letter ≡ true
+is_k letter e = ap (eq_by_cmp nat_cmp 107) e
+
+is_no_k : (letter : ℕ) → (letter ≡ 107 → ⊥) → eq_by_cmp nat_cmp 107 letter ≡ false
+is_no_k letter other =
+    elim (nat_cmp 107 letter)
+    as (λ r. MatchOrdering r (107 < letter) (107 ≡ letter) (letter < 107) → is_eq r ≡ false) [
+      | Less ↦ λ _. refl
+      | Equal ↦ λ e. absurd (other (sym e))
+      | Greater ↦ λ _. refl
+    ] (ranked 107 letter (nat_cmp 107 letter) refl)
+
+-- what is found from a place on, where another letter stands there
+pub key_later : (v : View) (i j letter : ℕ) (param : Option Text)
+    → mode_shown v i j ≡ Some (letter, param) → (letter ≡ 107 → ⊥)
+    → key_in (drop j (modes_at v i)) ≡ key_in (drop (j + 1) (modes_at v i))
+key_later v i j letter param e other =
+    ap key_in (drop_found (modes_at v i) j (letter, param) (sym (mode_here v i j) ∙ e))
+    ∙ ap (λ b. option_and_then (λ param. param)
+    (cond b (Some param) (find nat_cmp 107 (drop (j + 1) (modes_at v i))))) (is_no_k letter other)
+
+-- where the letter stands there, its parameter is the key
+pub key_here : (v : View) (i j letter : ℕ) (param : Option Text)
+    → mode_shown v i j ≡ Some (letter, param) → letter ≡ 107
+    → key_in (drop j (modes_at v i)) ≡ param
+key_here v i j letter param e same =
+    ap key_in (drop_found (modes_at v i) j (letter, param) (sym (mode_here v i j) ∙ e))
+    ∙ ap (λ b. option_and_then (λ param. param)
+    (cond b (Some param) (find nat_cmp 107 (drop (j + 1) (modes_at v i))))) (is_k letter same)
+
+-- behind the last mode there is none
+pub key_past : (v : View) (i j : ℕ) → mode_shown v i j ≡ None
+    → key_in (drop j (modes_at v i)) ≡ None
+key_past v i j e =
+    ap key_in (drop_past (modes_at v i) j (sym (mode_here v i j) ∙ e))
+
+-- ---- the channels
+
+abbrev pub join_of : Channel → Joining
+join_of channel = (channel.name, key_of_channel channel)
+
+pub channel_at_place : (v : View) (i : ℕ)
+    → slice_get (channels_of_view v) i ≡ option_map join_of (channel_shown v i)
+channel_at_place v i =
+    slice_get-map (λ (e : Text × Channel). join_of e.1) (fin.entries v.channels) i
+    ∙ again (slice_get (fin.entries v.channels) i) where
+      again : (o : Option (Text × Channel))
+          → option_map (λ (e : Text × Channel). join_of e.1) o
+          ≡ option_map join_of (option_map (λ e. e.1) o)
+      again None = refl
+      again (Some e) = refl
+
+-- one place further
+pub channels_more : (v : View) (i : ℕ) (now : List Joining) → now ≡ take i (channels_of_view v)
+    → now ++ option_to_list (slice_get (channels_of_view v) i) ≡ take (i + 1) (channels_of_view v)
+channels_more v i now is =
+    ap (λ l. l ++ option_to_list (slice_get (channels_of_view v) i)) is
+    ∙ sym (take_next (channels_of_view v) i)
+
+map_long : {X Y : Type 0} (f : X → Y) (xs : List X) → length (map f xs) ≡ length xs
+map_long f [] = refl
+map_long f (x ∷ xs) = ap suc (map_long f xs)
+
+-- all of them
+pub channels_all : (v : View) (i : ℕ) → channels_shown v ≤ i
+    → take i (channels_of_view v) ≡ channels_of_view v
+channels_all v i past =
+    let n : length (channels_of_view v) ≡ channels_shown v =
+    map_long (λ (e : Text × Channel). join_of e.1) (fin.entries v.channels) in
+    take_all i (channels_of_view v) (omega (n, past, arith))
+
+-- ---- one of them
+
+-- a channel is added by its name and its key
+pub added : (v : View) (i : ℕ) (name copy : Text) (key : Option Text)
+    → Some name ≡ option_map (λ (ch : Channel). ch.name) (channel_shown v i) → copy ≡ name
+    → key ≡ option_and_then key_of_channel (channel_shown v i)
+    → (copy, key) ∷ [] ≡ option_to_list (slice_get (channels_of_view v) i)
+added v i name copy key e same k =
+    go (channel_shown v i) e k ∙ ap option_to_list (sym (channel_at_place v i)) where
+      go : (o : Option Channel) → Some name ≡ option_map (λ (ch : Channel). ch.name) o
+          → key ≡ option_and_then key_of_channel o
+          → (copy, key) ∷ [] ≡ option_to_list (option_map join_of o)
+      go None e k = cc
+      go (Some ch) e k =
+          let n : name ≡ ch.name = cc in
+          (λ i. ((same ∙ n) i, k i) ∷ [])
+
+-- where there is no channel, nothing is
+pub none_added : (v : View) (i : ℕ) (now : List Joining)
+    → None ≡ option_map (λ (ch : Channel). ch.name) (channel_shown v i)
+    → now ≡ now ++ option_to_list (slice_get (channels_of_view v) i)
+none_added v i now e =
+    sym (ap (λ l. now ++ option_to_list l) (channel_at_place v i ∙ none (channel_shown v i) e)
+    ∙ append-nil now) where
+      none : (o : Option Channel) → None ≡ option_map (λ (ch : Channel). ch.name) o
+          → option_map join_of o ≡ None
+      none None e = refl
+      none (Some ch) e = cc
