@@ -1,15 +1,16 @@
 -- A hub is as what happened says, after a list of events and where a run stops.
-use Rattle.std.proofs.Common.{◌≡◌, ◌∙◌, ◌<◌, ◌==◌, ◌^◌, ℕ, List, [], ◌∷◌, ◌++◌, refl, sym, ap, subst, inl, inr}
+use Rattle.std.proofs.Common.{◌≡◌, ◌∙◌, ◌<◌, ◌==◌, ◌^◌, ℕ, List, [], ◌∷◌, ◌++◌, refl, sym, ap, arith, subst, inl, inr}
 use Rattle.std.proofs.Common.{Option, None, Some, Bool, true, false, cond, reverse}
 use Rattle.std.specs.Prelude.{Result, Ok, Err}
 use Rattle.std.specs.List.{AllByRecursion}
-use Rattle.std.specs.Option.{option_map}
+use Rattle.std.specs.FinMap.{get-empty}
+use Rattle.std.specs.Option.{option_and_then}
 use Rattle.irc_line.specs.Line.{Parts}
 use Rattle.irc_support.specs.Text.{Text}
 use Rattle.client_caps.specs.Answers.{answer_to}
 use Rattle.client_caps.specs.declared.caps.Caps.{Caps}
 use Rattle.client_caps.specs.declared.moment.Moment.{Moment}
-use Rattle.history.specs.Marks.{mark_of}
+use Rattle.history.specs.Marks.{bytes_cmp, mark_of}
 use Rattle.history.proofs.LastMessages.{none}
 use Rattle.hub_ends.specs.Came.{Came}
 use Rattle.hub_core.specs.declared.hub.HubError.{HubError}
@@ -32,12 +33,13 @@ use Rattle.hub_runs.specs.Course.{given_to, rest_behind, view_then, with_event, 
 use Rattle.hub_runs.specs.Worlds.{AllHappen, Happens, RefusesAmong, RefusesItem, Stops, WorldState}
 use Rattle.hub_runs.specs.Worlds.{beginning}
 use Rattle.hub_runs.proofs.Course.{each_quiet, plain_asked}
-use Rattle.hub_runs.proofs.Following.{Followed, asked, cut, drained_at, drained_up, joined, left, now_seen}
+use Rattle.hub_runs.proofs.Following.{Followed, asked, cut, drained_at, drained_up, joined, kept_still, left}
+use Rattle.hub_runs.proofs.Following.{now_seen}
 use Rattle.hub_runs.proofs.Following.{spoke, took, took_all}
 use Rattle.hub_runs.proofs.Upward.{ups_quiet}
 
 module _ (capacity first up : ℕ) where
-  F : List Deed → HubState → Type 0
+  abbrev F : List Deed → HubState → Type 0
   F = Followed capacity first up
 
   still : (ds : List Deed) (h new : HubState) → F ds h → new ≡ h → F ds new
@@ -47,9 +49,9 @@ module _ (capacity first up : ℕ) where
   all_so [] = tt
   all_so (s ∷ ss) = (tt, all_so ss)
 
-  none_either : {A : Type 0} (b : Bool) → cond b {A = Option A} None None ≡ None
-  none_either true = refl
-  none_either false = refl
+  none_either : (b : Bool) (p : Option (List Parts)) → cond b p p ≡ p
+  none_either true p = refl
+  none_either false p = refl
 
   -- a line that asks for nothing was answered by nothing
   unasked : (ds : List Deed) (h : HubState) (id : ℕ) (line : Parts) → F ds h
@@ -61,10 +63,10 @@ module _ (capacity first up : ℕ) where
     sent = each_quiet capacity first (λ s. Unit {0}) (Asked id line) ds h.sessions
         (plain_asked capacity first id line)
         (λ s t. ap (λ m. cond (id == s.id) (answer_by m (view_then ds) s.caps line) None) e
-        ∙ none_either (id == s.id)) (all_so h.sessions) f.sent;
+        ∙ none_either (id == s.id) None) (all_so h.sessions) f.sent;
     fine = f.fine;
     apart = f.apart;
-    history = f.history;
+    history = f.history ∙ kept_still capacity first up ds;
     ups = ups_quiet up (Asked id line) ds h.upstream refl refl f.ups;
     marks = f.marks;
   }
@@ -145,10 +147,7 @@ module _ (capacity first up : ℕ) where
     ap (λ (k : WorldState). k.rest) h.1,
   )
   event_done ds w (on.Said id line moment) (reply.Said r) mid f h =
-      (says ds w.rest w.hub id line moment r mid.hub f h.0 h.1, rest_same r h.2) where
-        rest_same : (r : _) → mid.rest ≡ w.rest
-            → mid.rest ≡ rest_behind w.rest (on.Said id line moment)
-        rest_same r e = e
+      (says ds w.rest w.hub id line moment r mid.hub f h.0 h.1, h.2)
   event_done ds w (on.Drained (Some id) most) (reply.Drained taken) mid f h =
       (drained_at capacity first up ds w.hub id most taken mid.hub f h.0, h.1)
   event_done ds w (on.Drained None most) (reply.Drained taken) mid f h =
@@ -240,7 +239,7 @@ begins history first_number first_session upstream_capacity small = (
     apart = tt;
     history = none history first_number small;
     ups = record { sent = refl; room = omega arith; unclosed = refl; size = refl };
-    marks = λ name. refl;
+    marks = λ name. ap (option_and_then (λ mark. mark)) (get-empty bytes_cmp name);
   },
   refl,
 )

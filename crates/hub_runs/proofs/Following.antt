@@ -2,6 +2,7 @@
 use Rattle.std.proofs.Common.{◌≡◌, ◌∙◌, ◌+◌, ◌<◌, ◌==◌, ◌^◌, ℕ, List, [], ◌∷◌, ◌++◌, refl, sym, ap, arith}
 use Rattle.std.proofs.Common.{Option, None, Some, Bool, true, false, subst, inl, inr, cond, is_some, nat_lt}
 use Rattle.std.proofs.Common.{append-nil, reverse, option_to_list}
+use Rattle.std.proofs.lemmas.Bool.Decides.{eqb_tells}
 use Rattle.std.proofs.lemmas.List.{map-append, reverse-append}
 use Rattle.std.specs.Prelude.{IfSome, IsSome, Result, Ok, Err, if◌then◌else◌}
 use Rattle.std.specs.List.{AllByRecursion}
@@ -13,7 +14,7 @@ use Rattle.net_view.specs.View.{View, view_of, view_back}
 use Rattle.client_caps.specs.declared.caps.Caps.{Caps}
 use Rattle.history.specs.Entry.{is_message}
 use Rattle.history.specs.Marks.{NameMarks, mark_of}
-use Rattle.history.specs.Messages.{Messages, missed_by, number_after}
+use Rattle.history.specs.Messages.{Messages, history_of, missed_by, number_after}
 use Rattle.welcome.specs.Playback.{burst_of}
 use Rattle.hub_ends.specs.Came.{Came, arrivals}
 use Rattle.hub_core.specs.declared.hub.Pumped.{Pumped}
@@ -21,7 +22,8 @@ use Rattle.hub_core.specs.declared.hub.Pumped.TheVariants as pumped
 use Rattle.hub_core.specs.declared.said.Meant.TheVariants as means
 use Rattle.hub_core.specs.States.{OutletState, SessionState, HubState, heard, view_now}
 use Rattle.hub_core.specs.Given.{Delivered, Sends, packet_for, with_outlet}
-use Rattle.hub_core.specs.Attaching.{Attaches, Detaches, Lacks, last_number, marked, with_name}
+use Rattle.hub_core.specs.Attaching.{Attaches, Detaches, Lacks, last_number, marked, missed}
+use Rattle.hub_core.specs.Attaching.{with_name}
 use Rattle.hub_core.specs.InMemory.{DrainsAt, DrainsSession, DrainsUpstream}
 use Rattle.hub_core.specs.Pumping.{Puts, entry_for, pong_for, with_entry}
 use Rattle.hub_core.specs.Saying.{Answers, Around, Cuts, Forwards, entry_said, from_us, given_others}
@@ -59,10 +61,8 @@ other_outlet marks next s o f = record { known = f.known; below = below next f.b
   below (Some n) b = b
 
 differ : (a b : ℕ) → (b ≡ a → ⊥) → (a == b) ≡ false
-differ a b other = go (a == b) refl where
-  go : (t : Bool) → (a == b) ≡ t → t ≡ false
-  go true e = absurd (other (sym (equal_of a b e)))
-  go false e = refl
+differ a b other =
+    elim (eqb_tells a b) [ inl e ↦ absurd (other (sym e.1)) | inr e ↦ e.0 ]
 
 module _ (capacity first up : ℕ) where
   -- what there is between calls
@@ -83,8 +83,13 @@ module _ (capacity first up : ℕ) where
   unfolding view_of
   view_seen ds h f = ap view_back f.seen
 
-  now_seen : (ds : List Deed) (h : HubState) → Followed ds h → view_now h ≡ view_then ds
+  pub now_seen : (ds : List Deed) (h : HubState) → Followed ds h → view_now h ≡ view_then ds
   now_seen ds h f = ap view_of (heard_is h f.held) ∙ view_seen ds h f
+
+  -- no message came
+  pub kept_still : (ds : List Deed)
+      → kept_then capacity first ds ≡ history_of capacity first (messages ds ++ [])
+  kept_still ds = ap (history_of capacity first) (sym (append-nil (messages ds)))
 
   -- ---- an item
 
@@ -133,14 +138,14 @@ module _ (capacity first up : ℕ) where
 
   -- ---- a line of a session
 
-  nothing_either : (b : Bool) → None ≡ cond b {A = Option (List Parts)} None None
-  nothing_either true = refl
-  nothing_either false = refl
+  nothing_either : (b : Bool) (p : Option (List Parts)) → p ≡ cond b p p
+  nothing_either true p = refl
+  nothing_either false p = refl
 
   others_are : (h : HubState) (id : ℕ) (s : SessionState) (o : Option Came)
       → given_others h id o s
       ≡ cond (id == s.id) None (option_and_then (λ x. packet_for (view_now h) x s.caps) o)
-  others_are h id s None = nothing_either (id == s.id)
+  others_are h id s None = nothing_either (id == s.id) None
   others_are h id s (Some x) = refl
 
   pub spoke : (ds : List Deed) (h : HubState) (id : ℕ) (line : Parts) (moment : ℕ) (new : HubState)
@@ -190,7 +195,8 @@ module _ (capacity first up : ℕ) where
   others_quiet ds id line ss others each =
       each_quiet capacity first (λ s. (id == s.id) ≡ false) (Asked id line) ds ss
       (course.plain_asked capacity first id line)
-      (λ s other. ap (λ b. cond b _ None) other) others each
+      (λ s other. ap
+      (λ b. cond b (answer_by (meaning line) (view_then ds) s.caps line) None) other) others each
 
   front_others : (id : ℕ) (front : List SessionState) → Lacks id front
       → AllByRecursion (λ s. (id == s.id) ≡ false) front
@@ -238,7 +244,7 @@ module _ (capacity first up : ℕ) where
             (each_front F a.front (a.here ∷ a.back) fine)
             (other_outlet h.marks h.next a.here o fine_rest.0, fine_rest.1);
         apart = apart_put a.front a.here o a.back apart;
-        history = f.history;
+        history = f.history ∙ kept_still ds;
         ups = ups_quiet up d ds h.upstream refl refl f.ups;
         marks = f.marks;
       })
@@ -300,7 +306,7 @@ module _ (capacity first up : ℕ) where
         fine = marked_fine h.marks h.next d.gone.name (last_number h.history) (d.front ++ d.back)
             (each_append F d.front d.back (each_front F d.front (d.gone ∷ d.back) fine) gone_fine.1);
         apart = apart_without d.front d.gone d.back (subst Apart d.was f.apart);
-        history = f.history;
+        history = f.history ∙ kept_still ds;
         ups = ups_quiet up (Left id) ds h.upstream refl refl f.ups;
         marks = λ name.
             marked_mark h.marks d.gone.name (last_number h.history) name gone_fine.0.known
@@ -325,8 +331,10 @@ module _ (capacity first up : ℕ) where
       let other : (id == s.id) ≡ false = is_other s.id id fine.0.below in
       (
         (
-          each.0.0 ∙ ap (λ b. cond b _ (packets capacity first s.id ds)) (sym other),
-          ap (λ b. cond b _ (joined_as s.id ds)) other ∙ each.0.1,
+          each.0.0
+              ∙ ap (λ b. cond b (burst_of (view_then ds) caps (missed_then capacity first name ds) ∷ [])
+              (packets capacity first s.id ds)) (sym other),
+          ap (λ b. cond b (Some (name, caps)) (joined_as s.id ds)) other ∙ each.0.1,
         ),
         joined_quiet ds id name caps marks ss fine.1 each.1,
       )
@@ -379,7 +387,7 @@ module _ (capacity first up : ℕ) where
             (joined_quiet ds id name caps h.marks h.sessions fine f.sent) (
               (
                 a.sent.sent
-                    ∙ (ap (λ v. burst_of v caps _ ∷ []) (now_seen ds h f)
+                    ∙ (ap (λ v. burst_of v caps (missed h name) ∷ []) (now_seen ds h f)
                     ∙ (ap (λ m. burst_of (view_then ds) caps (missed_by m h.history) ∷ [])
                     (marks_same name ds h.marks f.marks)
                     ∙ (ap (λ k. burst_of (view_then ds) caps
@@ -401,7 +409,7 @@ module _ (capacity first up : ℕ) where
               tt,
             );
         apart = apart_more h.sessions s (all_below h.marks id h.sessions fine) f.apart;
-        history = f.history;
+        history = f.history ∙ kept_still ds;
         ups = ups_quiet up d ds h.upstream refl refl f.ups;
         marks = λ n. named_mark h.marks name n ∙ f.marks n;
       })
@@ -419,7 +427,7 @@ module _ (capacity first up : ℕ) where
             (course.plain_drained capacity first taken) (λ s t. refl) (all_so h.sessions) f.sent;
         fine = f.fine;
         apart = f.apart;
-        history = f.history;
+        history = f.history ∙ kept_still ds;
         ups = ups_drained up ds h.upstream d.given most taken d.drained f.ups;
         marks = f.marks;
       }) where

@@ -29,8 +29,8 @@ entry_more capacity first ms (Some e) number =
           ≡ history_of capacity first (ms ++ e ∷ [])
       go None next some = cc
       go (Some n) next some =
-          ap (λ o. option_map_or (λ number. with_message number e (history_of capacity first ms))
-          (history_of capacity first ms) o) next
+          ap (λ o. option_map_or (λ number. with_message number e (history_of capacity first ms)) o
+          (history_of capacity first ms)) next
           ∙ one_more capacity first n ms e next
 
 -- ---- names
@@ -55,8 +55,8 @@ known_insert marks n q value is =
 
 either_way : (b : Bool) (P : NameMarks → Type 0) (x y : NameMarks) → (b ≡ true → P x)
     → (b ≡ false → P y) → P (if b then x else y)
-either_way true P x y yes no = yes refl
-either_way false P x y yes no = no refl
+either_way true P x y found missed = found refl
+either_way false P x y found missed = missed refl
 
 not_there : (o : Option (Option ℕ)) → is_some o ≡ false → o ≡ None
 not_there None e = refl
@@ -66,7 +66,7 @@ pub admitted_stays : (marks : NameMarks) (n q : Text) → contains_key marks q �
     → contains_key (admitted n marks) q ≡ true
 admitted_stays marks n q is =
     either_way (contains_key marks n) (λ m. contains_key m q ≡ true) marks (insert marks n None)
-    (λ yes. is) (λ no. known_insert marks n q None is)
+    (λ there. is) (λ lacks. known_insert marks n q None is)
 
 same_key : (n : Text) → eq_by_cmp bytes_cmp n n ≡ true
 same_key n = same_refl n
@@ -74,22 +74,22 @@ same_key n = same_refl n
 pub admitted_there : (marks : NameMarks) (n : Text) → contains_key (admitted n marks) n ≡ true
 admitted_there marks n =
     either_way (contains_key marks n) (λ m. contains_key m n ≡ true) marks (insert marks n None)
-    (λ yes. yes)
-    (λ no. ap is_some (got marks n n None)
+    (λ there. there)
+    (λ lacks. ap is_some (got marks n n None)
     ∙ ap (λ b. is_some (cond b (Some None) (get marks n))) (same_key n))
 
 pub admitted_mark : (marks : NameMarks) (n q : Text) → mark_of q (admitted n marks) ≡ mark_of q marks
 admitted_mark marks n q =
     either_way (contains_key marks n) (λ m. mark_of q m ≡ mark_of q marks) marks
-    (insert marks n None) (λ yes. refl)
-    (λ no. ap (option_and_then (λ mark. mark)) (got marks n q None)
-    ∙ either (eq_by_cmp bytes_cmp q n) refl no) where
+    (insert marks n None) (λ there. refl)
+    (λ lacks. ap (option_and_then (λ mark. mark)) (got marks n q None)
+    ∙ either (eq_by_cmp bytes_cmp q n) refl lacks) where
       either : (b : Bool) → eq_by_cmp bytes_cmp q n ≡ b → contains_key marks n ≡ false
           → option_and_then (λ mark. mark) (cond b (Some None) (get marks q)) ≡ mark_of q marks
-      either false e no = refl
-      either true e no =
+      either false e lacks = refl
+      either true e lacks =
           let same : q ≡ n = is_same q n e in
-          let none : get marks q ≡ None = ap (get marks) same ∙ not_there (get marks n) no in
+          let none : get marks q ≡ None = ap (get marks) same ∙ not_there (get marks n) lacks in
           sym (ap (option_and_then (λ mark. mark)) none)
 
 pub named_stays : (marks : NameMarks) (name : Option Text) (q : Text) → contains_key marks q ≡ true
@@ -114,7 +114,7 @@ marked_stays marks None number q is = is
 marked_stays marks (Some n) None q is = is
 marked_stays marks (Some n) (Some k) q is =
     either_way (contains_key marks n) (λ m. contains_key m q ≡ true) (insert marks n (Some k)) marks
-    (λ yes. known_insert marks n q (Some k) is) (λ no. is)
+    (λ there. known_insert marks n q (Some k) is) (λ lacks. is)
 
 pub marked_mark : (marks : NameMarks) (name : Option Text) (number : Option ℕ) (q : Text)
     → Known marks name

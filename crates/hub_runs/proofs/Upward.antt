@@ -58,9 +58,10 @@ is_below a b less = grind (arith, nat_tests)
 is_full : (a b : ℕ) → b ≤ a → nat_lt a b ≡ false
 is_full a b past = grind (arith, nat_tests)
 
-none_either : (b : Bool) → (if b then option_to_list {A = List Parts} None else []) ≡ []
-none_either true = refl
-none_either false = refl
+none_either : (b : Bool) (packets : List (List Parts)) → packets ≡ []
+    → (if b then packets else []) ≡ []
+none_either true packets e = e
+none_either false packets e = refl
 
 -- an item was taken, and answered where there was room
 pub ups_took : (up : ℕ) (x : Came) (ds : List Deed) (o o' : OutletState) (p : Option (List Parts))
@@ -68,7 +69,7 @@ pub ups_took : (up : ℕ) (x : Came) (ds : List Deed) (o o' : OutletState) (p : 
 ups_took up x ds o o' None e puts u =
     let none : up_by up (waiting up ds) (Took x) ≡ [] =
     ap (λ q. if nat_lt (waiting up ds) up then option_to_list q else []) e
-    ∙ none_either (nat_lt (waiting up ds) up) in
+    ∙ none_either (nat_lt (waiting up ds) up) (option_to_list None) refl in
     subst (Ups up (Took x ∷ ds)) (sym puts) (ups_quiet up (Took x) ds o none refl u)
 ups_took up x ds o o' (Some p) e puts u =
     let r : o.free + waiting up ds ≡ up = u.room in

@@ -2,7 +2,7 @@
 -- network is sent, which messages are kept, and what each client name has seen. All is found by
 -- looking back over what happened, the newest first.
 use Rattle.std.specs.Prelude.{◌≡◌, ◌+◌, ◌-◌, ◌==◌, ℕ, List, [], ◌∷◌, ◌++◌, Option, None, Some, Bool}
-use Rattle.std.specs.Prelude.{Ok, cond, length, nat_lt, if◌then◌else◌}
+use Rattle.std.specs.Prelude.{Ok, cond, false, length, nat_lt, if◌then◌else◌}
 use Rattle.std.specs.List.{AllByRecursion}
 use Rattle.std.specs.Option.{option_and_then, option_map, option_to_list}
 use Rattle.std.specs.Ordering.{eq_by_cmp}
