@@ -28,7 +28,7 @@ pub enum PumpEnd {
 
 /// How many allocations were refused in succession, counted up to 1,000: what decides when a
 /// loop of pumps ends.
-#[derive(Clone, Copy, Debug)]
+#[derive(Debug, Drop)]
 pub struct Refusals {
     count: u32,
 }
