@@ -8,8 +8,10 @@ use crate::link::Link;
 use crate::log::tell;
 use crate::shared::{Served, Shared};
 use crate::timed::{OnSilence, Patient, Until};
-use hub_threads::{FreeGate, InletEnd, Network, OutletEnd, ReadEnd, Reading, Stopper, Written};
-use hub_threads::{put_lines, read_in, write_out};
+use hub_threads::{
+    FreeGate, InletEnd, Network, OutletEnd, ReadEnd, Reading, Stopper, Written, put_lines, read_in,
+    write_out,
+};
 use irc_line::{Line, Splitter};
 use quick_view::QuickView;
 use std::alloc::Global;
@@ -178,12 +180,7 @@ fn cause_of(ended: ReadEnd) -> &'static str {
 
 /// Dials once, and serves the connection to its end.
 fn dial<
-    R: Threads
-        + Wait
-        + Clock
-        + Eprint
-        + Net<Listener = TcpListener, Stream = TcpStream>
-        + Sync,
+    R: Threads + Wait + Clock + Eprint + Net<Listener = TcpListener, Stream = TcpStream> + Sync,
 >(rt: &R, alloc: Global, served: &Served<'_>, link: Link) -> Link {
     let address = served.settings.address();
     let retry = served.limits.retry.as_secs();
@@ -219,12 +216,7 @@ fn dial<
 /// as often as the limits say, with the time between two dials. It is dialled once its hub has
 /// taken the loss of the last connection; what waited for that is dropped.
 pub fn stay_connected<
-    R: Threads
-        + Wait
-        + Clock
-        + Eprint
-        + Net<Listener = TcpListener, Stream = TcpStream>
-        + Sync,
+    R: Threads + Wait + Clock + Eprint + Net<Listener = TcpListener, Stream = TcpStream> + Sync,
 >(rt: &R, alloc: Global, shared: &Shared, at: usize, link: Link) {
     let Some(served) = shared.served(at) else {
         return;

@@ -4,10 +4,9 @@ use crate::limits::Limits;
 use crate::link::{Link, network_with_link};
 use crate::shown::Who;
 use bnc_config::{Config, NetworkConfig, Place};
-use history::CapacityError;
 use hub_threads::Network;
 use quick_view::QuickView;
-use std::alloc::Global;
+use std::alloc::{AllocError, Global};
 use std::sync::Arc;
 use std::sync::atomic::{AtomicU64, Ordering};
 
@@ -50,12 +49,12 @@ impl Drop for Seat {
 
 impl Shared {
     /// What the threads of these settings share, with the link of each network, in the order of the
-    /// networks. `BadCapacity` is not told, since settings have none.
+    /// networks. `AllocError` is told where an allocation was refused.
     pub fn new(
         alloc: Global,
         config: Config,
         limits: Limits,
-    ) -> Result<(Shared, Vec<Link>), CapacityError> {
+    ) -> Result<(Shared, Vec<Link>), AllocError> {
         let mut networks = Vec::new(alloc);
         let mut links = Vec::new(alloc);
         for user in 0..config.user_count() {

@@ -12,7 +12,7 @@ const SHOWN: usize = 64;
 pub struct Shown<'a>(pub &'a [u8]);
 
 /// How a byte is shown.
-fn shown(byte: u8) -> char {
+fn sign_of(byte: u8) -> char {
     if byte.is_ascii_graphic() {
         char::from(byte)
     } else {
@@ -23,7 +23,7 @@ fn shown(byte: u8) -> char {
 impl fmt::Display for Shown<'_> {
     fn fmt<W: fmt::Write>(&self, f: &mut fmt::Formatter<W>) -> fmt::Result {
         for byte in self.0.iter().take(SHOWN) {
-            f.write_char(shown(*byte))?;
+            f.write_char(sign_of(*byte))?;
         }
         Ok(())
     }

@@ -75,9 +75,7 @@ impl<I: Read + OpenStream + Drop, C: Clock + Drop> Until<I, C> {
 
 impl<I: Read + OpenStream + Drop, C: Clock + Drop> Read for Until<I, C> {
     fn read(&mut self, buf: &mut [u8]) -> io::Result<usize> {
-        let left = self
-            .limit
-            .saturating_sub(self.start.elapsed(&self.clock)?);
+        let left = self.limit.saturating_sub(self.start.elapsed(&self.clock)?);
         if left.is_zero() {
             return Err(io::Error::from(ErrorKind::TimedOut));
         }
