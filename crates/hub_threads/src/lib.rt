@@ -27,6 +27,6 @@ pub use outlet_ring::RingOutlet;
 pub use patience::Patience;
 pub use pumping::{PumpEnd, Refusals, pump_loop};
 pub use queued::{Counted, Queued};
-pub use reading::{ReadEnd, Reading, read_in};
+pub use reading::{ReadEnd, Reading, put_lines, read_in};
 pub use writer::{Given, Writer, spawn_writer};
 pub use writing::{WriteFault, Written, write_out};

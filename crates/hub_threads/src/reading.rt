@@ -63,8 +63,8 @@ fn put_waiting<R: Wait>(rt: &R, end: &mut InletEnd, item: Item, moment: Moment)
     unreachable!()
 }
 
-/// Puts lines, in order.
-fn put_lines<R: Wait>(rt: &R, end: &mut InletEnd, lines: Vec<Line>, moment: Moment)
+/// Puts lines, in order. Where the ring is full it sleeps until there is room.
+pub fn put_lines<R: Wait>(rt: &R, end: &mut InletEnd, lines: Vec<Line>, moment: Moment)
     ensures { arrivals (put_of end.new)
         ≡ arrivals (put_of end.old) ++ map Received lines.items }
 {

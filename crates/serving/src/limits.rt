@@ -1,0 +1,67 @@
+//! How long things may take, and how many there may be.
+
+use keep::Watch;
+use std::time::Duration;
+
+/// How long things may take, and how many there may be: of the program by [`Limits::of_program`],
+/// in a test smaller ones.
+#[derive(Clone, Copy)]
+pub struct Limits {
+    /// How many connections of clients are accepted.
+    pub accepts: u64,
+    /// How many connections may wait for their login at once.
+    pub logins: u64,
+    /// From a connection's first byte to the end of its login.
+    pub login: Duration,
+    /// From a wrong password to its answer.
+    pub wrong_password: Duration,
+    /// After a connection could not be accepted, or no thread be started for it.
+    pub pause: Duration,
+    /// One write to a client or to a network.
+    pub write: Duration,
+    /// How the system watches the connections of clients.
+    pub watch: Watch,
+    /// How often a network is dialled.
+    pub dials: u64,
+    /// Between the end of a connection to a network, or of the attempt at one, and the next dial.
+    pub retry: Duration,
+    /// For one address of a network to answer.
+    pub connect: Duration,
+    /// From the connection to a network to its welcome.
+    pub registration: Duration,
+    /// After so long without a byte from a network it is sent a PING.
+    pub silence: Duration,
+    /// After so many of these in succession its connection is shut.
+    pub silences: u32,
+    /// How many turns a pump makes at a time.
+    pub turns: u64,
+    /// How many packets may wait for a network, and how many items of it for its hub; 0 counts as
+    /// 1.
+    pub packets: usize,
+}
+
+impl Limits {
+    /// Those of the program, with the time between two dials that the settings give, in seconds.
+    pub fn of_program(retry: u64) -> Limits {
+        Limits {
+            accepts: u64::MAX,
+            logins: 256,
+            login: Duration::from_secs(60),
+            wrong_password: Duration::from_secs(1),
+            pause: Duration::from_millis(100),
+            write: Duration::from_secs(30),
+            watch: Watch {
+                idle: 60,
+                limit: 60_000,
+            },
+            dials: u64::MAX,
+            retry: Duration::from_secs(retry),
+            connect: Duration::from_secs(30),
+            registration: Duration::from_secs(120),
+            silence: Duration::from_secs(120),
+            silences: 2,
+            turns: u64::MAX,
+            packets: 256,
+        }
+    }
+}

@@ -1,0 +1,73 @@
+//! What comes from outside, as it stands in the log.
+
+use client_caps::Caps;
+use std::fmt;
+
+/// How many bytes of a text are shown.
+const SHOWN: usize = 64;
+
+/// A text of a peer or of the settings: its first 64 bytes, each that is no letter, digit or sign
+/// of ASCII as `?`. So it can't look like another line of the log.
+#[derive(Clone, Copy)]
+pub struct Shown<'a>(pub &'a [u8]);
+
+/// How a byte is shown.
+fn sign_of(byte: u8) -> char {
+    if byte.is_ascii_graphic() {
+        char::from(byte)
+    } else {
+        '?'
+    }
+}
+
+impl fmt::Display for Shown<'_> {
+    fn fmt<W: fmt::Write>(&self, f: &mut fmt::Formatter<W>) -> fmt::Result {
+        for byte in self.0.iter().take(SHOWN) {
+            f.write_char(sign_of(*byte))?;
+        }
+        Ok(())
+    }
+}
+
+/// The capabilities of a client by their names, as `multi-prefix batch`, or `no capabilities`.
+#[derive(Clone, Copy)]
+pub struct Held(pub Caps);
+
+impl fmt::Display for Held {
+    fn fmt<W: fmt::Write>(&self, f: &mut fmt::Formatter<W>) -> fmt::Result {
+        if self.0 == Caps::none() {
+            return f.write_str("no capabilities");
+        }
+        let mut gap = "";
+        for place in 0..6 {
+            if let (true, Some(name)) = (self.0.holds(place), Caps::name(place)) {
+                f.write_str(gap)?;
+                write!(f, "{}", Shown(name))?;
+                gap = " ";
+            }
+        }
+        Ok(())
+    }
+}
+
+/// Of whom the log tells: a user's network, and the client of a session where it has a name.
+#[derive(Clone, Copy)]
+pub struct Who<'a> {
+    /// The user's name.
+    pub user: &'a [u8],
+    /// The client's name.
+    pub client: Option<&'a [u8]>,
+    /// The network's name.
+    pub network: &'a [u8],
+}
+
+impl fmt::Display for Who<'_> {
+    /// As `ann@pc/net`, or `ann/net` without a client.
+    fn fmt<W: fmt::Write>(&self, f: &mut fmt::Formatter<W>) -> fmt::Result {
+        write!(f, "{}", Shown(self.user))?;
+        if let Some(client) = self.client {
+            write!(f, "@{}", Shown(client))?;
+        }
+        write!(f, "/{}", Shown(self.network))
+    }
+}

@@ -1,0 +1,85 @@
+//! Readers over a connection, with a limit on its silence or on the whole of what is read.
+
+use std::io;
+use std::io::{ErrorKind, Read};
+use std::net::OpenStream;
+use std::rt::Clock;
+use std::time::{Duration, Instant};
+
+/// What is done where nothing came for a while.
+pub trait OnSilence {
+    /// Does it.
+    fn silent(&mut self);
+}
+
+/// A reader that does something where its input is silent, and fails where it stays so. How long a
+/// silence is, is the input's own limit to a read.
+#[derive(Drop)]
+pub struct Patient<I: Read + Drop, S: OnSilence + Drop> {
+    input: I,
+    on_silence: S,
+    silences: u32,
+}
+
+impl<I: Read + Drop, S: OnSilence + Drop> Patient<I, S> {
+    /// A reader that fails at the last of so many silences in succession, and does something at
+    /// each before it.
+    pub fn new(input: I, on_silence: S, silences: u32) -> Patient<I, S> {
+        Patient {
+            input,
+            on_silence,
+            silences,
+        }
+    }
+}
+
+/// Whether a read ended since nothing came in time.
+pub fn is_silence(error: &io::Error) -> bool {
+    error.kind() == ErrorKind::WouldBlock || error.kind() == ErrorKind::TimedOut
+}
+
+impl<I: Read + Drop, S: OnSilence + Drop> Read for Patient<I, S> {
+    fn read(&mut self, buf: &mut [u8]) -> io::Result<usize> {
+        for _ in 1..self.silences {
+            match self.input.read(buf) {
+                Err(error) if is_silence(&error) => self.on_silence.silent(),
+                read => return read,
+            }
+        }
+        self.input.read(buf)
+    }
+}
+
+/// A reader over a connection that fails from a moment on. It sets the connection's limit to a
+/// read, which all handles of the connection share.
+#[derive(Drop)]
+pub struct Until<I: Read + OpenStream + Drop, C: Clock + Drop> {
+    input: I,
+    clock: C,
+    start: Instant,
+    limit: Duration,
+}
+
+impl<I: Read + OpenStream + Drop, C: Clock + Drop> Until<I, C> {
+    /// A reader that fails once this time is over, from now on.
+    pub fn start(input: I, clock: C, limit: Duration) -> io::Result<Until<I, C>> {
+        let start = Instant::now(&clock)?;
+        Ok(Until {
+            input,
+            clock,
+            start,
+            limit,
+        })
+    }
+}
+
+impl<I: Read + OpenStream + Drop, C: Clock + Drop> Read for Until<I, C> {
+    fn read(&mut self, buf: &mut [u8]) -> io::Result<usize> {
+        let left = self.limit.saturating_sub(self.start.elapsed(&self.clock)?);
+        if left.is_zero() {
+            return Err(io::Error::from(ErrorKind::TimedOut));
+        }
+        self.input.set_read_timeout(Some(left))?;
+        self.input.read(buf)
+    }
+}
