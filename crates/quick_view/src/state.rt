@@ -163,14 +163,15 @@ impl<A: Allocator + Copy> State<A> {
     {
         let mapping = self.support.mapping();
         let channel = Sought::Name(mapping, channel);
-        if !self.rooms.contains(channel) {
+        let mut near = usize::MAX;
+        if !self.rooms.contains_near(&mut near, channel) {
             return Ok(());
         }
         let member = new_member(self.alloc, mapping, who, Ranks::none())?;
         let person = new_person(self.alloc, mapping, who)?;
         let account = copy_of_told(self.alloc, account)?;
         self.people.reserve(1)?;
-        seat(self.alloc, &mut self.rooms, channel, member)?;
+        seat(self.alloc, &mut self.rooms, near, channel, member)?;
         name_person(self.alloc, &mut self.people, person, account);
         Ok(())
     }
@@ -232,9 +233,10 @@ impl<A: Allocator + Copy> State<A> {
         let account = copy_of_told(self.alloc, account)?;
         self.rooms.reserve(1)?;
         self.people.reserve(1)?;
-        let again = self.rooms.contains(Sought::Name(mapping, channel));
+        let mut near = usize::MAX;
+        let again = self.rooms.contains_near(&mut near, Sought::Name(mapping, channel));
         name_person(self.alloc, &mut self.people, person, account);
-        self.rooms.insert(room);
+        self.rooms.insert_near(&mut near, room);
         if again {
             retain_seen(&mut self.people, &self.rooms);
         }
@@ -274,10 +276,11 @@ impl<A: Allocator + Copy> State<A> {
         ensures kept { OnErr result (view_kept self.new ≡ view_kept self.old) }
     {
         let channel = Sought::Name(self.support.mapping(), channel);
+        let mut near = usize::MAX;
         let mut room = no_room(self.alloc);
-        if self.rooms.swap(channel, &mut room) {
+        if self.rooms.swap(&mut near, channel, &mut room) {
             let changed = change_room(self.alloc, &mut room, &self.support, line);
-            self.rooms.swap(channel, &mut room);
+            self.rooms.swap(&mut near, channel, &mut room);
             changed
         } else {
             Ok(())
@@ -313,21 +316,22 @@ impl<A: Allocator + Copy> State<A> {
         ensures kept { OnErr result (view_kept self.new ≡ view_kept self.old) }
     {
         let channel = Sought::Name(self.support.mapping(), channel);
-        if !self.rooms.contains(channel) {
+        let mut near = usize::MAX;
+        if !self.rooms.contains_near(&mut near, channel) {
             return Ok(());
         }
         let listed = listed_in(self.alloc, &self.support, line)?;
         self.people.reserve(listed.len())?;
         let mut room = no_room(self.alloc);
-        self.rooms.swap(channel, &mut room);
+        self.rooms.swap(&mut near, channel, &mut room);
         match room.members.reserve(listed.len()) {
             Ok(()) => {
                 keep_all(self.alloc, &mut room.members, &mut self.people, listed);
-                self.rooms.swap(channel, &mut room);
+                self.rooms.swap(&mut near, channel, &mut room);
                 Ok(())
             }
             Err(refused) => {
-                self.rooms.swap(channel, &mut room);
+                self.rooms.swap(&mut near, channel, &mut room);
                 Err(refused)
             }
         }

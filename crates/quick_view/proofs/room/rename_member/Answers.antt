@@ -6,7 +6,7 @@ use Rattle.quick_view.proofs.room.rename_member.Goals as goal
 
 pub returns-in-None : goal.returns-in-None
 returns-in-None g c =
-    renamed_none (λ ranks. ranks) c.args.members.now.all c.remove.new.self.all
+    renamed_none (λ ranks. ranks) c.args.members.now.all c.remove_by.new.self.all
     c.forget.new.self.all (sought_key c.args.old) c.args.new.items
-    c.in-None.ensures.value c.remove.ensures.all
-    (c.forget.ensures ∙ ap (fin.remove c.remove.new.self.all) c.deref.ensures.value)
+    c.in-None.ensures.value c.remove_by.ensures.all
+    (c.forget.ensures ∙ ap (fin.remove c.remove_by.new.self.all) c.deref.ensures.value)
