@@ -6,14 +6,13 @@ ghost use Rattle.std.specs.List.{All, list_any};
 ghost use Rattle.std.specs.FinMap as fin;
 ghost use Rattle.net_view.specs.Step.{is_seen, old_member};
 ghost use Rattle.net_view.specs.Changes.{with_topic, with_ranks, without_member, fresh_channel};
-ghost use Rattle.net_view.specs.Changes.{renamed_in, renamed_channel};
 ghost use Rattle.irc_names.specs.CaseMapping.{key_of};
 ghost use Rattle.quick_view.specs.Shown.{shown};
 ghost use Rattle.quick_view.specs.Head.{head_of, AreBytesTo};
 ghost use Rattle.quick_view.specs.Sought.{sought_key};
 ghost use Rattle.quick_view.specs.People.{changed_at};
 ghost use Rattle.quick_view.specs.Rooms.{channel_of, rooms_of, with_modes, room_entry};
-ghost use Rattle.quick_view.specs.Rooms.{each_changed, is_in};
+ghost use Rattle.quick_view.specs.Rooms.{each_changed, is_in, moved_in, moved_channel};
 
 use crate::OutOfMemory;
 use crate::modes::Modes;
@@ -199,24 +198,29 @@ fn unseat_each<A: Allocator>(rooms: &mut [Slot<Room<A>, A>], who: Sought<'_>)
     }
 }
 
-/// Gives a member another key. Whoever stood under that one is gone.
+/// Gives a member another key. Whoever stood under that one is gone, where it may be taken.
 fn rename_member<A: Allocator>(
     members: &mut Members<A>,
     head: u64,
     old: Sought<'_>,
+    taken: bool,
     new: Vec<u8, A>,
 )
     requires head { head ≡ head_of (sought_key old) }
     requires bytes { AreBytesTo 8 (sought_key old) }
     ensures { members.new.all
-        ≡ renamed_in (λ ranks. ranks) (sought_key old.entry) new.items members.old.all }
+        ≡ moved_in taken (sought_key old.entry) new.items members.old.all }
 {
     match members.remove_by(head, old) {
         Some(mut member) => {
             member.key = new;
             members.insert(member);
         }
-        None => members.forget(&new),
+        None => {
+            if taken {
+                members.forget(&new);
+            }
+        }
     }
 }
 
@@ -240,18 +244,20 @@ pub(crate) fn copies<A: Allocator + Copy>(
 fn rename_each<A: Allocator>(
     rooms: &mut [Slot<Room<A>, A>],
     old: Sought<'_>,
+    taken: bool,
     new: &[u8],
     keys: &mut Vec<Vec<u8, A>, A>,
 )
     requires enough { length rooms.old ≤ length keys.old.items }
     requires copies { All (λ k. k.items ≡ new.now) keys.old.items }
     ensures { map room_entry rooms.new
-        ≡ each_changed (renamed_channel (sought_key old.entry) new.now) (map room_entry rooms.old) }
+        ≡ each_changed (moved_channel taken (sought_key old.entry) new.now)
+        (map room_entry rooms.old) }
 {
     let head = head(old);
     for room in rooms.iter_mut() {
         match keys.pop() {
-            Some(key) => rename_member(&mut room.entry.value.members, head, old, key),
+            Some(key) => rename_member(&mut room.entry.value.members, head, old, taken, key),
             None => unreachable!(),
         }
     }
@@ -274,12 +280,11 @@ impl<A: Allocator> Table<Room<A>, A> {
     ghost use Rattle.std.specs.Prelude.{◌≡◌, ◌≤◌, length};
     ghost use Rattle.std.specs.List.{All};
     ghost use Rattle.std.specs.FinMap as fin;
-    ghost use Rattle.net_view.specs.Changes.{renamed_channel};
     ghost use Rattle.net_view.specs.Step.{is_seen};
     ghost use Rattle.net_view.specs.Changes.{without_member};
     ghost use Rattle.quick_view.specs.Shown.{shown};
     ghost use Rattle.quick_view.specs.Sought.{sought_key};
-    ghost use Rattle.quick_view.specs.Rooms.{rooms_of};
+    ghost use Rattle.quick_view.specs.Rooms.{rooms_of, moved_channel};
 
     /// Takes a member off all channels.
     pub(crate) fn unseat_all(&mut self, who: Sought<'_>)
@@ -289,14 +294,21 @@ impl<A: Allocator> Table<Room<A>, A> {
         unseat_each(&mut self.entries, who);
     }
 
-    /// Gives a member another key in all channels, for each of which there is a copy of it.
-    pub(crate) fn rename_all(&mut self, old: Sought<'_>, new: &[u8], keys: &mut Vec<Vec<u8, A>, A>)
+    /// Gives a member another key in all channels, for each of which there is a copy of it. Where
+    /// the other key may be taken, whoever stood under it is gone.
+    pub(crate) fn rename_all(
+        &mut self,
+        old: Sought<'_>,
+        taken: bool,
+        new: &[u8],
+        keys: &mut Vec<Vec<u8, A>, A>,
+    )
         requires enough { length (fin.entries self.old.all) ≤ length keys.old.items }
         requires copies { All (λ k. k.items ≡ new.now) keys.old.items }
         ensures { rooms_of self.new.all
-            ≡ shown (renamed_channel (sought_key old.entry) new.now) (rooms_of self.old.all) }
+            ≡ shown (moved_channel taken (sought_key old.entry) new.now) (rooms_of self.old.all) }
     {
-        rename_each(&mut self.entries, old, new, keys);
+        rename_each(&mut self.entries, old, taken, new, keys);
     }
 
     /// Whether somebody is a member of one of the channels.

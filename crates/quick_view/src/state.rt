@@ -243,10 +243,11 @@ impl<A: Allocator + Copy> State<A> {
         Ok(())
     }
 
-    /// A NICK that counts, ours or another's.
+    /// A NICK that counts, ours or another's. Who is not in sight is a member of no channel.
     pub(crate) fn rename(&mut self, ours: bool, old: &[u8], new: &[u8]) -> Result<(), OutOfMemory>
-        ensures taken { OnOk result (view_kept self.new ≡ renamed_view (view_kept self.old) ours
-            (key_by self.old.support old.now) (key_by self.old.support new.now) new.now) }
+        ensures taken { OnOk result (IsKnowing (view_kept self.old) → view_kept self.new
+            ≡ renamed_view (view_kept self.old) ours (key_by self.old.support old.now)
+            (key_by self.old.support new.now) new.now) }
         ensures kept { OnErr result (view_kept self.new ≡ view_kept self.old) }
     {
         let mapping = self.support.mapping();
@@ -255,7 +256,8 @@ impl<A: Allocator + Copy> State<A> {
         let own = Vec::from_slice(self.alloc, new)?;
         let mut keys = copies(self.alloc, &key, self.rooms.len())?;
         let old = Sought::Name(mapping, old);
-        self.rooms.rename_all(old, &key, &mut keys);
+        let taken = self.people.get(Sought::Key(&key)).is_some();
+        self.rooms.rename_all(old, taken, &key, &mut keys);
         rename_person(&mut self.people, old, key, nick);
         if ours {
             self.own = Some(own);
