@@ -1,5 +1,5 @@
 -- A value that is taken out of a table, changed, and put back.
-use Rattle.std.specs.Prelude.{◌≡◌, true, false, cond, is_some}
+use Rattle.std.specs.Prelude.{◌≡◌, Bool, true, false, cond, is_some, List}
 use Rattle.std.specs.Option.{option_map, option_map_or, unwrap_or}
 use Rattle.std.specs.Cmp.Lexicographic.{nat_list_cmp_total}
 use Rattle.std.specs.declared.vec.Vec.{Vec}
@@ -7,7 +7,11 @@ use Rattle.std.specs.FinMap as fin
 use Rattle.std.proofs.Common.{ℕ, Option, Some, None, refl, sym, ap, ◌∙◌}
 use Rattle.irc_support.specs.Text.{Text}
 use Rattle.net_view.specs.Names.{bytes_cmp, same}
-use Rattle.net_view.specs.Changes.{told_person, renamed_in}
+use Rattle.net_view.specs.Changes.{told_person, renamed_in, renamed_channel}
+use Rattle.net_view.specs.Step.{is_seen, old_member}
+use Rattle.net_view.specs.View.{Channel}
+use Rattle.net_view.proofs.AfterMaps.{seen_in}
+use Rattle.quick_view.specs.Rooms.{moved_in, moved_channel}
 use Rattle.net_view.proofs.Keys.{bytes_exact, same_refl}
 use Rattle.net_view.proofs.AfterAlike.{put_again, removed_none}
 use Rattle.quick_view.specs.Table.{swapped_in, swapped_out}
@@ -171,6 +175,45 @@ renamed_some change m m1 m2 old new x y some first last is =
     last ∙ (λ i. fin.insert (first i) new (is i))
     ∙ ap (λ o. option_map_or (λ x. fin.insert (fin.remove m old) new (change x)) o (fin.remove m
     new)) some
+
+-- a member's key moved, where nobody may stand under the other one
+pub moved_none : (m m1 : fin.FinMap bytes_cmp (List ℕ)) (old new : Text) → None ≡ fin.get m old → m1
+    ≡ fin.remove m old → m1 ≡ moved_in false old new m
+moved_none m m1 old new none first =
+    first ∙ removed_none m old (sym none)
+    ∙ ap (λ o. option_map_or (λ ranks. fin.insert (fin.remove m old) new ranks) o m) none
+
+not_by : (b s : Bool) → (b ≡ true → s ≡ true) → s ≡ false → b ≡ false
+not_by true s f e = sym (f refl) ∙ e
+not_by false s f e = refl
+
+-- who is a member of no channel need not leave any
+pub freely_moved : (cs : fin.FinMap bytes_cmp Channel) (taken : Bool) (old new : Text) →
+    (taken ≡ false → is_seen cs new ≡ false) →
+    shown (moved_channel taken old new) cs ≡ shown (renamed_channel old new) cs
+freely_moved cs true old new free = refl
+freely_moved cs false old new free =
+    fin.same_map nat_list_cmp_total bytes_exact _ _ (λ q.
+    get-shown bytes_cmp (moved_channel false old new) cs q
+    ∙ at q (fin.get cs q) refl
+    ∙ sym (get-shown bytes_cmp (renamed_channel old new) cs q)) where
+      gone : (q : Text) (ch : Channel) → fin.get cs q ≡ Some ch → fin.get ch.members new ≡ None
+      gone q ch e = none_of (fin.get ch.members new) (not_by (is_some (fin.get ch.members new))
+          (is_seen cs new) (λ h. seen_in cs q new (ap (λ o. is_some (old_member o new)) e ∙ h))
+          (free refl))
+      at : (q : Text) (o : Option Channel) → fin.get cs q ≡ o → option_map (moved_channel false old
+          new) (fin.get cs q) ≡ option_map (renamed_channel old new) (fin.get cs q)
+      at q None e = ap (option_map (moved_channel false old new)) e
+          ∙ sym (ap (option_map (renamed_channel old new)) e)
+      at q (Some ch) e = ap (option_map (moved_channel false old new)) e
+          ∙ (λ i. Some (record {
+            name = ch.name;
+            topic = ch.topic;
+            modes = ch.modes;
+            members = option_map_or (λ ranks. fin.insert (fin.remove ch.members old) new ranks)
+                (fin.get ch.members old) (sym (removed_none ch.members new (gone q ch e)) i);
+          }))
+          ∙ sym (ap (option_map (renamed_channel old new)) e)
 
 -- put back as another
 pub put_new : {X Y : Type 0} (f : X → Y) (m m1 m2 : fin.FinMap bytes_cmp X) (k : Text) (h old new :

@@ -1,6 +1,6 @@
 -- Channels that we are on.
-use Rattle.std.specs.Prelude.{List, map, Bool}
-use Rattle.std.specs.Option.{option_map}
+use Rattle.std.specs.Prelude.{ℕ, List, map, Bool, if◌then◌else◌}
+use Rattle.std.specs.Option.{option_map, option_map_or}
 use Rattle.std.specs.Ordering.{nat_cmp}
 use Rattle.std.specs.FinMap as fin
 use Rattle.std.proofs.Common.{Option}
@@ -44,4 +44,20 @@ with_modes modes ch = record {
   modes = modes;
   members =
       ch.members;
+}
+
+-- members after one got another key; whoever stood under that one is gone, where it may be taken
+abbrev pub moved_in : Bool → Text → Text → fin.FinMap bytes_cmp (List ℕ) → fin.FinMap bytes_cmp
+    (List ℕ)
+moved_in taken old new m =
+    option_map_or (λ ranks. fin.insert (fin.remove m old) new ranks) (fin.get m old)
+    (if taken then fin.remove m new else m)
+
+-- a channel after that
+abbrev pub moved_channel : Bool → Text → Text → Channel → Channel
+moved_channel taken old new ch = record {
+  name = ch.name;
+  topic = ch.topic;
+  modes = ch.modes;
+  members = moved_in taken old new ch.members;
 }

@@ -118,11 +118,12 @@ fn change_rank<A: Allocator, B: Allocator>(
         return;
     }
     let who = Sought::Name(support.mapping(), nick);
-    let Some(ranks) = members.get(who) else {
+    let mut near = usize::MAX;
+    let Some(ranks) = members.get_near(&mut near, who) else {
         return;
     };
     let mut changed = with_change(*ranks, change.plus, rank);
-    members.swap(who, &mut changed);
+    members.swap(&mut near, who, &mut changed);
 }
 
 /// Makes all changes of the ranks.

@@ -80,11 +80,12 @@ pub(crate) fn name_person<A: Allocator + Copy>(
     ensures room { people.old.spare ≤ people.new.spare + 1 }
 {
     let mut person = person;
+    let mut near = usize::MAX;
     let mut old = nobody(alloc);
-    people.swap(Sought::Key(&person.key), &mut old);
+    people.swap(&mut near, Sought::Key(&person.key), &mut old);
     person.value.account = account.unwrap_or(old.account);
     person.value.away = old.away;
-    people.insert(person);
+    people.insert_near(&mut near, person);
 }
 
 /// Changes a person's account, where the person is in sight.
@@ -98,10 +99,11 @@ pub(crate) fn set_account<A: Allocator + Copy>(
         who.entry)
         (with_account (option_map (λ t. t.items) account)) }
 {
+    let mut near = usize::MAX;
     let mut person = nobody(alloc);
-    if people.swap(who, &mut person) {
+    if people.swap(&mut near, who, &mut person) {
         person.account = account;
-        people.swap(who, &mut person);
+        people.swap(&mut near, who, &mut person);
     }
 }
 
@@ -116,10 +118,11 @@ pub(crate) fn set_away<A: Allocator + Copy>(
         who.entry)
         (with_away (option_map (λ t. t.items) away)) }
 {
+    let mut near = usize::MAX;
     let mut person = nobody(alloc);
-    if people.swap(who, &mut person) {
+    if people.swap(&mut near, who, &mut person) {
         person.away = away;
-        people.swap(who, &mut person);
+        people.swap(&mut near, who, &mut person);
     }
 }
 

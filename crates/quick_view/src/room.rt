@@ -6,18 +6,18 @@ ghost use Rattle.std.specs.List.{All, list_any};
 ghost use Rattle.std.specs.FinMap as fin;
 ghost use Rattle.net_view.specs.Step.{is_seen, old_member};
 ghost use Rattle.net_view.specs.Changes.{with_topic, with_ranks, without_member, fresh_channel};
-ghost use Rattle.net_view.specs.Changes.{renamed_in, renamed_channel};
 ghost use Rattle.irc_names.specs.CaseMapping.{key_of};
 ghost use Rattle.quick_view.specs.Shown.{shown};
+ghost use Rattle.quick_view.specs.Head.{head_of, AreBytesTo};
 ghost use Rattle.quick_view.specs.Sought.{sought_key};
 ghost use Rattle.quick_view.specs.People.{changed_at};
 ghost use Rattle.quick_view.specs.Rooms.{channel_of, rooms_of, with_modes, room_entry};
-ghost use Rattle.quick_view.specs.Rooms.{each_changed, is_in};
+ghost use Rattle.quick_view.specs.Rooms.{each_changed, is_in, moved_in, moved_channel};
 
 use crate::OutOfMemory;
 use crate::modes::Modes;
 use crate::slot::{Entry, Slot};
-use crate::sought::Sought;
+use crate::sought::{Sought, head};
 use crate::table::Table;
 use irc_names::CaseMapping;
 use irc_support::Ranks;
@@ -100,10 +100,11 @@ pub(crate) fn set_topic<A: Allocator + Copy>(
         channel.entry)
         (with_topic (option_map (λ t. t.items) topic)) }
 {
+    let mut near = usize::MAX;
     let mut room = no_room(alloc);
-    if rooms.swap(channel, &mut room) {
+    if rooms.swap(&mut near, channel, &mut room) {
         room.topic = topic;
-        rooms.swap(channel, &mut room);
+        rooms.swap(&mut near, channel, &mut room);
     }
 }
 
@@ -118,10 +119,11 @@ pub(crate) fn set_modes<A: Allocator + Copy>(
         channel.entry)
         (with_modes modes) }
 {
+    let mut near = usize::MAX;
     let mut room = no_room(alloc);
-    if rooms.swap(channel, &mut room) {
+    if rooms.swap(&mut near, channel, &mut room) {
         room.modes = modes;
-        rooms.swap(channel, &mut room);
+        rooms.swap(&mut near, channel, &mut room);
     }
 }
 
@@ -139,10 +141,11 @@ fn add_member<A: Allocator>(
     Ok(())
 }
 
-/// Makes somebody a member of a channel, where we are on it.
+/// Makes somebody a member of a channel, near the place where it stood last, where we are on it.
 pub(crate) fn seat<A: Allocator + Copy>(
     alloc: A,
     rooms: &mut Rooms<A>,
+    near: usize,
     channel: Sought<'_>,
     member: Box<Entry<Ranks, A>, A>,
 ) -> Result<(), OutOfMemory>
@@ -150,10 +153,11 @@ pub(crate) fn seat<A: Allocator + Copy>(
         (sought_key channel.entry) (with_ranks member.value.key.items member.value.value)) }
     ensures kept { OnErr result (rooms_of rooms.new.all ≡ rooms_of rooms.old.all) }
 {
+    let mut near = near;
     let mut room = no_room(alloc);
-    if rooms.swap(channel, &mut room) {
+    if rooms.swap(&mut near, channel, &mut room) {
         let added = add_member(&mut room.members, member);
-        rooms.swap(channel, &mut room);
+        rooms.swap(&mut near, channel, &mut room);
         added
     } else {
         Ok(())
@@ -172,10 +176,11 @@ pub(crate) fn unseat<A: Allocator + Copy>(
     ensures was { result ≡ is_some (old_member
         (fin.get (rooms_of rooms.old.all) (sought_key channel.entry)) (sought_key who.entry)) }
 {
+    let mut near = usize::MAX;
     let mut room = no_room(alloc);
-    if rooms.swap(channel, &mut room) {
+    if rooms.swap(&mut near, channel, &mut room) {
         let was = room.members.remove(who);
-        rooms.swap(channel, &mut room);
+        rooms.swap(&mut near, channel, &mut room);
         was.is_some()
     } else {
         false
@@ -187,22 +192,35 @@ fn unseat_each<A: Allocator>(rooms: &mut [Slot<Room<A>, A>], who: Sought<'_>)
     ensures { map room_entry rooms.new
         ≡ each_changed (without_member (sought_key who.entry)) (map room_entry rooms.old) }
 {
+    let head = head(who);
     for room in rooms.iter_mut() {
-        let _ = room.entry.value.members.remove(who);
+        let _ = room.entry.value.members.remove_by(head, who);
     }
 }
 
-/// Gives a member another key. Whoever stood under that one is gone.
-fn rename_member<A: Allocator>(members: &mut Members<A>, old: Sought<'_>, new: Vec<u8, A>)
+/// Gives a member another key. Whoever stood under that one is gone, where it may be taken.
+fn rename_member<A: Allocator>(
+    members: &mut Members<A>,
+    head: u64,
+    old: Sought<'_>,
+    taken: bool,
+    new: Vec<u8, A>,
+)
+    requires head { head ≡ head_of (sought_key old) }
+    requires bytes { AreBytesTo 8 (sought_key old) }
     ensures { members.new.all
-        ≡ renamed_in (λ ranks. ranks) (sought_key old.entry) new.items members.old.all }
+        ≡ moved_in taken (sought_key old.entry) new.items members.old.all }
 {
-    match members.remove(old) {
+    match members.remove_by(head, old) {
         Some(mut member) => {
             member.key = new;
             members.insert(member);
         }
-        None => members.forget(&new),
+        None => {
+            if taken {
+                members.forget(&new);
+            }
+        }
     }
 }
 
@@ -226,17 +244,20 @@ pub(crate) fn copies<A: Allocator + Copy>(
 fn rename_each<A: Allocator>(
     rooms: &mut [Slot<Room<A>, A>],
     old: Sought<'_>,
+    taken: bool,
     new: &[u8],
     keys: &mut Vec<Vec<u8, A>, A>,
 )
     requires enough { length rooms.old ≤ length keys.old.items }
     requires copies { All (λ k. k.items ≡ new.now) keys.old.items }
     ensures { map room_entry rooms.new
-        ≡ each_changed (renamed_channel (sought_key old.entry) new.now) (map room_entry rooms.old) }
+        ≡ each_changed (moved_channel taken (sought_key old.entry) new.now)
+        (map room_entry rooms.old) }
 {
+    let head = head(old);
     for room in rooms.iter_mut() {
         match keys.pop() {
-            Some(key) => rename_member(&mut room.entry.value.members, old, key),
+            Some(key) => rename_member(&mut room.entry.value.members, head, old, taken, key),
             None => unreachable!(),
         }
     }
@@ -246,8 +267,9 @@ fn rename_each<A: Allocator>(
 fn is_member_of_any<A: Allocator>(rooms: &[Slot<Room<A>, A>], who: Sought<'_>) -> bool
     ensures { result ≡ list_any (is_in (sought_key who.entry)) (map room_entry rooms.now) }
 {
+    let head = head(who);
     for room in rooms {
-        if room.entry.value.members.contains(who) {
+        if room.entry.value.members.contains_by(head, who) {
             return true;
         }
     }
@@ -258,12 +280,11 @@ impl<A: Allocator> Table<Room<A>, A> {
     ghost use Rattle.std.specs.Prelude.{◌≡◌, ◌≤◌, length};
     ghost use Rattle.std.specs.List.{All};
     ghost use Rattle.std.specs.FinMap as fin;
-    ghost use Rattle.net_view.specs.Changes.{renamed_channel};
     ghost use Rattle.net_view.specs.Step.{is_seen};
     ghost use Rattle.net_view.specs.Changes.{without_member};
     ghost use Rattle.quick_view.specs.Shown.{shown};
     ghost use Rattle.quick_view.specs.Sought.{sought_key};
-    ghost use Rattle.quick_view.specs.Rooms.{rooms_of};
+    ghost use Rattle.quick_view.specs.Rooms.{rooms_of, moved_channel};
 
     /// Takes a member off all channels.
     pub(crate) fn unseat_all(&mut self, who: Sought<'_>)
@@ -273,14 +294,21 @@ impl<A: Allocator> Table<Room<A>, A> {
         unseat_each(&mut self.entries, who);
     }
 
-    /// Gives a member another key in all channels, for each of which there is a copy of it.
-    pub(crate) fn rename_all(&mut self, old: Sought<'_>, new: &[u8], keys: &mut Vec<Vec<u8, A>, A>)
+    /// Gives a member another key in all channels, for each of which there is a copy of it. Where
+    /// the other key may be taken, whoever stood under it is gone.
+    pub(crate) fn rename_all(
+        &mut self,
+        old: Sought<'_>,
+        taken: bool,
+        new: &[u8],
+        keys: &mut Vec<Vec<u8, A>, A>,
+    )
         requires enough { length (fin.entries self.old.all) ≤ length keys.old.items }
         requires copies { All (λ k. k.items ≡ new.now) keys.old.items }
         ensures { rooms_of self.new.all
-            ≡ shown (renamed_channel (sought_key old.entry) new.now) (rooms_of self.old.all) }
+            ≡ shown (moved_channel taken (sought_key old.entry) new.now) (rooms_of self.old.all) }
     {
-        rename_each(&mut self.entries, old, new, keys);
+        rename_each(&mut self.entries, old, taken, new, keys);
     }
 
     /// Whether somebody is a member of one of the channels.

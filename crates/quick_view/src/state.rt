@@ -163,14 +163,15 @@ impl<A: Allocator + Copy> State<A> {
     {
         let mapping = self.support.mapping();
         let channel = Sought::Name(mapping, channel);
-        if !self.rooms.contains(channel) {
+        let mut near = usize::MAX;
+        if !self.rooms.contains_near(&mut near, channel) {
             return Ok(());
         }
         let member = new_member(self.alloc, mapping, who, Ranks::none())?;
         let person = new_person(self.alloc, mapping, who)?;
         let account = copy_of_told(self.alloc, account)?;
         self.people.reserve(1)?;
-        seat(self.alloc, &mut self.rooms, channel, member)?;
+        seat(self.alloc, &mut self.rooms, near, channel, member)?;
         name_person(self.alloc, &mut self.people, person, account);
         Ok(())
     }
@@ -232,19 +233,21 @@ impl<A: Allocator + Copy> State<A> {
         let account = copy_of_told(self.alloc, account)?;
         self.rooms.reserve(1)?;
         self.people.reserve(1)?;
-        let again = self.rooms.contains(Sought::Name(mapping, channel));
+        let mut near = usize::MAX;
+        let again = self.rooms.contains_near(&mut near, Sought::Name(mapping, channel));
         name_person(self.alloc, &mut self.people, person, account);
-        self.rooms.insert(room);
+        self.rooms.insert_near(&mut near, room);
         if again {
             retain_seen(&mut self.people, &self.rooms);
         }
         Ok(())
     }
 
-    /// A NICK that counts, ours or another's.
+    /// A NICK that counts, ours or another's. Who is not in sight is a member of no channel.
     pub(crate) fn rename(&mut self, ours: bool, old: &[u8], new: &[u8]) -> Result<(), OutOfMemory>
-        ensures taken { OnOk result (view_kept self.new ≡ renamed_view (view_kept self.old) ours
-            (key_by self.old.support old.now) (key_by self.old.support new.now) new.now) }
+        ensures taken { OnOk result (IsKnowing (view_kept self.old) → view_kept self.new
+            ≡ renamed_view (view_kept self.old) ours (key_by self.old.support old.now)
+            (key_by self.old.support new.now) new.now) }
         ensures kept { OnErr result (view_kept self.new ≡ view_kept self.old) }
     {
         let mapping = self.support.mapping();
@@ -253,7 +256,8 @@ impl<A: Allocator + Copy> State<A> {
         let own = Vec::from_slice(self.alloc, new)?;
         let mut keys = copies(self.alloc, &key, self.rooms.len())?;
         let old = Sought::Name(mapping, old);
-        self.rooms.rename_all(old, &key, &mut keys);
+        let taken = self.people.get(Sought::Key(&key)).is_some();
+        self.rooms.rename_all(old, taken, &key, &mut keys);
         rename_person(&mut self.people, old, key, nick);
         if ours {
             self.own = Some(own);
@@ -274,10 +278,11 @@ impl<A: Allocator + Copy> State<A> {
         ensures kept { OnErr result (view_kept self.new ≡ view_kept self.old) }
     {
         let channel = Sought::Name(self.support.mapping(), channel);
+        let mut near = usize::MAX;
         let mut room = no_room(self.alloc);
-        if self.rooms.swap(channel, &mut room) {
+        if self.rooms.swap(&mut near, channel, &mut room) {
             let changed = change_room(self.alloc, &mut room, &self.support, line);
-            self.rooms.swap(channel, &mut room);
+            self.rooms.swap(&mut near, channel, &mut room);
             changed
         } else {
             Ok(())
@@ -313,21 +318,22 @@ impl<A: Allocator + Copy> State<A> {
         ensures kept { OnErr result (view_kept self.new ≡ view_kept self.old) }
     {
         let channel = Sought::Name(self.support.mapping(), channel);
-        if !self.rooms.contains(channel) {
+        let mut near = usize::MAX;
+        if !self.rooms.contains_near(&mut near, channel) {
             return Ok(());
         }
         let listed = listed_in(self.alloc, &self.support, line)?;
         self.people.reserve(listed.len())?;
         let mut room = no_room(self.alloc);
-        self.rooms.swap(channel, &mut room);
+        self.rooms.swap(&mut near, channel, &mut room);
         match room.members.reserve(listed.len()) {
             Ok(()) => {
                 keep_all(self.alloc, &mut room.members, &mut self.people, listed);
-                self.rooms.swap(channel, &mut room);
+                self.rooms.swap(&mut near, channel, &mut room);
                 Ok(())
             }
             Err(refused) => {
-                self.rooms.swap(channel, &mut room);
+                self.rooms.swap(&mut near, channel, &mut room);
                 Err(refused)
             }
         }

@@ -13,7 +13,7 @@ ghost use Rattle.quick_view.specs.Head.{head_of, AreBytesTo};
 
 use crate::OutOfMemory;
 use crate::slot::{Entry, Slot};
-use crate::sought::{Sought, head, key_head, order_behind};
+use crate::sought::{Sought, head, key_head, order, order_behind};
 use std::alloc::Allocator;
 use std::cmp::Ordering;
 use std::marker::Model;
@@ -48,13 +48,18 @@ fn order_by_head<V, A: Allocator>(slot: &Slot<V, A>, head: u64, sought: Sought<'
     }
 }
 
-/// Where the entry that is looked for stands, or would stand.
-fn place_of<V, A: Allocator>(slots: &[Slot<V, A>], sought: Sought<'_>) -> Result<usize, usize>
+/// Where the entry that is looked for stands, or would stand, by its head.
+fn place_of<V, A: Allocator>(
+    slots: &[Slot<V, A>],
+    head: u64,
+    sought: Sought<'_>,
+) -> Result<usize, usize>
+    requires head { head ≡ head_of (sought_key sought) }
+    requires bytes { AreBytesTo 8 (sought_key sought) }
     ensures bound { IsSearchInRange result (length slots.now) }
     ensures place { IsBinarySearchResult
         (λ slot. bytes_cmp slot.entry.value.key.items (sought_key sought.entry)) slots.now result }
 {
-    let head = head(sought);
     slots.binary_search_by(
         |slot: &Slot<V, A>| -> Ordering
             ensures { head ≡ head_of (sought_key sought.entry) →
@@ -62,6 +67,32 @@ fn place_of<V, A: Allocator>(slots: &[Slot<V, A>], sought: Sought<'_>) -> Result
                 ≡ bytes_cmp slot.now.entry.value.key.items (sought_key sought.entry) }
         { order_by_head(slot, head, sought) },
     )
+}
+
+/// Where the entry that is looked for stands, or would stand. It is first looked for at the place
+/// near which it stood last; that place is then where it was found.
+fn place_near<V, A: Allocator>(
+    slots: &[Slot<V, A>],
+    near: &mut usize,
+    sought: Sought<'_>,
+) -> Result<usize, usize>
+    ensures bound { IsSearchInRange result (length slots.now) }
+    ensures place { IsBinarySearchResult
+        (λ slot. bytes_cmp slot.entry.value.key.items (sought_key sought.entry)) slots.now result }
+{
+    let last = *near;
+    if last < slots.len() {
+        if order(&slots[last].entry.key, sought).is_eq() {
+            return Ok(last);
+        }
+    }
+    match place_of(slots, head(sought), sought) {
+        Ok(place) => {
+            *near = place;
+            Ok(place)
+        }
+        Err(place) => Err(place),
+    }
 }
 
 /// Puts an item at a place, for which there is room.
@@ -124,17 +155,47 @@ impl<V, A: Allocator> Table<V, A> {
         ensures { option_map (λ value. value.now) result ≡ fin.get self.now.all (sought_key
             sought.entry) }
     {
-        match place_of(&self.entries, sought) {
+        self.get_by(head(sought), sought)
+    }
+
+    /// The same, by the head of what is looked for.
+    fn get_by(&self, head: u64, sought: Sought<'_>) -> Option<&V>
+        requires head { head ≡ head_of (sought_key sought) }
+        requires bytes { AreBytesTo 8 (sought_key sought) }
+        ensures { option_map (λ value. value.now) result ≡ fin.get self.now.all (sought_key
+            sought.entry) }
+    {
+        match place_of(&self.entries, head, sought) {
             Ok(place) => Some(&self.entries[place].entry.value),
             Err(_) => None,
         }
     }
 
-    /// Whether there is an entry of what is looked for.
-    pub(crate) fn contains(&self, sought: Sought<'_>) -> bool
+    /// The same, near the place where it stood last.
+    pub(crate) fn get_near(&self, near: &mut usize, sought: Sought<'_>) -> Option<&V>
+        ensures { option_map (λ value. value.now) result ≡ fin.get self.now.all (sought_key
+            sought.entry) }
+    {
+        match place_near(&self.entries, near, sought) {
+            Ok(place) => Some(&self.entries[place].entry.value),
+            Err(_) => None,
+        }
+    }
+
+    /// Whether there is an entry of what is looked for, by its head.
+    pub(crate) fn contains_by(&self, head: u64, sought: Sought<'_>) -> bool
+        requires head { head ≡ head_of (sought_key sought) }
+        requires bytes { AreBytesTo 8 (sought_key sought) }
         ensures { result ≡ fin.contains_key self.now.all (sought_key sought.entry) }
     {
-        self.get(sought).is_some()
+        self.get_by(head, sought).is_some()
+    }
+
+    /// The same, near the place where it stood last.
+    pub(crate) fn contains_near(&self, near: &mut usize, sought: Sought<'_>) -> bool
+        ensures { result ≡ fin.contains_key self.now.all (sought_key sought.entry) }
+    {
+        self.get_near(near, sought).is_some()
     }
 
     /// The key and the value at a place.
@@ -164,8 +225,19 @@ impl<V: Drop, A: Allocator> Table<V, A> {
             ≡ fin.insert self.old.all entry.value.key.items entry.value.value }
         ensures room { self.old.spare ≤ self.new.spare + 1 }
     {
+        let mut near = usize::MAX;
+        self.insert_near(&mut near, entry);
+    }
+
+    /// The same, near the place where the one of the same key stood last.
+    pub(crate) fn insert_near(&mut self, near: &mut usize, entry: Box<Entry<V, A>, A>)
+        requires { 0 < self.old.spare }
+        ensures all { self.new.all
+            ≡ fin.insert self.old.all entry.value.key.items entry.value.value }
+        ensures room { self.old.spare ≤ self.new.spare + 1 }
+    {
         let head = key_head(&entry.key);
-        let found = place_of(&self.entries, Sought::Key(&entry.key));
+        let found = place_near(&self.entries, near, Sought::Key(&entry.key));
         let slot = Slot { head, entry };
         match found {
             Ok(place) => self.entries[place] = slot,
@@ -173,15 +245,15 @@ impl<V: Drop, A: Allocator> Table<V, A> {
         }
     }
 
-    /// Changes the value that is looked for and this one, each into the other's place; whether
-    /// there is one.
-    pub(crate) fn swap(&mut self, sought: Sought<'_>, value: &mut V) -> bool
+    /// Changes the value that is looked for, near the place where it stood last, and this one, each
+    /// into the other's place; whether there is one.
+    pub(crate) fn swap(&mut self, near: &mut usize, sought: Sought<'_>, value: &mut V) -> bool
         ensures found { result ≡ fin.contains_key self.old.all (sought_key sought.entry) }
         ensures all { self.new.all ≡ swapped_in self.old.all (sought_key sought.entry) value.old }
         ensures value { value.new ≡ swapped_out self.old.all (sought_key sought.entry) value.old }
         ensures room { self.new.spare ≡ self.old.spare }
     {
-        match place_of(&self.entries, sought) {
+        match place_near(&self.entries, near, sought) {
             Ok(place) => {
                 mem::swap(&mut self.entries[place].entry.value, value);
                 true
@@ -198,7 +270,24 @@ impl<V: Drop, A: Allocator> Table<V, A> {
         ensures room { self.old.spare ≤ self.new.spare }
         ensures left { IsSome result → self.old.spare + 1 ≤ self.new.spare }
     {
-        match place_of(&self.entries, sought) {
+        self.remove_by(head(sought), sought)
+    }
+
+    /// The same, by the head of what is looked for.
+    pub(crate) fn remove_by(
+        &mut self,
+        head: u64,
+        sought: Sought<'_>,
+    ) -> Option<Box<Entry<V, A>, A>>
+        requires head { head ≡ head_of (sought_key sought) }
+        requires bytes { AreBytesTo 8 (sought_key sought) }
+        ensures value { option_map (λ entry. entry.value.value) result
+            ≡ fin.get self.old.all (sought_key sought.entry) }
+        ensures all { self.new.all ≡ fin.remove self.old.all (sought_key sought.entry) }
+        ensures room { self.old.spare ≤ self.new.spare }
+        ensures left { IsSome result → self.old.spare + 1 ≤ self.new.spare }
+    {
+        match place_of(&self.entries, head, sought) {
             Ok(place) => Some(self.entries.remove(place).entry),
             Err(_) => None,
         }

@@ -11,7 +11,7 @@ returns-clause-named g c =
     let person = c.args.person.value in
     let away = c.swap.new.value.away in
     let key = c.deref-2.ensures.value ∙ ap (λ e. e.key.items) c.deref.ensures in
-    ap people_of (c.insert.ensures.all
+    ap people_of (c.insert_near.ensures.all
     ∙ ap (λ e. fin.insert all e.key.items (record e.value { away = away }))
     c.deref_mut-2.ensures.value
     ∙ ap (λ e. fin.insert all e.key.items (record e.value {

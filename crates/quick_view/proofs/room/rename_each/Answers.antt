@@ -1,8 +1,7 @@
 use Rattle.std.proofs.Common.{◌≡◌, ◌<◌, ◌+◌, ◌∷◌, [], Some, map, ap, get_or, length, length-append, sym, subst, arith, ◌∙◌}
 use Rattle.std.proofs.lemmas.List.Elements.{All-pop}
-use Rattle.net_view.specs.Changes.{renamed_channel, renamed_in}
 use Rattle.quick_view.specs.Sought.{sought_key}
-use Rattle.quick_view.specs.Rooms.{room_entry, channel_of}
+use Rattle.quick_view.specs.Rooms.{room_entry, channel_of, moved_in, moved_channel}
 use Rattle.quick_view.proofs.EachLemmas.{changed_more}
 use Rattle.quick_view.proofs.room.rename_each.Goals as goal
 
@@ -19,7 +18,7 @@ loop-room-preserved g c =
     c.in-Some.ensures.items ∙ length-append c.pop.new.self.items (c.in-Some.key ∷ []) in
     let enough = c.loop-room.invariant.enough in
     record {
-      changed = changed_more (λ e. (e.0, renamed_channel k c.args.new.now e.1)) room_entry (map
+      changed = changed_more (λ e. (e.0, moved_channel c.args.taken k c.args.new.now e.1)) room_entry (map
           room_entry c.args.rooms.now) s i x _
           (subst (λ n. i < n) (sym c.loop-room.auto.rooms) c.loop-room-test.true)
           c.loop-room.invariant.changed
@@ -27,11 +26,11 @@ loop-room-preserved g c =
           ((λ j. (
             c.deref_mut.result.now.key.items,
             record (channel_of c.deref_mut.result.now.value) {
-              members = (c.rename_member.ensures ∙ ap (λ n. renamed_in (λ ranks. ranks) k n
+              members = (c.rename_member.ensures ∙ ap (λ n. moved_in c.args.taken k n
                   c.deref_mut.result.now.value.members.all) (popped.1)) j;
             },
           ))
-          ∙ ap (λ e. (e.key.items, renamed_channel k c.args.new.now (channel_of e.value)))
+          ∙ ap (λ e. (e.key.items, moved_channel c.args.taken k c.args.new.now (channel_of e.value)))
           c.deref_mut.ensures.value);
       enough = omega (arith, less, enough);
       copies = popped.0;

@@ -1,12 +1,23 @@
-use Rattle.std.proofs.Common.{ap, ◌∙◌}
+use Rattle.std.proofs.Common.{sym, ap, ◌∙◌}
 use Rattle.std.specs.FinMap as fin
 use Rattle.quick_view.specs.Sought.{sought_key}
-use Rattle.quick_view.proofs.SwapLemmas.{renamed_none}
+use Rattle.quick_view.specs.Rooms.{moved_in}
+use Rattle.quick_view.proofs.SwapLemmas.{renamed_none, moved_none}
 use Rattle.quick_view.proofs.room.rename_member.Goals as goal
 
-pub returns-in-None : goal.returns-in-None
-returns-in-None g c =
-    renamed_none (λ ranks. ranks) c.args.members.now.all c.remove.new.self.all
-    c.forget.new.self.all (sought_key c.args.old) c.args.new.items
-    c.in-None.ensures.value c.remove.ensures.all
-    (c.forget.ensures ∙ ap (fin.remove c.remove.new.self.all) c.deref.ensures.value)
+pub returns-then-taken : goal.returns-then-taken
+returns-then-taken g c =
+    let m = c.args.members.now.all in
+    let k = sought_key c.args.old in
+    renamed_none (λ ranks. ranks) m c.remove_by.new.self.all c.forget.new.self.all k
+    c.args.new.items c.in-None.ensures.value c.remove_by.ensures.all
+    (c.forget.ensures ∙ ap (fin.remove c.remove_by.new.self.all) c.deref.ensures.value)
+    ∙ ap (λ b. moved_in b k c.args.new.items m) (sym c.if-taken.true)
+
+pub returns : goal.returns
+returns g c =
+    let m = c.args.members.now.all in
+    let k = sought_key c.args.old in
+    moved_none m c.remove_by.new.self.all k c.args.new.items c.in-None.ensures.value
+    c.remove_by.ensures.all
+    ∙ ap (λ b. moved_in b k c.args.new.items m) (sym c.if-taken.false)

@@ -17,7 +17,7 @@ loop-room-preserved g c =
     (ap (λ z. get_or s i z) c.room-item.is)
     ((λ j. (
       c.deref_mut.result.now.key.items,
-      record (channel_of c.deref_mut.result.now.value) { members = c.remove.ensures.all j },
+      record (channel_of c.deref_mut.result.now.value) { members = c.remove_by.ensures.all j },
     ))
     ∙ ap (λ e. (e.key.items, without_member (sought_key c.args.who) (channel_of e.value)))
     c.deref_mut.ensures.value)

@@ -3,17 +3,16 @@ use Rattle.std.specs.FinMap as fin
 use Rattle.std.specs.Prelude.{◌≤◌}
 use Rattle.std.proofs.lemmas.List.{length-map}
 use Rattle.net_view.specs.Names.{bytes_cmp}
-use Rattle.net_view.specs.Changes.{renamed_channel}
 use Rattle.quick_view.specs.Shown.{shown}
 use Rattle.quick_view.specs.Sought.{sought_key}
 use Rattle.quick_view.specs.Table.{entry_of}
-use Rattle.quick_view.specs.Rooms.{room_entry, rooms_of, each_changed}
+use Rattle.quick_view.specs.Rooms.{room_entry, rooms_of, each_changed, moved_channel}
 use Rattle.quick_view.proofs.EachLemmas.{each_sorted, each_is, whole, same_length}
 use Rattle.quick_view.proofs.room.Table+Room+A+A.rename_all.Goals as goal
 
 pub invariant_of-self : goal.invariant_of-self
 invariant_of-self g c =
-    let change = renamed_channel (sought_key c.args.old) c.args.new.now in
+    let change = moved_channel c.args.taken (sought_key c.args.old) c.args.new.now in
     let xs = c.self.inside.entries.items in
     let e = c.rename_each.ensures ∙ ap (λ l. each_changed change (map room_entry l))
     c.deref_mut.ensures.value in
@@ -28,7 +27,7 @@ invariant_of-self g c =
 
 pub returns : goal.returns
 returns g c =
-    let change = renamed_channel (sought_key c.args.old) c.args.new.now in
+    let change = moved_channel c.args.taken (sought_key c.args.old) c.args.new.now in
     let xs = c.self.inside.entries.items in
     let e = c.rename_each.ensures ∙ ap (λ l. each_changed change (map room_entry l))
     c.deref_mut.ensures.value in

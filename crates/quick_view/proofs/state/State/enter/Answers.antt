@@ -24,9 +24,9 @@ returns-then-again-clause-taken g c known =
     let n = key_of m who in
     let told = option_map (option_map (λ t. t.now)) c.args.account in
     let joiner = told_person (Some (Some who)) told None (fin.get v.people n) in
-    let cs : rooms_of c.insert.new.self.all ≡ fin.insert v.channels k (fresh_channel
+    let cs : rooms_of c.insert_near.new.self.all ≡ fin.insert v.channels k (fresh_channel
     c.args.channel.now n) =
-    ap rooms_of c.insert.ensures.all
+    ap rooms_of c.insert_near.ensures.all
     ∙ insert-shown bytes_cmp channel_of nat_list_cmp_total bytes_exact c.reserve.new.self.all
     c.in_ok-room.room.value.key.items c.in_ok-room.room.value.value
     ∙ (λ i. fin.insert (rooms_of (c.in_ok-reserve.ensures.all i)) (c.in_ok-room.ensures.key i)
@@ -52,9 +52,9 @@ returns-else-again-clause-taken g c known =
     let n = key_of m who in
     let told = option_map (option_map (λ t. t.now)) c.args.account in
     let joiner = told_person (Some (Some who)) told None (fin.get v.people n) in
-    let cs : rooms_of c.insert.new.self.all ≡ fin.insert v.channels k (fresh_channel
+    let cs : rooms_of c.insert_near.new.self.all ≡ fin.insert v.channels k (fresh_channel
     c.args.channel.now n) =
-    ap rooms_of c.insert.ensures.all
+    ap rooms_of c.insert_near.ensures.all
     ∙ insert-shown bytes_cmp channel_of nat_list_cmp_total bytes_exact c.reserve.new.self.all
     c.in_ok-room.room.value.key.items c.in_ok-room.room.value.value
     ∙ (λ i. fin.insert (rooms_of (c.in_ok-reserve.ensures.all i)) (c.in_ok-room.ensures.key i)

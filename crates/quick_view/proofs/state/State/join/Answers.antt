@@ -10,8 +10,8 @@ use Rattle.quick_view.proofs.ShownLemmas.{contains-shown}
 use Rattle.quick_view.proofs.ViewLemmas.{joined_is, joined_none}
 use Rattle.quick_view.proofs.state.State.join.Goals as goal
 
-pub returns-then-not-contains-clause-taken : goal.returns-then-not-contains-clause-taken
-returns-then-not-contains-clause-taken g c =
+pub returns-then-not-contains_near-clause-taken : goal.returns-then-not-contains_near-clause-taken
+returns-then-not-contains_near-clause-taken g c =
     let v = view_kept c.args.self.now in
     let who = c.args.who.now in
     let told = option_map (option_map (λ t. t.now)) c.args.account in
@@ -19,7 +19,7 @@ returns-then-not-contains-clause-taken g c =
     c.mapping-mapping.result who) who told
     (contains-shown bytes_cmp channel_of c.args.self.now.rooms.all (key_of c.mapping-mapping.result
     c.args.channel.now)
-    ∙ sym c.contains.ensures ∙ c.if-not-contains.true)
+    ∙ sym c.contains_near.ensures ∙ c.if-not-contains_near.true)
     ∙ ap (λ m. joined_view v (key_of m c.args.channel.now) (key_of m who) who told)
     c.mapping-mapping.ensures
 
@@ -32,7 +32,7 @@ returns-clause-taken g c =
     joined_is v chan (key_of c.mapping-mapping.result who) who told (rooms_of c.seat.new.rooms.all)
     (people_of c.name_person.new.people.all)
     (contains-shown bytes_cmp channel_of c.args.self.now.rooms.all chan
-    ∙ sym c.contains.ensures ∙ c.if-not-contains.false)
+    ∙ sym c.contains_near.ensures ∙ c.if-not-contains_near.false)
     (c.in_ok-seat.ensures.added
     ∙ (λ i. changed_at (rooms_of c.args.self.now.rooms.all) chan (with_ranks
     (c.in_ok-member.ensures.key i)

@@ -9,13 +9,13 @@ use Rattle.quick_view.proofs.SwapLemmas.{put_new, put_back, out_is, none_is}
 use Rattle.quick_view.proofs.ViewLemmas.{listed_is, listed_none}
 use Rattle.quick_view.proofs.state.State.take_names.Goals as goal
 
-pub returns-then-not-contains-clause-taken : goal.returns-then-not-contains-clause-taken
-returns-then-not-contains-clause-taken g c =
+pub returns-then-not-contains_near-clause-taken : goal.returns-then-not-contains_near-clause-taken
+returns-then-not-contains_near-clause-taken g c =
     let v = view_kept c.args.self.now in
     let ls = listings_in c.args.self.now.support c.args.line.now in
     listed_none v (key_of c.mapping.result c.args.channel.now) ls
     (none_is channel_of c.args.self.now.rooms.all (key_of c.mapping.result c.args.channel.now) (sym
-    c.contains.ensures ∙ c.if-not-contains.true))
+    c.contains_near.ensures ∙ c.if-not-contains_near.true))
     ∙ ap (λ q. listed_view v (key_of q c.args.channel.now) ls) c.mapping.ensures
 
 pub returns-in-Ok-clause-taken : goal.returns-in-Ok-clause-taken
@@ -24,7 +24,7 @@ returns-in-Ok-clause-taken g c =
     let ls = listings_in c.args.self.now.support c.args.line.now in
     let k = key_of c.mapping.result c.args.channel.now in
     let old = c.swap.new.value in
-    let there = sym c.contains.ensures ∙ c.if-not-contains.false in
+    let there = sym c.contains_near.ensures ∙ c.if-not-contains_near.false in
     let cs = put_new channel_of c.args.self.now.rooms.all c.swap.new.self.all
     c.swap-in-Ok.new.self.all k
     c.no_room-room.result old (record old { members = c.keep_all.new.members })
@@ -48,7 +48,7 @@ returns-in-Err-clause-kept g c =
     let cs = put_back channel_of c.args.self.now.rooms.all c.swap.new.self.all
     c.swap-in-Err.new.self.all k
     c.no_room-room.result old (record old { members = c.reserve-2.new.self })
-    (sym c.contains.ensures ∙ c.if-not-contains.false) c.swap.ensures.all c.swap.ensures.value
+    (sym c.contains_near.ensures ∙ c.if-not-contains_near.false) c.swap.ensures.all c.swap.ensures.value
     c.swap-in-Err.ensures.all
     (λ i. record (channel_of old) { members = c.in-Err.ensures.all i }) in
     λ i. record (view_kept c.args.self.now) {

@@ -19,7 +19,7 @@ returns-then-is_us-clause-taken g c = on_ok c.rename.result c.rename.ensures.tak
     let new = name_of v.settings c.args.new.now in
     let us = is_us (standing_of v) in
     let ours : us old ≡ true = sym c.is_us.ensures ∙ c.if-is_us.true in
-    e
+    e sound.known
     ∙ (λ i. record {
       own = cond (sym ours i) (Some c.args.new.now) v.own;
       ready = v.ready;
@@ -48,7 +48,7 @@ returns-clause-taken g c = on_ok c.rename-2.result c.rename-2.ensures.taken (λ 
     let us = is_us (standing_of v) in
     let ours : us old ≡ false = sym c.is_us.ensures ∙ c.if-is_us.false in
     let not_ours : us new.key ≡ false = sym c.is_us-2.ensures ∙ c.if-is_us-2.false in
-    e
+    e sound.known
     ∙ (λ i. record {
       own = cond (sym ours i) (Some c.args.new.now) v.own;
       ready = v.ready;

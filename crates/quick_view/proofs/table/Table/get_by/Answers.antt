@@ -5,7 +5,7 @@ use Rattle.net_view.proofs.Keys.{bytes_exact}
 use Rattle.quick_view.specs.Table.{entry_of}
 use Rattle.quick_view.specs.Sought.{sought_key}
 use Rattle.quick_view.proofs.TableLemmas.{got, got_none}
-use Rattle.quick_view.proofs.table.Table.get.Goals as goal
+use Rattle.quick_view.proofs.table.Table.get_by.Goals as goal
 
 pub returns-in-Ok : goal.returns-in-Ok
 returns-in-Ok g c =

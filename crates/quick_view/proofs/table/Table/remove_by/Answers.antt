@@ -7,7 +7,7 @@ use Rattle.net_view.proofs.AfterAlike.{removed_none}
 use Rattle.quick_view.specs.Table.{entry_of}
 use Rattle.quick_view.specs.Sought.{sought_key}
 use Rattle.quick_view.proofs.TableLemmas.{got, got_none, sorted_removed, removed_there}
-use Rattle.quick_view.proofs.table.Table.remove.Goals as goal
+use Rattle.quick_view.proofs.table.Table.remove_by.Goals as goal
 
 pub invariant_of-self : goal.invariant_of-self
 invariant_of-self g c =

@@ -10,7 +10,7 @@ use Rattle.quick_view.proofs.TableLemmas.{
   sorted_inserted,
   inserted_there,
 }
-use Rattle.quick_view.proofs.table.Table.insert.Goals as goal
+use Rattle.quick_view.proofs.table.Table.insert_near.Goals as goal
 
 pub invariant_of-self : goal.invariant_of-self
 invariant_of-self g c =
