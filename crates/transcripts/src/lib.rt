@@ -7,6 +7,8 @@ mod arrivals;
 #[cfg(test)]
 mod clients;
 #[cfg(test)]
+mod dialling;
+#[cfg(test)]
 mod hub_rows;
 #[cfg(test)]
 mod kept_messages;
@@ -28,6 +30,8 @@ mod quick;
 mod read_back;
 #[cfg(test)]
 mod registration;
+#[cfg(test)]
+mod served;
 #[cfg(test)]
 mod settings;
 #[cfg(test)]

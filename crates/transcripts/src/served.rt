@@ -1,0 +1,213 @@
+//! Clients over streams in memory, from the login to the end of the session.
+
+use bnc_config::{Config, Place};
+use client_caps::Moment;
+use hub_core::{Hub, Setup};
+use hub_threads::{
+    Clock, FreeGate, InletEnd, Network, OutletEnd, SharedBell, inlet, outlet, pump_loop,
+    shared_bell,
+};
+use irc_line::Splitter;
+use net_view::Item;
+use quick_view::QuickView;
+use sessions::{Served, serve_session};
+use std::alloc::Global;
+use std::process::Abort;
+use std::sync::{Arc, Wait};
+use std::test::Fail;
+use std::thread::Threads;
+
+/// Two users; ann's password is `bc`, and her network is `net`.
+const SETTINGS: &str = "listen = \"h:1\"\n[[user]]\nname = \"bob\"\nsalt = \"\"\n\
+    password = \"ba7816bf8f01cfea414140de5dae2223b00361a396177a9cb410ff61f20015ad\"\n\
+    [[user.network]]\nname = \"net\"\naddress = \"h:2\"\nnick = \"b\"\nuser = \"b\"\n\
+    realname = \"B\"\n\
+    [[user]]\nname = \"ann\"\nsalt = \"61\"\n\
+    password = \"ba7816bf8f01cfea414140de5dae2223b00361a396177a9cb410ff61f20015ad\"\n\
+    [[user.network]]\nname = \"net\"\naddress = \"h:2\"\nnick = \"ann\"\nuser = \"ann\"\n\
+    realname = \"Ann A\"\n\
+    [[user.network]]\nname = \"other\"\naddress = \"h:3\"\nnick = \"ann\"\nuser = \"ann\"\n\
+    realname = \"Ann A\"\n";
+
+/// What the network sent.
+const HEARD: &str = ":s 001 Me :hi\n:s 005 Me PREFIX=(ov)@+ CHANTYPES=# :are supported\n\
+    :s 376 Me :end\n:Me!m@h JOIN #c\n:s 332 Me #c :Hello all\n:s 324 Me #c +kl key 9\n\
+    :s 353 Me = #c :Me @+bob +eve\n:s 366 Me #c :End\n";
+
+/// The login of ann from her computer.
+const LOGIN: &str = "PASS ann@pc/net:bc\r\nNICK x\r\nUSER x 0 * :A\r\n";
+
+/// What she is sent first.
+const BURST: &str = ":bnc 001 Me :Welcome to the bouncer\r\n\
+    :bnc 002 Me :Your host is bnc, running version 1\r\n\
+    :bnc 003 Me :This server was created for you\r\n\
+    :bnc 004 Me bnc 1 i biklmnopstv\r\n\
+    :bnc 005 Me PREFIX=(ov)@+ CHANTYPES=# :are supported by this server\r\n\
+    :bnc 422 Me :MOTD File is missing\r\n:Me JOIN #c\r\n:bnc 332 Me #c :Hello all\r\n\
+    :bnc 324 Me #c +kl key 9\r\n:bnc 353 Me = #c :@bob +eve Me\r\n\
+    :bnc 366 Me #c :End of NAMES list\r\n";
+
+/// A clock that stands still.
+struct Still;
+
+impl Clock for Still {
+    fn now(&self) -> Moment {
+        Moment(0)
+    }
+}
+
+/// Puts the lines of a text.
+fn put_lines(alloc: Global, end: &mut InletEnd, text: &str) -> Result<(), Fail> {
+    let mut lines = Vec::new(alloc);
+    Splitter::<Global>::new(alloc).feed(text.as_bytes(), &mut lines)?;
+    for line in lines {
+        let put = end.put(Item::Line(line), Moment(0));
+        put.map_err(|_| "a free slot")?;
+    }
+    Ok(())
+}
+
+/// A hub behind a lock that heard this, and the end to read what is sent to its network.
+fn network_of<R: Wait>(
+    rt: &R,
+    alloc: Global,
+    heard: &str,
+) -> Result<(Network<QuickView>, OutletEnd), Fail> {
+    let bell: SharedBell = shared_bell(alloc)?;
+    let (mut end, ring) = inlet(alloc, 16, Arc::try_clone(&bell)?)?;
+    let (upstream, sent) = outlet(alloc, 8, Arc::try_clone(&bell)?)?;
+    let setup = Setup {
+        history: 500,
+        first_number: 1,
+        first_session: 0,
+    };
+    let hub = Hub::start(alloc, QuickView::new(alloc)?, ring, upstream, setup).map_err(
+        |_| "no hub",
+    )?;
+    let network = Network::new(hub, bell);
+    put_lines(alloc, &mut end, heard)?;
+    pump_loop(rt, alloc, &network, &FreeGate, &Still, 10);
+    Ok((network, sent))
+}
+
+/// What came of a client, in words, and what it was sent in its session.
+fn told(alloc: Global, served: &Served<Vec<u8>>) -> Result<Vec<u8>, Fail> {
+    let text = match served {
+        Served::NoLogin => format!(in alloc; "no login")?,
+        Served::Refused(error) => format!(in alloc; "refused: {error}")?,
+        Served::Cut => format!(in alloc; "cut")?,
+        Served::Ended(ended) => format!(in alloc; "ended, {} ", ended.token)?,
+    };
+    let mut out = Vec::from_slice(alloc, text.as_str().as_bytes())?;
+    if let Served::Ended(ended) = served {
+        out.extend_from_slice(ended.out.as_slice())?;
+    }
+    Ok(out)
+}
+
+/// Serves a client that says this, on a network that heard that; what came of it, and behind it what
+/// the network was sent.
+fn serves<R: Threads + Wait + Send + Copy + 'static>(
+    rt: R,
+    alloc: Global,
+    heard: &str,
+    said: &[u8],
+) -> Result<Vec<u8>, Fail> {
+    let config = Config::read(alloc, SETTINGS.as_bytes())?;
+    let (network, mut sent) = network_of(&rt, alloc, heard)?;
+    let place = Place {
+        user: 1,
+        network: 0,
+    };
+    let networks = [(place, network)];
+    let mut reader = said;
+    let writer = Vec::new(alloc);
+    let served = serve_session(
+        rt,
+        alloc,
+        &mut reader,
+        writer,
+        &config,
+        &networks,
+        &FreeGate,
+        &Still,
+    )?;
+    let mut out = told(alloc, &served)?;
+    for _ in 0..8 {
+        if let Some(packet) = sent.take() {
+            out.extend_from_slice(packet.bytes())?;
+        }
+    }
+    Ok(out)
+}
+
+/// Whether a client that says this, behind some login, is served so.
+fn is_served<R: Threads + Wait + Abort + Send + Copy + 'static>(
+    rt: R,
+    alloc: Global,
+    heard: &str,
+    said: (&str, &str),
+    want: (&str, &str, &str),
+) -> Result<(), Fail> {
+    let said = format!(in alloc; "{}{}", said.0, said.1)?;
+    let want = format!(in alloc; "{}{}{}", want.0, want.1, want.2)?;
+    let found = serves(rt, alloc, heard, said.as_str().as_bytes())?;
+    assert!(rt; found.as_slice() == want.as_str().as_bytes(), "{said}");
+    Ok(())
+}
+
+#[test]
+fn a_session_speaks_to_its_network(rt: HostRuntime) -> Result<(), Fail> {
+    let said = "PRIVMSG #c :hi all\r\nQUIT\r\nPRIVMSG #c :unsaid\r\n";
+    let sent = "PRIVMSG #c :hi all\r\n";
+    is_served(
+        rt,
+        rt.alloc(),
+        HEARD,
+        (LOGIN, said),
+        ("ended, true ", BURST, sent),
+    )
+}
+
+#[test]
+fn an_input_that_ends_ends_the_session(rt: HostRuntime) -> Result<(), Fail> {
+    is_served(
+        rt,
+        rt.alloc(),
+        HEARD,
+        (LOGIN, "QUI"),
+        ("ended, true ", BURST, ""),
+    )
+}
+
+#[test]
+fn nobody_is_let_in_without_right(rt: HostRuntime) -> Result<(), Fail> {
+    let alloc = rt.alloc();
+    let rest = "NICK x\r\nUSER x 0 * :A\r\nPRIVMSG #c :hi\r\nQUIT\r\n";
+    let none = ("no login", "", "");
+    is_served(rt, alloc, HEARD, ("PASS ann@pc/net:bd\r\n", rest), none)?;
+    is_served(rt, alloc, HEARD, ("PASS eve@pc/net:bc\r\n", rest), none)?;
+    is_served(rt, alloc, HEARD, ("PASS ann@pc/other:bc\r\n", rest), none)?;
+    is_served(rt, alloc, HEARD, ("PASS ann@pc/none:bc\r\n", rest), none)?;
+    is_served(rt, alloc, HEARD, ("PASS bob/net:abc\r\n", rest), none)?;
+    is_served(rt, alloc, HEARD, ("QUIT\r\n", LOGIN), none)?;
+    is_served(
+        rt,
+        alloc,
+        HEARD,
+        ("PASS ann@pc/net:bc\r\nNICK x\r\n", ""),
+        none,
+    )
+}
+
+#[test]
+fn a_network_that_is_not_ready(rt: HostRuntime) -> Result<(), Fail> {
+    let refused = ("refused: not ready", "", "");
+    is_served(
+        rt,
+        rt.alloc(),
+        ":s 001 Me :hi\n",
+        (LOGIN, "PRIVMSG #c :hi\r\n"),
+        refused,
+    )
+}
