@@ -40,7 +40,7 @@ use Rattle.net_view.proofs.AfterModes.{ranks_changed}
 use Rattle.net_view.proofs.Keys.{is_same, same_refl}
 use Rattle.net_view.proofs.RankSets.{is_rank, ranks_alike, has-ranks}
 use Rattle.quick_view.specs.Moding.{rank_after}
-use Rattle.quick_view.specs.Table.{swapped_in}
+use Rattle.network_tables.specs.Table.{swapped_in}
 
 or_else : {A : Type 0} (a b : Option A) (d : A) → unwrap_or (option_or a b) d ≡ unwrap_or a
     (unwrap_or b d)

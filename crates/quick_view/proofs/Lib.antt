@@ -1,11 +1,3 @@
-pub mod Sorted
-pub mod Places
-pub mod HeadLemmas
-pub mod TableLemmas
-pub mod ShownLemmas
-pub mod SwapLemmas
-pub mod EachLemmas
-pub mod Outcomes
 pub mod ViewLemmas
 pub mod LastLemmas
 pub mod NamesLaw

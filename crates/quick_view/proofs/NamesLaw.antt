@@ -31,7 +31,7 @@ use Rattle.net_view.proofs.PartsSound.{IsSoundListing, Each}
 use Rattle.net_view.proofs.SoundStep.{sound_step}
 use Rattle.quick_view.specs.Listing.{listed_view, members_listed, people_listed}
 use Rattle.quick_view.proofs.LastLemmas.{IsSet, set_of}
-use Rattle.quick_view.proofs.SwapLemmas.{twice_in}
+use Rattle.network_tables.proofs.SwapLemmas.{twice_in}
 use Rattle.quick_view.proofs.ViewLemmas.{listed_by}
 
 module _ (v : View) (c : Text) (sets : HasSets v) (known : IsKnowing v) where

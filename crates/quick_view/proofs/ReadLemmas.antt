@@ -17,13 +17,13 @@ use Rattle.net_view.proofs.AfterAlike.{IsKnowing, view_knowing}
 use Rattle.quick_view.specs.FromLines.{ComesFromLines}
 use Rattle.net_view.proofs.AfterMaps.{seen_in}
 use Rattle.quick_view.specs.Kept.{view_kept}
-use Rattle.quick_view.specs.Rooms.{channel_of, rooms_of}
-use Rattle.quick_view.specs.People.{known_of}
-use Rattle.quick_view.specs.declared.room.Room.{Room}
-use Rattle.quick_view.specs.declared.person.Person.{Person}
+use Rattle.network_tables.specs.Rooms.{channel_of, rooms_of}
+use Rattle.network_tables.specs.People.{known_of}
+use Rattle.network_tables.specs.declared.room.Room.{Room}
+use Rattle.network_tables.specs.declared.person.Person.{Person}
 use Rattle.quick_view.specs.declared.state.State.{State}
-use Rattle.quick_view.proofs.ShownLemmas.{entries-shown, get-shown}
-use Rattle.quick_view.proofs.Sorted.{find_at}
+use Rattle.network_tables.proofs.ShownLemmas.{entries-shown, get-shown}
+use Rattle.network_tables.proofs.Sorted.{find_at}
 
 module _ {A : Type 0} (s : State A) where
   pub count_is : length (fin.entries s.rooms.all) ≡ channels_shown (view_kept s)

@@ -28,8 +28,8 @@ use Rattle.net_view.specs.LookBack.{last_in}
 use Rattle.net_view.specs.Modes.{setting_of}
 use Rattle.net_view.proofs.AfterModes.{after_modes, after_modes_elsewhere}
 use Rattle.quick_view.specs.Listing.{listed_view, members_listed, people_listed}
-use Rattle.quick_view.specs.Rooms.{with_modes}
-use Rattle.quick_view.specs.People.{changed_at}
+use Rattle.network_tables.specs.Rooms.{with_modes}
+use Rattle.network_tables.specs.People.{changed_at}
 
 -- ---- another's JOIN
 

@@ -1,8 +1,8 @@
 -- What is kept of a network, and the view that it stands for.
 use Rattle.std.specs.Option.{option_map}
 use Rattle.net_view.specs.View.{View}
-use Rattle.quick_view.specs.People.{people_of}
-use Rattle.quick_view.specs.Rooms.{rooms_of}
+use Rattle.network_tables.specs.People.{people_of}
+use Rattle.network_tables.specs.Rooms.{rooms_of}
 use Rattle.quick_view.specs.declared.state.State.{State}
 
 -- the view of what is kept

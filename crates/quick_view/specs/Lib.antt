@@ -1,10 +1,3 @@
-pub mod Head
-pub mod Sought
-pub mod Table
-pub mod Modes
-pub mod Shown
-pub mod People
-pub mod Rooms
 pub mod Kept
 pub mod Views
 pub mod Moding

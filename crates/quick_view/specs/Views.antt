@@ -13,7 +13,7 @@ use Rattle.net_view.specs.Changes.{
 }
 use Rattle.net_view.specs.Step.{is_seen}
 use Rattle.net_view.specs.View.{View}
-use Rattle.quick_view.specs.Shown.{shown}
+use Rattle.network_tables.specs.Shown.{shown}
 
 -- somebody quit
 abbrev pub quitted_view : View → Text → View

@@ -2,9 +2,8 @@
 
 ghost use Rattle.std.specs.Prelude.{◌≡◌};
 
-use crate::person::Person;
-use crate::slot::Entry;
 use irc_support::Ranks;
+use network_tables::{Entry, Person};
 use std::alloc::Allocator;
 
 /// A member that is listed, as it is to be kept.

@@ -3,16 +3,15 @@
 ghost use Rattle.std.specs.Prelude.{◌≡◌, ◌≤◌, ◌<◌, ◌+◌, map, length, Some, None, IfOk, OnOk, OnErr};
 ghost use Rattle.std.specs.FinMap as fin;
 ghost use Rattle.net_view.specs.Changes.{told_person};
-ghost use Rattle.quick_view.specs.People.{people_of};
+ghost use Rattle.network_tables.specs.People.{people_of};
 ghost use Rattle.quick_view.specs.Listing.{listings_in, listing_of, members_listed, people_listed};
 
 use crate::OutOfMemory;
 use crate::listed::Listed;
-use crate::person::{People, name_person, new_person};
-use crate::room::{Members, new_member};
 use irc_line::Line;
 use irc_names::is_nameable;
 use irc_support::{Support, names};
+use network_tables::{Members, People, name_person, new_member, new_person};
 use std::alloc::Allocator;
 
 /// The members that a line lists, as they are to be kept.

@@ -12,18 +12,15 @@ ghost use Rattle.net_view.specs.LookBack.{last_in};
 ghost use Rattle.net_view.specs.Modes.{setting_of};
 ghost use Rattle.net_view.proofs.AfterModes.{ranks_changed};
 ghost use Rattle.quick_view.specs.Moding.{modes_in, letters_in, rank_after, IsModed};
-ghost use Rattle.quick_view.specs.Rooms.{channel_of};
+ghost use Rattle.network_tables.specs.Rooms.{channel_of};
 ghost use Rattle.net_view.proofs.AfterAlike.{AreSets};
 
 use crate::OutOfMemory;
-use crate::modes::Modes;
-use crate::room::{Members, Room};
-use crate::sought::Sought;
-use crate::text::copy_of;
 use irc_line::Line;
 use irc_names::is_nameable;
 use irc_support::{Change, Kind, Ranks, Support, changes};
 use net_view::is_word;
+use network_tables::{Members, Modes, Room, Sought, copy_of};
 use std::alloc::Allocator;
 
 /// A mode: `None` where it is off, else on, with its parameter, where it has one.

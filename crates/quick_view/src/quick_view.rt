@@ -3,12 +3,11 @@
 ghost use Rattle.std.specs.Prelude.{IfOk};
 
 use crate::OutOfMemory;
-use crate::sought::Sought;
 use crate::state::State;
-use crate::text::bytes;
 use irc_names::is_nameable;
 use irc_support::Support;
 use net_view::{Channel, Item, Member, NetworkView, StateCommand};
+use network_tables::{Sought, bytes};
 use std::alloc::{Allocator, Global};
 use std::marker::Model;
 

@@ -2,19 +2,14 @@
 
 use crate::OutOfMemory;
 use crate::listing::{keep_all, listed_in};
-use crate::modes::Modes;
 use crate::moding::{change_modes, change_room};
-use crate::person::{
-    Person, name_person, new_person, rename_person, retain_seen, set_account, set_away,
-};
-use crate::room::{
-    Rooms, copies, fresh_room, new_member, no_room, seat, set_modes, set_topic, unseat,
-};
-use crate::sought::Sought;
-use crate::table::Table;
-use crate::text::{copy_of, copy_of_told};
 use irc_line::Line;
 use irc_support::{Ranks, Support};
+use network_tables::{
+    Modes, Person, Rooms, Sought, Table, copies, copy_of, copy_of_told, fresh_room, name_person,
+    new_member, new_person, no_room, rename_person, retain_seen, seat, set_account, set_away,
+    set_modes, set_topic, unseat,
+};
 use std::alloc::Allocator;
 
 /// What is kept of a network.
@@ -234,7 +229,9 @@ impl<A: Allocator + Copy> State<A> {
         self.rooms.reserve(1)?;
         self.people.reserve(1)?;
         let mut near = usize::MAX;
-        let again = self.rooms.contains_near(&mut near, Sought::Name(mapping, channel));
+        let again = self
+            .rooms
+            .contains_near(&mut near, Sought::Name(mapping, channel));
         name_person(self.alloc, &mut self.people, person, account);
         self.rooms.insert_near(&mut near, room);
         if again {

@@ -1,6 +1,6 @@
 use Rattle.std.proofs.Common.{◌≡◌, ◌≤◌, map, length}
 use Rattle.std.specs.Vec.Iter.{into_iter_items}
-use Rattle.quick_view.specs.People.{people_of}
+use Rattle.network_tables.specs.People.{people_of}
 use Rattle.quick_view.specs.Listing.{listing_of, members_listed, people_listed}
 use Rattle.quick_view.proofs.listing.keep_all.Given as goal
 

@@ -6,7 +6,7 @@ use Rattle.std.specs.FinMap as fin
 use Rattle.net_view.specs.Modes.{setting_of}
 use Rattle.net_view.specs.StateLines.{setting_by}
 use Rattle.quick_view.proofs.LastLemmas.{mode_put}
-use Rattle.quick_view.proofs.Outcomes.{on_ok}
+use Rattle.network_tables.proofs.Outcomes.{on_ok}
 use Rattle.quick_view.proofs.moding.change_mode.Goals as goal
 
 pub returns-in_ok-param-in-Some-Some : goal.returns-in_ok-param-in-Some-Some

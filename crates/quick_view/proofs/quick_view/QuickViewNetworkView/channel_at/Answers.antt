@@ -1,7 +1,7 @@
 use Rattle.std.proofs.Common.{Some, sym, ap, ◌∙◌, option_map}
 use Rattle.net_view.specs.View.{Channel}
 use Rattle.net_view.specs.Readers.{channel_shown}
-use Rattle.quick_view.specs.Table.{entry_now}
+use Rattle.network_tables.specs.Table.{entry_now}
 use Rattle.quick_view.proofs.ReadLemmas.{room_shown}
 use Rattle.quick_view.proofs.quick_view.QuickViewNetworkView.channel_at.Goals as goal
 

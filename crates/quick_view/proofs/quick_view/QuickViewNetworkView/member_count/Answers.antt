@@ -3,7 +3,7 @@ use Rattle.std.specs.Option.{option_map_or}
 use Rattle.std.specs.FinMap as fin
 use Rattle.net_view.specs.View.{Channel}
 use Rattle.net_view.specs.Readers.{channel_shown}
-use Rattle.quick_view.specs.Table.{entry_now}
+use Rattle.network_tables.specs.Table.{entry_now}
 use Rattle.quick_view.proofs.ReadLemmas.{room_shown}
 use Rattle.quick_view.proofs.quick_view.QuickViewNetworkView.member_count.Goals as goal
 

@@ -6,7 +6,7 @@ use Rattle.net_view.proofs.StepLaw.{view_unchanged}
 use Rattle.net_view.proofs.Tests.{false_true}
 use Rattle.net_view.proofs.Commands.{is_read}
 use Rattle.quick_view.specs.Kept.{view_kept}
-use Rattle.quick_view.proofs.Outcomes.{on_ok}
+use Rattle.network_tables.proofs.Outcomes.{on_ok}
 use Rattle.quick_view.proofs.TakeLemmas.{after_line, line_taken, loss_taken, still_from_lines}
 use Rattle.quick_view.proofs.quick_view.QuickViewNetworkView.take.Goals as goal
 

@@ -7,11 +7,11 @@ use Rattle.net_view.specs.Step.{is_seen}
 use Rattle.net_view.specs.Changes.{told_person, fresh_channel}
 use Rattle.net_view.proofs.Keys.{bytes_exact}
 use Rattle.quick_view.specs.Kept.{view_kept}
-use Rattle.quick_view.specs.Rooms.{channel_of, rooms_of}
-use Rattle.quick_view.specs.People.{people_of}
+use Rattle.network_tables.specs.Rooms.{channel_of, rooms_of}
+use Rattle.network_tables.specs.People.{people_of}
 use Rattle.quick_view.specs.Views.{entered_view}
-use Rattle.quick_view.proofs.ShownLemmas.{insert-shown}
-use Rattle.quick_view.proofs.SwapLemmas.{none_is}
+use Rattle.network_tables.proofs.ShownLemmas.{insert-shown}
+use Rattle.network_tables.proofs.SwapLemmas.{none_is}
 use Rattle.quick_view.proofs.ViewLemmas.{all_still_seen, entered_seen}
 use Rattle.quick_view.proofs.state.State.enter.Goals as goal
 

@@ -4,9 +4,9 @@ use Rattle.irc_names.specs.CaseMapping.{key_of}
 use Rattle.net_view.specs.Names.{bytes_cmp}
 use Rattle.net_view.specs.Changes.{joined_view, told_person, with_ranks}
 use Rattle.quick_view.specs.Kept.{view_kept}
-use Rattle.quick_view.specs.Rooms.{channel_of, rooms_of}
-use Rattle.quick_view.specs.People.{people_of, changed_at}
-use Rattle.quick_view.proofs.ShownLemmas.{contains-shown}
+use Rattle.network_tables.specs.Rooms.{channel_of, rooms_of}
+use Rattle.network_tables.specs.People.{people_of, changed_at}
+use Rattle.network_tables.proofs.ShownLemmas.{contains-shown}
 use Rattle.quick_view.proofs.ViewLemmas.{joined_is, joined_none}
 use Rattle.quick_view.proofs.state.State.join.Goals as goal
 

@@ -7,10 +7,10 @@ use Rattle.net_view.specs.Step.{is_seen}
 use Rattle.net_view.proofs.Keys.{bytes_exact}
 use Rattle.net_view.proofs.AfterAlike.{removed_none}
 use Rattle.quick_view.specs.Kept.{view_kept}
-use Rattle.quick_view.specs.Rooms.{channel_of, rooms_of}
+use Rattle.network_tables.specs.Rooms.{channel_of, rooms_of}
 use Rattle.quick_view.specs.Views.{left_view}
-use Rattle.quick_view.proofs.ShownLemmas.{shown_some, remove-shown}
-use Rattle.quick_view.proofs.SwapLemmas.{none_is}
+use Rattle.network_tables.proofs.ShownLemmas.{shown_some, remove-shown}
+use Rattle.network_tables.proofs.SwapLemmas.{none_is}
 use Rattle.quick_view.proofs.ViewLemmas.{all_still_seen}
 use Rattle.quick_view.proofs.state.State.leave.Goals as goal
 

@@ -6,9 +6,9 @@ use Rattle.net_view.specs.Names.{bytes_cmp}
 use Rattle.net_view.specs.Changes.{parted_view}
 use Rattle.net_view.proofs.Keys.{bytes_exact}
 use Rattle.quick_view.specs.Kept.{view_kept}
-use Rattle.quick_view.specs.Rooms.{rooms_of}
-use Rattle.quick_view.specs.People.{known_of, people_of}
-use Rattle.quick_view.proofs.ShownLemmas.{remove-shown}
+use Rattle.network_tables.specs.Rooms.{rooms_of}
+use Rattle.network_tables.specs.People.{known_of, people_of}
+use Rattle.network_tables.proofs.ShownLemmas.{remove-shown}
 use Rattle.quick_view.proofs.ViewLemmas.{parted_is, parted_nobody}
 use Rattle.quick_view.proofs.state.State.part.Goals as goal
 

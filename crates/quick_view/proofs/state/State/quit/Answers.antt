@@ -4,9 +4,9 @@ use Rattle.irc_names.specs.CaseMapping.{key_of}
 use Rattle.net_view.specs.Names.{bytes_cmp}
 use Rattle.net_view.proofs.Keys.{bytes_exact}
 use Rattle.quick_view.specs.Kept.{view_kept}
-use Rattle.quick_view.specs.People.{known_of, people_of}
+use Rattle.network_tables.specs.People.{known_of, people_of}
 use Rattle.quick_view.specs.Views.{quitted_view}
-use Rattle.quick_view.proofs.ShownLemmas.{remove-shown}
+use Rattle.network_tables.proofs.ShownLemmas.{remove-shown}
 use Rattle.quick_view.proofs.state.State.quit.Goals as goal
 
 pub returns : goal.returns

@@ -5,12 +5,12 @@ use Rattle.net_view.specs.Names.{bytes_cmp}
 use Rattle.net_view.specs.Step.{is_seen}
 use Rattle.net_view.specs.Changes.{renamed_in, spelled_as}
 use Rattle.quick_view.specs.Kept.{view_kept}
-use Rattle.quick_view.specs.People.{known_of}
-use Rattle.quick_view.specs.Rooms.{moved_channel}
-use Rattle.quick_view.specs.Shown.{shown}
+use Rattle.network_tables.specs.People.{known_of}
+use Rattle.network_tables.specs.Rooms.{moved_channel}
+use Rattle.network_tables.specs.Shown.{shown}
 use Rattle.quick_view.specs.Views.{renamed_view}
-use Rattle.quick_view.proofs.ShownLemmas.{contains-shown, shown_some}
-use Rattle.quick_view.proofs.SwapLemmas.{freely_moved}
+use Rattle.network_tables.proofs.ShownLemmas.{contains-shown, shown_some}
+use Rattle.network_tables.proofs.SwapLemmas.{freely_moved}
 use Rattle.quick_view.proofs.state.State.rename.Goals as goal
 
 pub returns-then-ours-clause-taken : goal.returns-then-ours-clause-taken

@@ -8,7 +8,7 @@ use Rattle.net_view.proofs.AfterJoin.{after_join}
 use Rattle.net_view.proofs.AfterVoidJoin.{after_void_join}
 use Rattle.net_view.proofs.AfterOwnJoin.{after_own_join}
 use Rattle.quick_view.specs.Kept.{view_kept}
-use Rattle.quick_view.proofs.Outcomes.{on_ok}
+use Rattle.network_tables.proofs.Outcomes.{on_ok}
 use Rattle.quick_view.proofs.TakeLemmas.{own_there}
 use Rattle.quick_view.proofs.state.State.take_join.Goals as goal
 

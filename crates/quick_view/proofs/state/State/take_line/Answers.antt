@@ -11,7 +11,7 @@ use Rattle.net_view.proofs.Commands.{told_of_isupport}
 use Rattle.net_view.proofs.ReadCommands.{supports_said}
 use Rattle.quick_view.specs.Kept.{view_kept}
 use Rattle.quick_view.specs.Listing.{listings_in}
-use Rattle.quick_view.proofs.Outcomes.{on_ok}
+use Rattle.network_tables.proofs.Outcomes.{on_ok}
 use Rattle.quick_view.proofs.TakeLemmas.{after_silent, names_sound, names_set}
 use Rattle.quick_view.proofs.NamesLaw.{names_law}
 use Rattle.quick_view.proofs.state.State.take_line.Goals as goal

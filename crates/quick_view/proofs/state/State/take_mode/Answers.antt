@@ -5,10 +5,10 @@ use Rattle.net_view.specs.Step.{after_told}
 use Rattle.net_view.specs.Told as told
 use Rattle.net_view.proofs.AfterModes.{after_mode, after_mode_elsewhere}
 use Rattle.quick_view.specs.Kept.{view_kept}
-use Rattle.quick_view.specs.Rooms.{channel_of, rooms_of}
+use Rattle.network_tables.specs.Rooms.{channel_of, rooms_of}
 use Rattle.quick_view.specs.Moding.{letters_in, modes_in}
-use Rattle.quick_view.proofs.Outcomes.{on_ok, on_err}
-use Rattle.quick_view.proofs.SwapLemmas.{put_new, put_back, out_is, none_is}
+use Rattle.network_tables.proofs.Outcomes.{on_ok, on_err}
+use Rattle.network_tables.proofs.SwapLemmas.{put_new, put_back, out_is, none_is}
 use Rattle.quick_view.proofs.state.State.take_mode.Goals as goal
 
 pub returns-then-swap-clause-taken : goal.returns-then-swap-clause-taken

@@ -8,7 +8,7 @@ use Rattle.net_view.specs.LookBack.{last_in}
 use Rattle.net_view.specs.Modes.{setting_of}
 use Rattle.net_view.specs.Told as told
 use Rattle.quick_view.specs.Kept.{view_kept}
-use Rattle.quick_view.specs.Rooms.{rooms_of}
+use Rattle.network_tables.specs.Rooms.{rooms_of}
 use Rattle.quick_view.specs.Moding.{modes_in}
 use Rattle.quick_view.proofs.ViewLemmas.{modes_are}
 use Rattle.quick_view.proofs.state.State.take_modes.Goals as goal

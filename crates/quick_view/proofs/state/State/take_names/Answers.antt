@@ -2,10 +2,10 @@ use Rattle.std.proofs.Common.{sym, ap, ◌∙◌}
 use Rattle.std.specs.FinMap as fin
 use Rattle.irc_names.specs.CaseMapping.{key_of}
 use Rattle.quick_view.specs.Kept.{view_kept}
-use Rattle.quick_view.specs.Rooms.{channel_of, rooms_of}
-use Rattle.quick_view.specs.People.{people_of}
+use Rattle.network_tables.specs.Rooms.{channel_of, rooms_of}
+use Rattle.network_tables.specs.People.{people_of}
 use Rattle.quick_view.specs.Listing.{listings_in, listed_view, members_listed, people_listed}
-use Rattle.quick_view.proofs.SwapLemmas.{put_new, put_back, out_is, none_is}
+use Rattle.network_tables.proofs.SwapLemmas.{put_new, put_back, out_is, none_is}
 use Rattle.quick_view.proofs.ViewLemmas.{listed_is, listed_none}
 use Rattle.quick_view.proofs.state.State.take_names.Goals as goal
 

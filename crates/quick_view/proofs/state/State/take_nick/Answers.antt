@@ -6,10 +6,10 @@ use Rattle.net_view.specs.Step.{standing_of}
 use Rattle.net_view.specs.Transcript.{is_us}
 use Rattle.net_view.specs.Changes.{renamed_channel, renamed_in, spelled_as}
 use Rattle.net_view.proofs.AfterRename.{after_rename, after_no_rename}
-use Rattle.quick_view.specs.Shown.{shown}
+use Rattle.network_tables.specs.Shown.{shown}
 use Rattle.quick_view.specs.Kept.{view_kept}
-use Rattle.quick_view.proofs.Outcomes.{on_ok}
-use Rattle.quick_view.proofs.ShownLemmas.{get-shown}
+use Rattle.network_tables.proofs.Outcomes.{on_ok}
+use Rattle.network_tables.proofs.ShownLemmas.{get-shown}
 use Rattle.quick_view.proofs.state.State.take_nick.Goals as goal
 
 pub returns-then-is_us-clause-taken : goal.returns-then-is_us-clause-taken

@@ -6,7 +6,7 @@ use Rattle.net_view.specs.Changes.{without_member}
 use Rattle.net_view.proofs.AfterQuit.{after_quit}
 use Rattle.net_view.proofs.Emptied.{emptied}
 use Rattle.quick_view.specs.Kept.{view_kept}
-use Rattle.quick_view.proofs.ShownLemmas.{get-shown}
+use Rattle.network_tables.proofs.ShownLemmas.{get-shown}
 use Rattle.quick_view.proofs.state.State.take_quit.Goals as goal
 
 pub returns-then-is_us : goal.returns-then-is_us

@@ -3,7 +3,7 @@ use Rattle.std.specs.Prelude.{◌&&◌, not}
 use Rattle.irc_support.specs.Tokens.{set_tokens}
 use Rattle.net_view.proofs.AfterFacts.{after_supports}
 use Rattle.quick_view.specs.Kept.{view_kept}
-use Rattle.quick_view.proofs.Outcomes.{on_ok}
+use Rattle.network_tables.proofs.Outcomes.{on_ok}
 use Rattle.quick_view.proofs.TakeLemmas.{view_none}
 use Rattle.quick_view.proofs.state.State.take_supports.Goals as goal
 

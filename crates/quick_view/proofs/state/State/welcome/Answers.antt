@@ -1,8 +1,8 @@
 use Rattle.std.proofs.Common.{false, Some, ap, ◌∙◌}
 use Rattle.net_view.specs.Names.{bytes_cmp}
-use Rattle.quick_view.specs.Rooms.{channel_of, rooms_of}
-use Rattle.quick_view.specs.People.{known_of, people_of}
-use Rattle.quick_view.proofs.ShownLemmas.{empty-shown}
+use Rattle.network_tables.specs.Rooms.{channel_of, rooms_of}
+use Rattle.network_tables.specs.People.{known_of, people_of}
+use Rattle.network_tables.proofs.ShownLemmas.{empty-shown}
 use Rattle.quick_view.proofs.state.State.welcome.Goals as goal
 
 pub returns-clause-welcomed : goal.returns-clause-welcomed

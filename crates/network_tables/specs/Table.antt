@@ -1,0 +1,48 @@
+-- Entries in the order of their keys.
+use Rattle.std.specs.Prelude.{ℕ, ◌-◌, T, map, if◌then◌else◌}
+use Rattle.std.specs.Coded.{Coded, code_by, coded×, coded_ℕ, coded_list}
+use Rattle.std.specs.Option.{unwrap_or}
+use Rattle.std.specs.Borrow.{Bor}
+use Rattle.std.specs.Vec.{vec_len, vec_capacity}
+use Rattle.std.specs.declared.vec.Vec.{Vec}
+use Rattle.std.specs.FinMap as fin
+use Rattle.std.proofs.Common.{refl}
+use Rattle.irc_support.specs.Text.{Text}
+use Rattle.net_view.specs.Names.{bytes_cmp}
+use Rattle.network_tables.specs.declared.slot.Slot.{Slot}
+
+-- all entries by their keys, and for how many more there is room
+pub record Tabled (X : Type 0) : Type 0 where
+  pub all : fin.FinMap bytes_cmp X
+  pub spare : ℕ
+
+abbrev pub tabled_code : {X : Type 0} → Coded X → Coded (Tabled X)
+tabled_code {X} x =
+    code_by (fin.FinMap bytes_cmp X × ℕ) (coded× (fin.code (coded_list coded_ℕ) x) coded_ℕ)
+    (λ t. (t.all, t.spare)) (λ p. record { all = p.0; spare = p.1 }) (λ _. refl)
+
+-- an entry, as its key and its value
+abbrev pub entry_of : {X A : Type 0} → Slot X A → Text × X
+entry_of slot = (slot.entry.value.key.items, slot.entry.value.value)
+
+-- all entries of a list in the order of keys
+abbrev pub tabled : {X A : Type 0} → Vec (Slot X A) A → Tabled X
+tabled entries = record {
+  all = fin.from_sorted (map entry_of entries.items);
+  spare = vec_capacity entries - vec_len entries;
+}
+
+abbrev pub IsTabled : {X A : Type 0} → Vec (Slot X A) A → Type 0
+IsTabled entries = T (fin.is_sorted bytes_cmp (map entry_of entries.items))
+
+-- a value in the place of another, where there is one
+abbrev pub swapped_in : {X : Type 0} → fin.FinMap bytes_cmp X → Text → X → fin.FinMap bytes_cmp X
+swapped_in m key value = if fin.contains_key m key then fin.insert m key value else m
+
+-- what it then stands for
+abbrev pub swapped_out : {X : Type 0} → fin.FinMap bytes_cmp X → Text → X → X
+swapped_out m key value = unwrap_or (fin.get m key) value
+
+-- an entry that is lent
+abbrev pub entry_now : {X : Type 0} → Bor Text × Bor X → Text × X
+entry_now entry = (entry.0.now, entry.1.now)

@@ -1,0 +1,24 @@
+//! Persons, channels and members by the keys of their names, in tables in the order of the keys.
+#![tactic(auto)]
+
+mod modes;
+mod person;
+mod room;
+mod slot;
+mod sought;
+mod table;
+mod text;
+
+pub use modes::Modes;
+pub use person::{
+    People, Person, name_person, new_person, rename_person, retain_seen, set_account, set_away,
+};
+pub use room::{
+    Members, Room, Rooms, copies, fresh_room, new_member, no_room, seat, set_modes, set_topic,
+    unseat,
+};
+pub use slot::Entry;
+pub use sought::Sought;
+pub use std::alloc::AllocError as OutOfMemory;
+pub use table::Table;
+pub use text::{bytes, copy_of, copy_of_told};

@@ -1,0 +1,320 @@
+//! Channels that we are on.
+
+ghost use Rattle.std.specs.Prelude.{◌≡◌, ◌≤◌, length, map, is_some, OnOk, OnErr, IfOk};
+ghost use Rattle.std.specs.Option.{option_map};
+ghost use Rattle.std.specs.List.{All, list_any};
+ghost use Rattle.std.specs.FinMap as fin;
+ghost use Rattle.net_view.specs.Step.{is_seen, old_member};
+ghost use Rattle.net_view.specs.Changes.{with_topic, with_ranks, without_member, fresh_channel};
+ghost use Rattle.irc_names.specs.CaseMapping.{key_of};
+ghost use Rattle.network_tables.specs.Shown.{shown};
+ghost use Rattle.network_tables.specs.Head.{head_of, AreBytesTo};
+ghost use Rattle.network_tables.specs.Sought.{sought_key};
+ghost use Rattle.network_tables.specs.People.{changed_at};
+ghost use Rattle.network_tables.specs.Rooms.{channel_of, rooms_of, with_modes, room_entry};
+ghost use Rattle.network_tables.specs.Rooms.{each_changed, is_in, moved_in, moved_channel};
+
+use crate::OutOfMemory;
+use crate::modes::Modes;
+use crate::slot::{Entry, Slot};
+use crate::sought::{Sought, head};
+use crate::table::Table;
+use irc_names::CaseMapping;
+use irc_support::Ranks;
+use std::alloc::Allocator;
+
+/// The members of a channel, by the keys of their nicks, each with the ranks held there.
+pub type Members<A> = Table<Ranks, A>;
+
+/// A channel that we are on.
+#[derive(Drop)]
+pub struct Room<A: Allocator> {
+    /// As spelled in our own last JOIN.
+    pub name: Vec<u8, A>,
+    pub topic: Option<Vec<u8, A>>,
+    pub modes: Modes<A>,
+    pub members: Members<A>,
+}
+
+/// The channels that we are on, by the keys of their names.
+pub type Rooms<A> = Table<Room<A>, A>;
+
+/// A channel without a name, a mode or a member, which stands for one that is being changed.
+pub fn no_room<A: Allocator + Copy>(alloc: A) -> Room<A> {
+    Room {
+        name: Vec::new(alloc),
+        topic: None,
+        modes: Modes::new(alloc),
+        members: Table::new(alloc),
+    }
+}
+
+/// A member of this name who holds these ranks, as it is to be kept.
+pub fn new_member<A: Allocator + Copy>(
+    alloc: A,
+    mapping: CaseMapping,
+    name: &[u8],
+    ranks: Ranks,
+) -> Result<Box<Entry<Ranks, A>, A>, OutOfMemory>
+    ensures key { IfOk result (λ entry. entry.value.key.items ≡ key_of mapping name.now) }
+    ensures ranks { IfOk result (λ entry. entry.value.value ≡ ranks) }
+{
+    let key = mapping.key(alloc, name)?;
+    Ok(Box::new(alloc, Entry { key, value: ranks })?)
+}
+
+/// A channel of this name, of which somebody is the one member, as it is to be kept.
+pub fn fresh_room<A: Allocator + Copy>(
+    alloc: A,
+    mapping: CaseMapping,
+    name: &[u8],
+    who: &[u8],
+) -> Result<Box<Entry<Room<A>, A>, A>, OutOfMemory>
+    ensures key { IfOk result (λ entry. entry.value.key.items ≡ key_of mapping name.now) }
+    ensures room { IfOk result (λ entry. channel_of entry.value.value
+        ≡ fresh_channel name.now (key_of mapping who.now)) }
+{
+    let key = mapping.key(alloc, name)?;
+    let name = Vec::from_slice(alloc, name)?;
+    let member = new_member(alloc, mapping, who, Ranks::none())?;
+    let mut members = Table::new(alloc);
+    members.reserve(1)?;
+    members.insert(member);
+    let value = Room {
+        name,
+        topic: None,
+        modes: Modes::new(alloc),
+        members,
+    };
+    Ok(Box::new(alloc, Entry { key, value })?)
+}
+
+/// Changes a channel's topic, where we are on it.
+pub fn set_topic<A: Allocator + Copy>(
+    alloc: A,
+    rooms: &mut Rooms<A>,
+    channel: Sought<'_>,
+    topic: Option<Vec<u8, A>>,
+)
+    ensures { rooms_of rooms.new.all ≡ changed_at (rooms_of rooms.old.all) (sought_key
+        channel.entry)
+        (with_topic (option_map (λ t. t.items) topic)) }
+{
+    let mut near = usize::MAX;
+    let mut room = no_room(alloc);
+    if rooms.swap(&mut near, channel, &mut room) {
+        room.topic = topic;
+        rooms.swap(&mut near, channel, &mut room);
+    }
+}
+
+/// Changes a channel's modes, where we are on it.
+pub fn set_modes<A: Allocator + Copy>(
+    alloc: A,
+    rooms: &mut Rooms<A>,
+    channel: Sought<'_>,
+    modes: Modes<A>,
+)
+    ensures { rooms_of rooms.new.all ≡ changed_at (rooms_of rooms.old.all) (sought_key
+        channel.entry)
+        (with_modes modes) }
+{
+    let mut near = usize::MAX;
+    let mut room = no_room(alloc);
+    if rooms.swap(&mut near, channel, &mut room) {
+        room.modes = modes;
+        rooms.swap(&mut near, channel, &mut room);
+    }
+}
+
+/// Makes somebody a member.
+fn add_member<A: Allocator>(
+    members: &mut Members<A>,
+    member: Box<Entry<Ranks, A>, A>,
+) -> Result<(), OutOfMemory>
+    ensures added { OnOk result (members.new.all
+        ≡ fin.insert members.old.all member.value.key.items member.value.value) }
+    ensures kept { OnErr result (members.new.all ≡ members.old.all) }
+{
+    members.reserve(1)?;
+    members.insert(member);
+    Ok(())
+}
+
+/// Makes somebody a member of a channel, near the place where it stood last, where we are on it.
+pub fn seat<A: Allocator + Copy>(
+    alloc: A,
+    rooms: &mut Rooms<A>,
+    near: usize,
+    channel: Sought<'_>,
+    member: Box<Entry<Ranks, A>, A>,
+) -> Result<(), OutOfMemory>
+    ensures added { OnOk result (rooms_of rooms.new.all ≡ changed_at (rooms_of rooms.old.all)
+        (sought_key channel.entry) (with_ranks member.value.key.items member.value.value)) }
+    ensures kept { OnErr result (rooms_of rooms.new.all ≡ rooms_of rooms.old.all) }
+{
+    let mut near = near;
+    let mut room = no_room(alloc);
+    if rooms.swap(&mut near, channel, &mut room) {
+        let added = add_member(&mut room.members, member);
+        rooms.swap(&mut near, channel, &mut room);
+        added
+    } else {
+        Ok(())
+    }
+}
+
+/// Takes a member off a channel; whether somebody was a member.
+pub fn unseat<A: Allocator + Copy>(
+    alloc: A,
+    rooms: &mut Rooms<A>,
+    channel: Sought<'_>,
+    who: Sought<'_>,
+) -> bool
+    ensures left { rooms_of rooms.new.all ≡ changed_at (rooms_of rooms.old.all)
+        (sought_key channel.entry) (without_member (sought_key who.entry)) }
+    ensures was { result ≡ is_some (old_member
+        (fin.get (rooms_of rooms.old.all) (sought_key channel.entry)) (sought_key who.entry)) }
+{
+    let mut near = usize::MAX;
+    let mut room = no_room(alloc);
+    if rooms.swap(&mut near, channel, &mut room) {
+        let was = room.members.remove(who);
+        rooms.swap(&mut near, channel, &mut room);
+        was.is_some()
+    } else {
+        false
+    }
+}
+
+/// Takes a member off each of the channels.
+fn unseat_each<A: Allocator>(rooms: &mut [Slot<Room<A>, A>], who: Sought<'_>)
+    ensures { map room_entry rooms.new
+        ≡ each_changed (without_member (sought_key who.entry)) (map room_entry rooms.old) }
+{
+    let head = head(who);
+    for room in rooms.iter_mut() {
+        let _ = room.entry.value.members.remove_by(head, who);
+    }
+}
+
+/// Gives a member another key. Whoever stood under that one is gone, where it may be taken.
+fn rename_member<A: Allocator>(
+    members: &mut Members<A>,
+    head: u64,
+    old: Sought<'_>,
+    taken: bool,
+    new: Vec<u8, A>,
+)
+    requires head { head ≡ head_of (sought_key old) }
+    requires bytes { AreBytesTo 8 (sought_key old) }
+    ensures { members.new.all
+        ≡ moved_in taken (sought_key old.entry) new.items members.old.all }
+{
+    match members.remove_by(head, old) {
+        Some(mut member) => {
+            member.key = new;
+            members.insert(member);
+        }
+        None => {
+            if taken {
+                members.forget(&new);
+            }
+        }
+    }
+}
+
+/// Copies of a key.
+pub fn copies<A: Allocator + Copy>(
+    alloc: A,
+    key: &[u8],
+    count: usize,
+) -> Result<Vec<Vec<u8, A>, A>, OutOfMemory>
+    ensures { IfOk result (λ keys. (length keys.items ≡ count) × All (λ k. k.items ≡ key.now)
+        keys.items) }
+{
+    let mut keys = Vec::new(alloc);
+    for _made in 0..count {
+        keys.push(Vec::from_slice(alloc, key)?)?;
+    }
+    Ok(keys)
+}
+
+/// Gives a member another key in each of the channels, for each of which there is a copy of it.
+fn rename_each<A: Allocator>(
+    rooms: &mut [Slot<Room<A>, A>],
+    old: Sought<'_>,
+    taken: bool,
+    new: &[u8],
+    keys: &mut Vec<Vec<u8, A>, A>,
+)
+    requires enough { length rooms.old ≤ length keys.old.items }
+    requires copies { All (λ k. k.items ≡ new.now) keys.old.items }
+    ensures { map room_entry rooms.new
+        ≡ each_changed (moved_channel taken (sought_key old.entry) new.now)
+        (map room_entry rooms.old) }
+{
+    let head = head(old);
+    for room in rooms.iter_mut() {
+        match keys.pop() {
+            Some(key) => rename_member(&mut room.entry.value.members, head, old, taken, key),
+            None => unreachable!(),
+        }
+    }
+}
+
+/// Whether somebody is a member of one of the channels.
+fn is_member_of_any<A: Allocator>(rooms: &[Slot<Room<A>, A>], who: Sought<'_>) -> bool
+    ensures { result ≡ list_any (is_in (sought_key who.entry)) (map room_entry rooms.now) }
+{
+    let head = head(who);
+    for room in rooms {
+        if room.entry.value.members.contains_by(head, who) {
+            return true;
+        }
+    }
+    false
+}
+
+impl<A: Allocator> Table<Room<A>, A> {
+    ghost use Rattle.std.specs.Prelude.{◌≡◌, ◌≤◌, length};
+    ghost use Rattle.std.specs.List.{All};
+    ghost use Rattle.std.specs.FinMap as fin;
+    ghost use Rattle.net_view.specs.Step.{is_seen};
+    ghost use Rattle.net_view.specs.Changes.{without_member};
+    ghost use Rattle.network_tables.specs.Shown.{shown};
+    ghost use Rattle.network_tables.specs.Sought.{sought_key};
+    ghost use Rattle.network_tables.specs.Rooms.{rooms_of, moved_channel};
+
+    /// Takes a member off all channels.
+    pub fn unseat_all(&mut self, who: Sought<'_>)
+        ensures { rooms_of self.new.all
+            ≡ shown (without_member (sought_key who.entry)) (rooms_of self.old.all) }
+    {
+        unseat_each(&mut self.entries, who);
+    }
+
+    /// Gives a member another key in all channels, for each of which there is a copy of it. Where
+    /// the other key may be taken, whoever stood under it is gone.
+    pub fn rename_all(
+        &mut self,
+        old: Sought<'_>,
+        taken: bool,
+        new: &[u8],
+        keys: &mut Vec<Vec<u8, A>, A>,
+    )
+        requires enough { length (fin.entries self.old.all) ≤ length keys.old.items }
+        requires copies { All (λ k. k.items ≡ new.now) keys.old.items }
+        ensures { rooms_of self.new.all
+            ≡ shown (moved_channel taken (sought_key old.entry) new.now) (rooms_of self.old.all) }
+    {
+        rename_each(&mut self.entries, old, taken, new, keys);
+    }
+
+    /// Whether somebody is a member of one of the channels.
+    pub fn is_seen(&self, who: Sought<'_>) -> bool
+        ensures { result ≡ is_seen (rooms_of self.now.all) (sought_key who.entry) }
+    {
+        is_member_of_any(&self.entries, who)
+    }
+}

@@ -1,0 +1,305 @@
+//! Values by key.
+
+ghost use Rattle.std.specs.Prelude.{◌≡◌, ◌+◌, ◌<◌, ◌≤◌, length, slice_get, slice_set, IsSome};
+ghost use Rattle.std.specs.Prelude.{IfOk, vec_len, vec_capacity, OnOk, OnErr};
+ghost use Rattle.std.specs.List.{insert, remove};
+ghost use Rattle.std.specs.List.Sorted.{IsBinarySearchResult, IsSearchInRange};
+ghost use Rattle.std.specs.Option.{option_map};
+ghost use Rattle.std.specs.FinMap as fin;
+ghost use Rattle.net_view.specs.Names.{bytes_cmp};
+ghost use Rattle.network_tables.specs.Table.{entry_now, swapped_in, swapped_out};
+ghost use Rattle.network_tables.specs.Sought.{sought_key};
+ghost use Rattle.network_tables.specs.Head.{head_of, AreBytesTo};
+
+use crate::OutOfMemory;
+use crate::slot::{Entry, Slot};
+use crate::sought::{Sought, head, key_head, order, order_behind};
+use std::alloc::Allocator;
+use std::cmp::Ordering;
+use std::marker::Model;
+use std::mem;
+
+/// Values by key, in the order of the keys, byte by byte.
+#[derive(Drop)]
+pub struct Table<V, A: Allocator> {
+    pub(crate) entries: Vec<Slot<V, A>, A>,
+}
+
+impl<V, A: Allocator> Model for Table<V, A> {
+    ghost use Rattle.network_tables.specs.Table.{Tabled, tabled_code, tabled, IsTabled};
+
+    ghost Value = { Tabled V };
+
+    ghost coded = { tabled_code V.code };
+
+    ghost view = { λ t. tabled t.entries };
+
+    ghost invariant = { λ t. IsTabled t.entries };
+}
+
+/// How an entry stands to what is looked for, whose head is this.
+fn order_by_head<V, A: Allocator>(slot: &Slot<V, A>, head: u64, sought: Sought<'_>) -> Ordering
+    ensures { head ≡ head_of (sought_key sought.entry) → AreBytesTo 8 (sought_key sought.entry) →
+        result ≡ bytes_cmp slot.now.entry.value.key.items (sought_key sought.entry) }
+{
+    match slot.head.cmp(&head) {
+        Ordering::Equal => order_behind(&slot.entry.key, sought),
+        apart => apart,
+    }
+}
+
+/// Where the entry that is looked for stands, or would stand, by its head.
+fn place_of<V, A: Allocator>(
+    slots: &[Slot<V, A>],
+    head: u64,
+    sought: Sought<'_>,
+) -> Result<usize, usize>
+    requires head { head ≡ head_of (sought_key sought) }
+    requires bytes { AreBytesTo 8 (sought_key sought) }
+    ensures bound { IsSearchInRange result (length slots.now) }
+    ensures place { IsBinarySearchResult
+        (λ slot. bytes_cmp slot.entry.value.key.items (sought_key sought.entry)) slots.now result }
+{
+    slots.binary_search_by(
+        |slot: &Slot<V, A>| -> Ordering
+            ensures { head ≡ head_of (sought_key sought.entry) →
+                AreBytesTo 8 (sought_key sought.entry) → result
+                ≡ bytes_cmp slot.now.entry.value.key.items (sought_key sought.entry) }
+        { order_by_head(slot, head, sought) },
+    )
+}
+
+/// Where the entry that is looked for stands, or would stand. It is first looked for at the place
+/// near which it stood last; that place is then where it was found.
+fn place_near<V, A: Allocator>(
+    slots: &[Slot<V, A>],
+    near: &mut usize,
+    sought: Sought<'_>,
+) -> Result<usize, usize>
+    ensures bound { IsSearchInRange result (length slots.now) }
+    ensures place { IsBinarySearchResult
+        (λ slot. bytes_cmp slot.entry.value.key.items (sought_key sought.entry)) slots.now result }
+{
+    let last = *near;
+    if last < slots.len() {
+        if order(&slots[last].entry.key, sought).is_eq() {
+            return Ok(last);
+        }
+    }
+    match place_of(slots, head(sought), sought) {
+        Ok(place) => {
+            *near = place;
+            Ok(place)
+        }
+        Err(place) => Err(place),
+    }
+}
+
+/// Puts an item at a place, for which there is room.
+pub(crate) fn insert_at<T: Drop, A: Allocator>(items: &mut Vec<T, A>, place: usize, item: T)
+    requires place { place ≤ vec_len items.old }
+    requires room { vec_len items.old < vec_capacity items.old }
+    ensures items { items.new.items ≡ insert items.old.items place item }
+    ensures len { vec_len items.new ≡ vec_len items.old + 1 }
+    ensures capacity { vec_capacity items.old ≤ vec_capacity items.new }
+{
+    let _ = items.insert(place, item);
+}
+
+/// The item at a place.
+pub(crate) fn item_at<T, A: Allocator>(items: &Vec<T, A>, place: usize) -> Option<&T>
+    ensures { option_map (λ item. item.now) result ≡ slice_get items.now.items place }
+{
+    if place < items.len() {
+        Some(&items[place])
+    } else {
+        None
+    }
+}
+
+/// Puts an item in the place of another.
+pub(crate) fn write_at<T: Drop, A: Allocator>(items: &mut Vec<T, A>, place: usize, item: T)
+    requires { place < length items.old.items }
+    ensures { items.new.items ≡ slice_set items.old.items place item }
+{
+    items[place] = item;
+}
+
+/// Takes out the item at a place.
+pub(crate) fn remove_at<T: Drop, A: Allocator>(items: &mut Vec<T, A>, place: usize)
+    requires { place < length items.old.items }
+    ensures { items.new.items ≡ remove items.old.items place }
+{
+    let _ = items.remove(place);
+}
+
+impl<V, A: Allocator> Table<V, A> {
+    /// A table without entries.
+    pub fn new(alloc: A) -> Table<V, A>
+        ensures { result.all ≡ fin.empty }
+    {
+        Table {
+            entries: Vec::new(alloc),
+        }
+    }
+
+    /// How many entries there are.
+    pub fn len(&self) -> usize
+        ensures { result ≡ length (fin.entries self.now.all) }
+    {
+        self.entries.len()
+    }
+
+    /// The value that is looked for.
+    pub fn get(&self, sought: Sought<'_>) -> Option<&V>
+        ensures { option_map (λ value. value.now) result ≡ fin.get self.now.all (sought_key
+            sought.entry) }
+    {
+        self.get_by(head(sought), sought)
+    }
+
+    /// The same, by the head of what is looked for.
+    fn get_by(&self, head: u64, sought: Sought<'_>) -> Option<&V>
+        requires head { head ≡ head_of (sought_key sought) }
+        requires bytes { AreBytesTo 8 (sought_key sought) }
+        ensures { option_map (λ value. value.now) result ≡ fin.get self.now.all (sought_key
+            sought.entry) }
+    {
+        match place_of(&self.entries, head, sought) {
+            Ok(place) => Some(&self.entries[place].entry.value),
+            Err(_) => None,
+        }
+    }
+
+    /// The same, near the place where it stood last.
+    pub fn get_near(&self, near: &mut usize, sought: Sought<'_>) -> Option<&V>
+        ensures { option_map (λ value. value.now) result ≡ fin.get self.now.all (sought_key
+            sought.entry) }
+    {
+        match place_near(&self.entries, near, sought) {
+            Ok(place) => Some(&self.entries[place].entry.value),
+            Err(_) => None,
+        }
+    }
+
+    /// Whether there is an entry of what is looked for, by its head.
+    pub(crate) fn contains_by(&self, head: u64, sought: Sought<'_>) -> bool
+        requires head { head ≡ head_of (sought_key sought) }
+        requires bytes { AreBytesTo 8 (sought_key sought) }
+        ensures { result ≡ fin.contains_key self.now.all (sought_key sought.entry) }
+    {
+        self.get_by(head, sought).is_some()
+    }
+
+    /// The same, near the place where it stood last.
+    pub fn contains_near(&self, near: &mut usize, sought: Sought<'_>) -> bool
+        ensures { result ≡ fin.contains_key self.now.all (sought_key sought.entry) }
+    {
+        self.get_near(near, sought).is_some()
+    }
+
+    /// The key and the value at a place.
+    pub fn at(&self, place: usize) -> Option<(&[u8], &V)>
+        ensures { option_map entry_now result ≡ slice_get (fin.entries self.now.all) place }
+    {
+        match item_at(&self.entries, place) {
+            Some(slot) => Some((slot.entry.key.as_slice(), &slot.entry.value)),
+            None => None,
+        }
+    }
+
+    /// Makes room for more entries.
+    pub fn reserve(&mut self, more: usize) -> Result<(), OutOfMemory>
+        ensures all { self.new.all ≡ self.old.all }
+        ensures room { OnOk result (more ≤ self.new.spare) }
+    {
+        self.entries.reserve(more)
+    }
+}
+
+impl<V: Drop, A: Allocator> Table<V, A> {
+    /// Puts an entry in its place, or in the place of one of the same key.
+    pub fn insert(&mut self, entry: Box<Entry<V, A>, A>)
+        requires { 0 < self.old.spare }
+        ensures all { self.new.all
+            ≡ fin.insert self.old.all entry.value.key.items entry.value.value }
+        ensures room { self.old.spare ≤ self.new.spare + 1 }
+    {
+        let mut near = usize::MAX;
+        self.insert_near(&mut near, entry);
+    }
+
+    /// The same, near the place where the one of the same key stood last.
+    pub fn insert_near(&mut self, near: &mut usize, entry: Box<Entry<V, A>, A>)
+        requires { 0 < self.old.spare }
+        ensures all { self.new.all
+            ≡ fin.insert self.old.all entry.value.key.items entry.value.value }
+        ensures room { self.old.spare ≤ self.new.spare + 1 }
+    {
+        let head = key_head(&entry.key);
+        let found = place_near(&self.entries, near, Sought::Key(&entry.key));
+        let slot = Slot { head, entry };
+        match found {
+            Ok(place) => self.entries[place] = slot,
+            Err(place) => insert_at(&mut self.entries, place, slot),
+        }
+    }
+
+    /// Changes the value that is looked for, near the place where it stood last, and this one, each
+    /// into the other's place; whether there is one.
+    pub fn swap(&mut self, near: &mut usize, sought: Sought<'_>, value: &mut V) -> bool
+        ensures found { result ≡ fin.contains_key self.old.all (sought_key sought.entry) }
+        ensures all { self.new.all ≡ swapped_in self.old.all (sought_key sought.entry) value.old }
+        ensures value { value.new ≡ swapped_out self.old.all (sought_key sought.entry) value.old }
+        ensures room { self.new.spare ≡ self.old.spare }
+    {
+        match place_near(&self.entries, near, sought) {
+            Ok(place) => {
+                mem::swap(&mut self.entries[place].entry.value, value);
+                true
+            }
+            Err(_) => false,
+        }
+    }
+
+    /// Takes out the entry that is looked for, which leaves room for one.
+    pub fn remove(&mut self, sought: Sought<'_>) -> Option<Box<Entry<V, A>, A>>
+        ensures value { option_map (λ entry. entry.value.value) result
+            ≡ fin.get self.old.all (sought_key sought.entry) }
+        ensures all { self.new.all ≡ fin.remove self.old.all (sought_key sought.entry) }
+        ensures room { self.old.spare ≤ self.new.spare }
+        ensures left { IsSome result → self.old.spare + 1 ≤ self.new.spare }
+    {
+        self.remove_by(head(sought), sought)
+    }
+
+    /// The same, by the head of what is looked for.
+    pub(crate) fn remove_by(&mut self, head: u64, sought: Sought<'_>) -> Option<Box<Entry<V, A>, A>>
+        requires head { head ≡ head_of (sought_key sought) }
+        requires bytes { AreBytesTo 8 (sought_key sought) }
+        ensures value { option_map (λ entry. entry.value.value) result
+            ≡ fin.get self.old.all (sought_key sought.entry) }
+        ensures all { self.new.all ≡ fin.remove self.old.all (sought_key sought.entry) }
+        ensures room { self.old.spare ≤ self.new.spare }
+        ensures left { IsSome result → self.old.spare + 1 ≤ self.new.spare }
+    {
+        match place_of(&self.entries, head, sought) {
+            Ok(place) => Some(self.entries.remove(place).entry),
+            Err(_) => None,
+        }
+    }
+
+    /// Takes out the entry of a key, where there is one.
+    pub fn forget(&mut self, key: &[u8])
+        ensures { self.new.all ≡ fin.remove self.old.all key.now }
+    {
+        let _ = self.remove(Sought::Key(key));
+    }
+
+    /// Takes out all entries.
+    pub fn clear(&mut self)
+        ensures { self.new.all ≡ fin.empty }
+    {
+        self.entries.clear();
+    }
+}
