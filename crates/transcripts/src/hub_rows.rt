@@ -1,8 +1,9 @@
 //! What a hub does of scripts of events: what it answers, what its clients and the network are sent.
 
 mod scripts;
+mod sessions;
 
-use crate::hub_rows::scripts::{Story, check};
+use crate::hub_rows::scripts::{Story, WELCOME, check, check_text, push_count, push_line};
 use std::test::Fail;
 
 /// What a client without capabilities is sent first, behind a welcome and a JOIN of ours.
@@ -24,7 +25,9 @@ const STORY: Story = Story {
     first_session: 0,
     upstream: 8,
     of: 1,
+    is_gone: false,
     from: 1,
+    images: false,
 };
 
 /// What somebody missed who was away for three messages, and nothing where none came.
@@ -259,4 +262,71 @@ fn lines_in_pieces(rt: HostRuntime) -> Result<(), Fail> {
     ];
     check(&rt, Story { of: 0, ..STORY }, &events, &told)?;
     Ok(())
+}
+
+/// A network has room for 64 sessions, and again for one once one of them is gone.
+#[test]
+fn as_many_sessions_as_there_is_room_for(rt: HostRuntime) -> Result<(), Fail> {
+    let mut events: Vec<&[u8]> = Vec::new(rt.alloc());
+    let mut told = Vec::new(rt.alloc());
+    for number in 0..64 {
+        events.push(b"attach - - 1")?;
+        push_count(&mut told, b"session ", number)?;
+    }
+    events.push(b"attach - - 1")?;
+    push_line(&mut told, b"full")?;
+    events.push(b"detach 7")?;
+    events.push(b"attach - - 1")?;
+    push_count(&mut told, b"session ", 64)?;
+    check_text(&rt, STORY, &WELCOME, &events, &told)
+}
+
+/// What is sent to sessions of the same capabilities is made once.
+#[test]
+fn images_that_are_made(rt: HostRuntime) -> Result<(), Fail> {
+    let events: [&[u8]; 6] = [
+        b"attach - - 8",
+        b"attach - - 8",
+        b"attach multi-prefix - 8",
+        b"up :bob!b@h PRIVMSG #c m1",
+        b"said 0 PRIVMSG #c m",
+        b"said 2 PRIVMSG #c m",
+    ];
+    let counted = Story {
+        images: true,
+        ..STORY
+    };
+    let pumped: [&[u8]; 5] = [
+        b"session 0",
+        b"session 1",
+        b"session 2",
+        b":bob!b@h PRIVMSG #c m1",
+        b"images 2",
+    ];
+    check(&rt, counted, &events[..4], &pumped)?;
+    let said: [&[u8]; 8] = [
+        b"session 0",
+        b"session 1",
+        b"session 2",
+        b"forwarded",
+        b":bob!b@h PRIVMSG #c m1",
+        b":Me PRIVMSG #c m",
+        b"> PRIVMSG #c m",
+        b"images 4",
+    ];
+    check(&rt, counted, &events[..5], &said)?;
+    let said_again: [&[u8]; 11] = [
+        b"session 0",
+        b"session 1",
+        b"session 2",
+        b"forwarded",
+        b"forwarded",
+        b":bob!b@h PRIVMSG #c m1",
+        b":Me PRIVMSG #c m",
+        b":Me PRIVMSG #c m",
+        b"> PRIVMSG #c m",
+        b"> PRIVMSG #c m",
+        b"images 5",
+    ];
+    check(&rt, counted, &events, &said_again)
 }

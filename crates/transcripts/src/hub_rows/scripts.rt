@@ -17,7 +17,7 @@ use std::test::Fail;
 use tape_view::TapeView;
 
 /// How a script is run, and what of it is looked at: what the session of a number is sent, from one
-/// of its packets on.
+/// of its packets on, and how many images were made.
 #[derive(Clone, Copy)]
 pub(crate) struct Story {
     pub(crate) history: usize,
@@ -25,7 +25,10 @@ pub(crate) struct Story {
     pub(crate) first_session: u64,
     pub(crate) upstream: usize,
     pub(crate) of: u64,
+    // whether `of` is a place among the sessions that went, in order, and not a number
+    pub(crate) is_gone: bool,
     pub(crate) from: usize,
+    pub(crate) images: bool,
 }
 
 /// The number that digits say.
@@ -47,13 +50,16 @@ fn bytes(alloc: Global, text: &[u8], end: &[u8]) -> Result<Vec<u8>, Fail> {
     Ok(bytes)
 }
 
-/// The capabilities of these names with spaces; `-` is none.
-fn caps(text: &[u8]) -> Result<Caps, Fail> {
-    let none = read_request(Caps::none(), b"-multi-prefix").ok_or("taken")?;
+/// The capabilities of these names with commas; `-` is none.
+fn caps(alloc: Global, text: &[u8]) -> Result<Caps, Fail> {
     if text == b"-".as_slice() {
-        return Ok(none);
+        return Ok(Caps::none());
     }
-    Ok(read_request(none, text).ok_or("taken")?)
+    let mut names = Vec::new(alloc);
+    for byte in text {
+        names.push(if *byte == b',' { b' ' } else { *byte })?;
+    }
+    Ok(read_request(Caps::none(), &names).ok_or("taken")?)
 }
 
 /// `CAPS NAME CAPACITY`; a name `-` is none.
@@ -66,7 +72,7 @@ fn attach(alloc: Global, text: &[u8]) -> Result<Event, Fail> {
         Some(bytes(alloc, name, b"")?)
     };
     let capacity = number(capacity.unwrap_or(b""))?;
-    Ok(Event::Attach(caps(asked)?, name, capacity as usize))
+    Ok(Event::Attach(caps(alloc, asked)?, name, capacity as usize))
 }
 
 /// An event: a word, and what stands behind it.
@@ -98,16 +104,18 @@ fn event(alloc: Global, text: &[u8]) -> Result<Event, Fail> {
     Ok(Event::Said(id, line, Moment(0)))
 }
 
-/// A welcome and a JOIN of ours, and then the events of a script.
-fn events_of(alloc: Global, script: &[&[u8]]) -> Result<Vec<Event>, Fail> {
+/// A welcome and a JOIN of ours.
+pub(crate) const WELCOME: [&[u8]; 4] = [
+    b"up :s 001 Me :hi",
+    b"up :s 005 Me PREFIX=(ov)@+ CHANTYPES=# :are supported",
+    b"up :s 376 Me :end",
+    b"up :Me!m@h JOIN #c",
+];
+
+/// The events of a beginning, and then those of a script.
+fn events_of(alloc: Global, before: &[&[u8]], script: &[&[u8]]) -> Result<Vec<Event>, Fail> {
     let mut events = Vec::new(alloc);
-    let welcome: [&[u8]; 4] = [
-        b"up :s 001 Me :hi",
-        b"up :s 005 Me PREFIX=(ov)@+ CHANTYPES=# :are supported",
-        b"up :s 376 Me :end",
-        b"up :Me!m@h JOIN #c",
-    ];
-    for text in &welcome {
+    for text in before {
         events.push(event(alloc, text)?)?;
     }
     for text in script {
@@ -153,13 +161,13 @@ fn push_number(text: &mut Vec<u8>, number: u64) -> Result<(), Fail> {
     Ok(())
 }
 
-fn push_line(text: &mut Vec<u8>, line: &[u8]) -> Result<(), Fail> {
+pub(crate) fn push_line(text: &mut Vec<u8>, line: &[u8]) -> Result<(), Fail> {
     text.extend_from_slice(line)?;
     text.extend_from_slice(b"\r\n")?;
     Ok(())
 }
 
-fn push_count(text: &mut Vec<u8>, word: &[u8], number: u64) -> Result<(), Fail> {
+pub(crate) fn push_count(text: &mut Vec<u8>, word: &[u8], number: u64) -> Result<(), Fail> {
     text.extend_from_slice(word)?;
     push_number(text, number)?;
     text.extend_from_slice(b"\r\n")?;
@@ -249,13 +257,16 @@ fn push_sent(
     Ok(())
 }
 
+/// The outlet that a story looks at, if there is one.
+fn outlet_of<V: NetworkView + Drop>(run: &Run<V>, story: Story) -> Option<&MemoryOutlet> {
+    if story.is_gone {
+        return run.world.gone.get(story.of as usize);
+    }
+    run.world.hub.outlet(story.of)
+}
+
 /// What came of a run: the replies, why it stopped, what the session was sent, and the network.
-fn told<V: NetworkView + Drop>(
-    alloc: Global,
-    run: &Run<V>,
-    of: u64,
-    from: usize,
-) -> Result<Vec<u8>, Fail> {
+fn told<V: NetworkView + Drop>(alloc: Global, run: &Run<V>, story: Story) -> Result<Vec<u8>, Fail> {
     let mut text = Vec::new(alloc);
     for reply in &run.world.replies {
         push_reply(&mut text, reply)?;
@@ -263,18 +274,22 @@ fn told<V: NetworkView + Drop>(
     if let Some(stop) = run.stopped_by {
         push_line(&mut text, stop_text(stop))?;
     }
-    if let Some(outlet) = run.world.hub.outlet(of) {
-        push_sent(alloc, &mut text, outlet, from, b"")?;
+    if let Some(outlet) = outlet_of(run, story) {
+        push_sent(alloc, &mut text, outlet, story.from, b"")?;
     }
     push_sent(alloc, &mut text, run.world.hub.upstream_outlet(), 0, b"> ")?;
+    if story.images {
+        push_count(&mut text, b"images ", run.world.hub.images_made())?;
+    }
     Ok(text)
 }
 
-/// What comes of a script over this view.
+/// What comes of a script behind a beginning over this view.
 fn story_text<V: NetworkView + Drop>(
     alloc: Global,
     view: V,
     story: Story,
+    before: &[&[u8]],
     script: &[&[u8]],
 ) -> Result<Vec<u8>, Fail>
     requires { V.view view ≡ empty_view }
@@ -284,9 +299,9 @@ fn story_text<V: NetworkView + Drop>(
         first_number: story.first_number,
         first_session: story.first_session,
     };
-    let events = events_of(alloc, script)?;
+    let events = events_of(alloc, before, script)?;
     let run = run(alloc, view, setup, story.upstream, &events)?;
-    told(alloc, &run, story.of, story.from)
+    told(alloc, &run, story)
 }
 
 /// The lines, each with CR LF.
@@ -298,6 +313,23 @@ fn joined(alloc: Global, lines: &[&[u8]]) -> Result<Vec<u8>, Fail> {
     Ok(text)
 }
 
+/// The script comes to this text, over both views.
+pub(crate) fn check_text<R: AllocGlobal + Abort>(
+    rt: &R,
+    story: Story,
+    before: &[&[u8]],
+    script: &[&[u8]],
+    wanted: &[u8],
+) -> Result<(), Fail> {
+    let view = TapeView::new(rt.alloc())?;
+    let tape = story_text(rt.alloc(), view, story, before, script)?;
+    assert!(rt; tape.as_slice() == wanted);
+    let view = QuickView::new(rt.alloc())?;
+    let quick = story_text(rt.alloc(), view, story, before, script)?;
+    assert!(rt; quick.as_slice() == wanted);
+    Ok(())
+}
+
 /// The script comes to these lines, over both views.
 pub(crate) fn check<R: AllocGlobal + Abort>(
     rt: &R,
@@ -306,9 +338,22 @@ pub(crate) fn check<R: AllocGlobal + Abort>(
     lines: &[&[u8]],
 ) -> Result<(), Fail> {
     let wanted = joined(rt.alloc(), lines)?;
-    let tape = story_text(rt.alloc(), TapeView::new(rt.alloc())?, story, script)?;
-    assert!(rt; tape == wanted);
-    let quick = story_text(rt.alloc(), QuickView::new(rt.alloc())?, story, script)?;
-    assert!(rt; quick == wanted);
-    Ok(())
+    check_text(rt, story, &WELCOME, script, &wanted)
+}
+
+/// What comes of a script to one of several clients, behind a beginning: what is answered, then
+/// what this client is sent, then what the network is.
+pub(crate) fn check_client<R: AllocGlobal + Abort>(
+    rt: &R,
+    story: Story,
+    before: &[&[u8]],
+    script: &[&[u8]],
+    answered: &[&[u8]],
+    sent: &[&[u8]],
+    upward: &[&[u8]],
+) -> Result<(), Fail> {
+    let mut wanted = joined(rt.alloc(), answered)?;
+    wanted.extend_from_slice(&joined(rt.alloc(), sent)?)?;
+    wanted.extend_from_slice(&joined(rt.alloc(), upward)?)?;
+    check_text(rt, story, before, script, &wanted)
 }
