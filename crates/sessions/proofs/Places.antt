@@ -1,5 +1,5 @@
 -- Where a place stands, and that it stands nowhere.
-use Rattle.std.proofs.Common.{◌≡◌, ◌∙◌, refl, sym, ap, subst, ℕ, zero, suc, List, [], ◌∷◌, ◌++◌}
+use Rattle.std.proofs.Common.{◌≡◌, ◌∙◌, sym, ap, subst, ℕ, zero, suc, List, [], ◌∷◌, ◌++◌}
 use Rattle.std.proofs.Common.{map, Option, None, Some}
 use Rattle.std.specs.Prelude.{IfNone, slice_get}
 use Rattle.bnc_config.specs.Settings.{Matches, Settings, place_of}

@@ -1,14 +1,13 @@
 -- How a session goes on by what its client says.
-use Rattle.std.proofs.Common.{◌≡◌, ◌∙◌, refl, sym, ap, ℕ, Bool, true, false, List, [], ◌∷◌, ◌++◌}
-use Rattle.std.proofs.Common.{◌+◌, ◌<◌, ◌||◌, Option, None, Some, Result, Ok, Err, inl, inr}
-use Rattle.std.proofs.Common.{take, length, get_or}
-use Rattle.std.specs.Prelude.{if◌then◌else◌, codes}
+use Rattle.std.proofs.Common.{◌≡◌, refl, ℕ, Bool, true, false}
+use Rattle.std.proofs.Common.{Result, Ok, Err, inl, inr}
+use Rattle.std.specs.Prelude.{if◌then◌else◌}
 use Rattle.std.specs.List.{list_any}
 use Rattle.irc_line.specs.Line.{Parts, has_command}
 use Rattle.client_caps.specs.Answers.{asked}
 use Rattle.client_caps.specs.declared.answers.Asked.{Asked}
 use Rattle.client_caps.specs.declared.answers.Asked.TheVariants as ask
-use Rattle.hub_core.specs.Saying.{Says, SaysBy, meaning, meant_by, unheard_commands}
+use Rattle.hub_core.specs.Saying.{Says, SaysBy, meant_by, unheard_commands}
 use Rattle.hub_core.specs.States.{HubState}
 use Rattle.hub_core.specs.declared.hub.HubError.{HubError}
 use Rattle.hub_core.specs.declared.hub.HubError.TheVariants as fault

@@ -1,10 +1,14 @@
 -- What a client says in its session, and why that ends.
 use Rattle.std.specs.Prelude.{◌≡◌, ◌↔◌, ℕ, Bool, true, false, List, [], ◌++◌, Option, None, Some}
-use Rattle.std.specs.Prelude.{IfOk, IsTrue, Result, Ok, Err}
+use Rattle.std.specs.Prelude.{IfOk, IsTrue, Result, Ok}
 use Rattle.std.specs.List.{concat, list_any}
 use Rattle.std.specs.Io.KnownBytes.{Consumes, IsAtEnd}
 use Rattle.irc_line.specs.Line.{Parts}
 use Rattle.irc_line.specs.Lines.{Pending, fed, fed_all, is_too_long, lines_all, lines_of}
+use Rattle.hub_core.specs.Attaching.{Attaches}
+use Rattle.hub_core.specs.Online.{is_online}
+use Rattle.hub_core.specs.Running.{IsRunning}
+use Rattle.hub_core.specs.States.{HubState, OutletState, heard, view_now}
 use Rattle.hub_core.specs.declared.hub.HubError.{HubError}
 use Rattle.hub_core.specs.declared.said.Said.{Said}
 use Rattle.hub_core.specs.declared.said.Said.TheVariants as said
@@ -13,6 +17,7 @@ use Rattle.hub_threads.specs.Writes.{IsWhole, IsWritten}
 use Rattle.hub_threads.specs.declared.queued.Queued.{Queued}
 use Rattle.hub_threads.specs.declared.writing.WriteFault.{WriteFault}
 use Rattle.sessions.specs.Answers.{is_quit}
+use Rattle.sessions.specs.Claims.{ClaimParts}
 use Rattle.sessions.specs.declared.attending.Leave.{Leave}
 use Rattle.sessions.specs.declared.attending.Leave.TheVariants as leave
 
@@ -77,6 +82,16 @@ pub record WasHeard (splitter : Pending) (unread : List Parts) (began left : Opt
       left why
 
 -- ---- what is written
+
+-- A client was attached by its claim, under this number: at a hub that ran, with its capabilities
+-- and its name, to an outlet that was sent nothing before.
+pub record WasAttached (claim : ClaimParts) (id : ℕ) : Type 0 where
+  pub old : HubState
+  pub new : HubState
+  pub outlet : OutletState
+  pub runs : IsRunning old (view_now old) (is_online (heard old))
+  pub unsent : outlet.sent ≡ []
+  pub attached : Attaches false old claim.caps claim.client outlet id new
 
 -- A session of this number ended: what its writer wrote, from what it had got before the session,
 -- is of the packets that it took, which are all that its end ever took; and where the token is

@@ -1,5 +1,5 @@
 -- What a login over two streams sends, how it ends, and why it fails.
-use Rattle.std.specs.Prelude.{◌≡◌, ◌<◌, ◌+◌, ℕ, Bool, true, false, drop, length, take, List, []}
+use Rattle.std.specs.Prelude.{◌≡◌, ◌<◌, ◌+◌, ℕ, false, drop, length, take, List, []}
 use Rattle.std.specs.Prelude.{◌∷◌, ◌++◌, IsTrue, Option}
 use Rattle.std.specs.Io.KnownBytes.{Appends, Consumes}
 use Rattle.irc_line.specs.Line.{Parts}

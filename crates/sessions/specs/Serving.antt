@@ -7,7 +7,7 @@ use Rattle.bnc_config.specs.declared.place.Place.{Place}
 use Rattle.hub_threads.specs.declared.ending.Ended.{Ended}
 use Rattle.sessions.specs.Admission.{IsLetIn}
 use Rattle.sessions.specs.Claims.{parts_of}
-use Rattle.sessions.specs.Leaving.{HasEnded, WasHeard}
+use Rattle.sessions.specs.Leaving.{HasEnded, WasAttached, WasHeard}
 use Rattle.sessions.specs.Logins.{LogsIn}
 use Rattle.sessions.specs.declared.arrival.Ending.TheVariants.{Claims}
 use Rattle.sessions.specs.declared.attending.Leave.{Leave}
@@ -36,6 +36,7 @@ module _ {W : Type 0} (contents : W → Option (List ℕ)) (settings : Settings)
     pub why : Leave
     pub heard : WasHeard came.splitter came.lines came.left left why
     pub id : ℕ
+    pub attached : WasAttached (parts_of came.claim) id
     pub ended : HasEnded id e.token e.fresh e.end came.now (contents e.out) e.written
 
   -- nobody has a session, or is refused one, but who came in

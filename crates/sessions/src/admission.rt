@@ -1,6 +1,7 @@
 //! Who is let in.
 
-ghost use Rattle.std.specs.Prelude.{◌≡◌, ◌↔◌, ℕ, IfNone, IsTrue, IfSome, None, Some, map, slice_get};
+ghost use Rattle.std.specs.Prelude.{◌≡◌, ◌↔◌, ℕ, IfNone, IfSome, IsTrue, None, Some, map};
+ghost use Rattle.std.specs.Prelude.{slice_get};
 ghost use Rattle.bnc_config.specs.declared.place.Place as declared;
 ghost use Rattle.sessions.specs.Admission.{Admits, IsUnknown};
 ghost use Rattle.sessions.specs.Claims.{parts_of};

@@ -1,7 +1,8 @@
 //! A client, from its first byte to the end of its session.
 
 ghost use Rattle.std.specs.Prelude.{ℕ, ◌≡◌, [], IfOk, map};
-ghost use Rattle.sessions.specs.Leaving.{HasEnded, WasHeard};
+ghost use Rattle.sessions.specs.Claims.{parts_of};
+ghost use Rattle.sessions.specs.Leaving.{HasEnded, WasAttached, WasHeard};
 ghost use Rattle.sessions.specs.Serving.{IsServed};
 
 use crate::OutOfMemory;
@@ -68,7 +69,8 @@ fn join_in<V: NetworkView + Drop, R: Wait>(
     claim: &Claim,
     network: &Network<V>,
 ) -> Result<(SessionId, OutletEnd), ServeFault>
-    ensures { IfOk result (λ x. x.1 ≡ []) }
+    ensures end { IfOk result (λ x. x.1 ≡ []) }
+    ensures attached { IfOk result (λ x. WasAttached (parts_of claim.now) x.0) }
 {
     let (outlet, end) = outlet(alloc, PACKETS, network.pump_bell()?)?;
     let mut hub = network.lock(rt);
@@ -118,7 +120,8 @@ pub fn serve<
 ) -> Result<(Leave, Ended<W>), ServeFault>
     ensures heard { IfOk result (λ x. WasHeard unread.splitter unread.lines.items
         (I.remaining reader.old) (I.remaining reader.new) x.0) }
-    ensures ended { IfOk result (λ x. (id : ℕ) × HasEnded id x.1.token x.1.fresh x.1.end
+    ensures ended { IfOk result (λ x. (id : ℕ) × WasAttached (parts_of claim.now) id
+        × HasEnded id x.1.token x.1.fresh x.1.end
         (W.contents writer) (W.contents x.1.out) x.1.written) }
 {
     let mut writer = writer;

@@ -27,14 +27,14 @@ struct ByLine<'a> {
     good_calls: usize,
 }
 
-/// The first line of a text, with its LF, and what stands behind it.
-fn first_line(text: &[u8]) -> (&[u8], &[u8]) {
+/// Where the first line of a text ends, its LF with it.
+fn line_end(text: &[u8]) -> usize {
     for (place, byte) in text.iter().enumerate() {
         if *byte == b'\n' {
-            return text.split_at(place + 1);
+            return place + 1;
         }
     }
-    (text, &[])
+    text.len()
 }
 
 impl Read for ByLine<'_> {
@@ -43,9 +43,9 @@ impl Read for ByLine<'_> {
             return Err(io::Error::from(ErrorKind::ConnectionReset));
         }
         self.good_calls -= 1;
-        let (line, _) = first_line(self.left);
-        let count = line.len().min(buf.len());
-        buf[..count].copy_from_slice(&line[..count]);
+        let end = line_end(self.left);
+        let count = end.min(self.left.len()).min(buf.len());
+        buf[..count].copy_from_slice(&self.left[..count]);
         self.left = &self.left[count..];
         Ok(count)
     }

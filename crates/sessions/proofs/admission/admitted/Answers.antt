@@ -1,4 +1,3 @@
-use Rattle.std.proofs.Common.{refl}
 use Rattle.sessions.specs.Claims.{parts_of}
 use Rattle.sessions.proofs.Places.{admits_by}
 use Rattle.sessions.proofs.admission.admitted.Goals as goal

@@ -1,4 +1,4 @@
-use Rattle.std.proofs.Common.{◌∙◌, ◌+◌, ◌++◌, ◌∷◌, [], refl, sym, ap, subst, ℕ, List, take}
+use Rattle.std.proofs.Common.{◌∙◌, ◌+◌, ◌++◌, ◌∷◌, [], refl, sym, ap, ℕ, List, take}
 use Rattle.std.proofs.Common.{drop, length, append_assoc}
 use Rattle.std.specs.Io.KnownBytes.{Consumes}
 use Rattle.irc_line.specs.Lines.{lines_of}

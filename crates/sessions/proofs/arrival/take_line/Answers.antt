@@ -1,4 +1,4 @@
-use Rattle.std.proofs.Common.{[], ap, subst, sym}
+use Rattle.std.proofs.Common.{ap, subst, sym}
 use Rattle.hub_threads.proofs.Bytes.{appends_none}
 use Rattle.std.specs.Io.KnownBytes.{Appends}
 use Rattle.hub_threads.specs.Writes.{bytes_of}

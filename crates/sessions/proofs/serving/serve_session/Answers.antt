@@ -25,7 +25,8 @@ returns-in-Ok-serve g c =
       why = c.in-Ok-serve.field-0-0;
       heard = c.in-Ok-serve.ensures.heard;
       id = c.in-Ok-serve.ensures.ended.0;
-      ended = c.in-Ok-serve.ensures.ended.1;
+      attached = c.in-Ok-serve.ensures.ended.1;
+      ended = c.in-Ok-serve.ensures.ended.2;
     }
 
 pub returns-in-Err-Refused : goal.returns-in-Err-Refused
