@@ -1,0 +1,9 @@
+use Rattle.std.proofs.Common.{refl, sym, subst}
+use Rattle.sessions.specs.Leaving.{LeavesBy}
+use Rattle.sessions.proofs.Said.{leaves_by}
+use Rattle.sessions.proofs.attending.say.Goals as goal
+
+pub returns-clause-quit : goal.returns-clause-quit
+returns-clause-quit g c =
+    subst (LeavesBy c.args.line.now) (sym c.leave_by.ensures)
+    (leaves_by _ _ _ _ _ _ _ c.said.ensures)
