@@ -5,3 +5,4 @@ pub mod Read
 pub mod Sent
 pub mod Said
 pub mod Heard
+pub mod Places

@@ -20,7 +20,7 @@ use Rattle.irc_line.proofs.Segments.{segments-append}
 use Rattle.net_view.proofs.Tests.{or_false}
 use Rattle.hub_threads.specs.Writes.{bytes_of}
 use Rattle.hub_threads.proofs.Bytes.{appends_then}
-use Rattle.sessions.specs.Answers.{answer_to, has_ended, is_end}
+use Rattle.sessions.specs.Answers.{Answer, answer_to, has_ended, is_end}
 use Rattle.sessions.specs.Logins.{IsCauseOf, IsSendCause, lines_in, piece_fault, sent_for}
 use Rattle.sessions.specs.declared.fault.LoginFault.{LoginFault}
 use Rattle.sessions.specs.declared.fault.LoginFault.TheVariants.{Memory, NoRoom, Read, TooLong}
@@ -44,6 +44,11 @@ bytes_more [] b = refl
 bytes_more (x ∷ xs) b =
     ap (λ t. written x ++ t) (bytes_more xs b)
     ∙ sym (append_assoc (written x) (bytes_of xs) (bytes_of b))
+
+-- what is sent for an answer that is known
+pub sent_by : (given answer : Answer) (u v : Option (List ℕ)) → given ≡ answer
+    → Appends u v (bytes_of (lines_in given)) → Appends u v (bytes_of (lines_in answer))
+sent_by given answer u v is h = subst (λ a. Appends u v (bytes_of (lines_in a))) is h
 
 pub sent_step : (before done lines : List Parts) (line : Parts) (u v w : Option (List ℕ))
     → lines ≡ done ++ line ∷ [] → Appends u v (bytes_of (sent_for before done))

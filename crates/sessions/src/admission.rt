@@ -1,6 +1,6 @@
 //! Who is let in.
 
-ghost use Rattle.std.specs.Prelude.{◌≡◌, ℕ, IfNone, IfSome, None, Some, map, slice_get};
+ghost use Rattle.std.specs.Prelude.{◌≡◌, ◌↔◌, ℕ, IfNone, IsTrue, IfSome, None, Some, map, slice_get};
 ghost use Rattle.bnc_config.specs.declared.place.Place as declared;
 ghost use Rattle.sessions.specs.Admission.{Admits, IsUnknown};
 ghost use Rattle.sessions.specs.Claims.{parts_of};
@@ -19,6 +19,13 @@ pub fn admitted(config: &Config, claim: &Claim) -> Option<Place>
     config.find(claim.user.as_slice(), claim.network.as_slice())
 }
 
+/// Whether these are one place.
+fn is_same(a: Place, b: Place) -> bool
+    ensures { IsTrue result ↔ (a ≡ b) }
+{
+    a.user == b.user && a.network == b.network
+}
+
 /// What stands beside a place, the first where it stands there more than once; `None` exactly where
 /// the place is not there.
 fn network_at<N>(networks: &[(Place, N)], place: Place) -> Option<&N>
@@ -27,7 +34,7 @@ fn network_at<N>(networks: &[(Place, N)], place: Place) -> Option<&N>
     ensures none { IfNone result (IsUnknown (map (λ one. one.0) networks.now) place) }
 {
     for one in networks {
-        if one.0.user == place.user && one.0.network == place.network {
+        if is_same(one.0, place) {
             return Some(&one.1);
         }
     }
@@ -36,11 +43,7 @@ fn network_at<N>(networks: &[(Place, N)], place: Place) -> Option<&N>
 
 /// The network that a client is let in to: what stands beside the place that it claims. `None`
 /// where `admitted` knows no place, and where the place is not among these.
-pub fn let_in<'a, N>(
-    config: &Config,
-    networks: &'a [(Place, N)],
-    claim: &Claim,
-) -> Option<&'a N>
+pub fn let_in<'a, N>(config: &Config, networks: &'a [(Place, N)], claim: &Claim) -> Option<&'a N>
     ensures some { IfSome result (λ n. (place : declared.Place) × (number : ℕ)
         × Admits config.now (parts_of claim.now) (Some place)
         × (slice_get networks.now number ≡ Some (place, n.now))) }

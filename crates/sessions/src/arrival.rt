@@ -74,9 +74,7 @@ fn take_line<W: Write>(
 {
     match login.line(line)? {
         LoginStep::Send(lines) => {
-            if !lines.is_empty() {
-                send(alloc, lines.as_slice(), writer)?;
-            }
+            send(alloc, lines.as_slice(), writer)?;
             Ok(None)
         }
         LoginStep::Done(claim) => Ok(Some(Ending::Claims(claim))),
@@ -187,8 +185,7 @@ pub fn log_in<R: Read, W: Write>(
             Ok(0) => return Err(LoginFault::Read),
             Ok(count) => {
                 let piece = &buffer[..count];
-                let end =
-                    take_piece(alloc, &mut login, &mut splitter, &mut lines, piece, writer)?;
+                let end = take_piece(alloc, &mut login, &mut splitter, &mut lines, piece, writer)?;
                 if let Some((place, ending)) = end {
                     leave_behind(&mut lines, place);
                     let unread = Unread { splitter, lines };

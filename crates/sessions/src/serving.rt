@@ -179,7 +179,9 @@ pub fn serve_session<
         let _ = deny(&mut writer);
         return Ok(Served::NoLogin);
     };
-    match serve(rt, alloc, reader, writer, &claim, unread, network, gate, clock) {
+    match serve(
+        rt, alloc, reader, writer, &claim, unread, network, gate, clock,
+    ) {
         Ok((_, ended)) => Ok(Served::Ended(ended)),
         Err(ServeFault::Refused(error)) => Ok(Served::Refused(error)),
         Err(ServeFault::Cut) => Ok(Served::Cut),

@@ -8,7 +8,7 @@ use Rattle.hub_threads.proofs.ReadLemmas.{keeps_is_nothing, zero_is_nothing}
 use Rattle.sessions.specs.Logins.{IsCauseOf}
 use Rattle.sessions.proofs.Read.{then_nothing}
 use Rattle.sessions.proofs.Sent.{behind, place_parts, place_taken, refused_by, sent_for_more}
-use Rattle.sessions.proofs.arrival.log_in.Goals.{in-Ok+in_ok-end+in_default}
+use Rattle.sessions.proofs.arrival.log_in.Goals.{in-Ok+in_ok-end-in-Ok+in_default}
 use Rattle.sessions.proofs.arrival.log_in.Goals.{in-Err+else-ne}
 use Rattle.sessions.proofs.arrival.log_in.Goals as goal
 
@@ -44,16 +44,16 @@ returns-in-Ok-eq0-clause-err g c =
       (so_far.1.reading.short, so_far.1.reading.going),
     )
 
-pub returns-in_err-end-clause-err : goal.returns-in_err-end-clause-err
-returns-in_err-end-clause-err g c =
+pub returns-in_err-end-in-Ok-clause-err : goal.returns-in_err-end-in-Ok-clause-err
+returns-in_err-end-in-Ok-clause-err g c =
     let so_far = c.loop.invariant.known in
     let left = g.R.Read.remaining in
     let piece = take c.in-Ok.count c.deref.result.now in
-    let fault = c.in_err-end.field-0.0 in
-    refused_by c.from_residual-in_err-end.result
+    let fault = c.in_err-end-in-Ok.field-0.0 in
+    refused_by c.from_residual-in_err-end-in-Ok.result
     (λ f. (bytes : List ℕ) × Consumes (left c.args.reader.now) (left c.read.new.self) bytes
     × IsCauseOf bytes f)
-    fault c.from_residual-in_err-end.ensures.1 (
+    fault c.from_residual-in_err-end-in-Ok.ensures.1 (
       so_far.0 ++ piece,
       consumes_more (left c.args.reader.now) (left c.loop.reader) (left c.read.new.self) so_far.0
           piece so_far.1.read
@@ -61,7 +61,7 @@ returns-in_err-end-clause-err g c =
           c.read.new.buf (drop (length c.read.new.buf) c.loop.buffer.items) c.loop.buffer.len
           c.in-Ok.count c.deref.ensures.value (c.read.auto.buf
           ∙ c.deref_mut.ensures.len) c.in-Ok.ensures.bytes.0),
-      c.in_err-end.ensures.err so_far.0 so_far.1.reading,
+      c.in_err-end-in-Ok.ensures.err so_far.0 so_far.1.reading,
     )
 
 pub returns-in-Some-clause-ok : goal.returns-in-Some-clause-ok
@@ -71,9 +71,9 @@ returns-in-Some-clause-ok g c =
     let left = g.R.Read.remaining in
     let lines = c.take_piece.new.lines.items in
     let i = c.in-Some.place in
-    let known = rw c.in-Some.is at (c.in_ok-end.ensures.some so_far.0 so_far.1.reading) in
+    let known = rw c.in-Some.is at (c.in_ok-end-in-Ok.ensures.some so_far.0 so_far.1.reading) in
     let at_end = known.1 in
-    let more = c.in_ok-end.ensures.lines so_far.0 so_far.1.reading in
+    let more = c.in_ok-end-in-Ok.ensures.lines so_far.0 so_far.1.reading in
     let before = lines_of so_far.0 ++ take i lines in
     let first = behind (lines_of so_far.0) (take i lines) (take (i + 1) lines) at_end.0
     (place_taken lines i at_end.0 at_end.1 at_end.2) in record {
@@ -111,7 +111,7 @@ pub loop-preserved : goal.loop-preserved
 loop-preserved g c =
     let left = g.R.Read.remaining in
     elim c.match-read.branch [
-      | in-Ok+in_ok-end+in_default w ↦
+      | in-Ok+in_ok-end-in-Ok+in_default w ↦
           rw (w.writer-is, w.login-is, w.splitter-is, w.lines-is) (record {
             none = w.clear.ensures.items;
             room = c.loop.invariant.room;
@@ -119,10 +119,10 @@ loop-preserved g c =
                 let so_far = c.loop.invariant.known in
                 let piece = take w.in-Ok.count w.deref.result.now in
                 let reading =
-                rw w.in_default.is at (w.in_ok-end.ensures.none so_far.0 so_far.1.reading) in
+                rw w.in_default.is at (w.in_ok-end-in-Ok.ensures.none so_far.0 so_far.1.reading) in
                 let sent =
-                rw w.in_default.is at (w.in_ok-end.ensures.sent so_far.0 so_far.1.reading) in
-                let more = w.in_ok-end.ensures.lines so_far.0 so_far.1.reading in (
+                rw w.in_default.is at (w.in_ok-end-in-Ok.ensures.sent so_far.0 so_far.1.reading) in
+                let more = w.in_ok-end-in-Ok.ensures.lines so_far.0 so_far.1.reading in (
                   so_far.0 ++ piece,
                   record {
                     read = consumes_more (left c.args.reader.now) (left c.loop.reader)

@@ -10,8 +10,8 @@ returns-in-Some-clause-some g c = λ before taken going.
     let i = c.loop-place.place in
     let line = c.index-lines-place.result in
     let so_far = c.loop-place.invariant before taken going in
-    let ended = c.in_ok-take_line.ensures.ended (before ++ take i lines) so_far.taken in
-    let sent = c.in_ok-take_line.ensures.sent (before ++ take i lines) so_far.taken in (
+    let ended = c.in_ok-ending.ensures.ended (before ++ take i lines) so_far.taken in
+    let sent = c.in_ok-ending.ensures.sent (before ++ take i lines) so_far.taken in (
       (
         line,
         c.loop-place-test.true,
@@ -30,11 +30,11 @@ loop-place-preserved g c = λ before taken going.
     let so_far = c.loop-place.invariant before taken going in
     let one = up_to lines i line c.loop-place-test.true c.index-lines-place.is in
     let all = behind before (take i lines) (take (i + 1) lines) line one in
-    let goes = c.in_ok-take_line.ensures.going (before ++ take i lines) so_far.taken in
-    let sent = c.in_ok-take_line.ensures.sent (before ++ take i lines) so_far.taken in
+    let goes = c.in_ok-ending.ensures.going (before ++ take i lines) so_far.taken in
+    let sent = c.in_ok-ending.ensures.sent (before ++ take i lines) so_far.taken in
     record {
       taken = subst (λ t. HasTaken t c.take_line.new.login) (sym all)
-          (c.in_ok-take_line.ensures.taken (before ++ take i lines) so_far.taken);
+          (c.in_ok-ending.ensures.taken (before ++ take i lines) so_far.taken);
       going = rw all
           (still_going (before ++ take i lines) line so_far.going
           (rw c.in_default.is at goes));
