@@ -27,15 +27,15 @@ consumes_kept (Some xs) None w a x y = absurd x
 consumes_kept (Some xs) (Some ys) None a x y = absurd y
 consumes_kept (Some xs) (Some ys) (Some zs) a x y = x ∙ (ap (λ (t : List ℕ). a ++ t) (sym y) ∙ sym (append_assoc a [] zs))
 
-concat_more : (pieces : List (List ℕ)) (piece : List ℕ) → concat (pieces ++ piece ∷ []) ≡ concat pieces ++ piece
+pub concat_more : (pieces : List (List ℕ)) (piece : List ℕ) → concat (pieces ++ piece ∷ []) ≡ concat pieces ++ piece
 concat_more [] piece = append-nil piece
 concat_more (p ∷ ps) piece = ap (λ l. p ++ l) (concat_more ps piece) ∙ sym (append_assoc p (concat ps) piece)
 
-fed_more : (s : Pending) (pieces : List (List ℕ)) (piece : List ℕ) → fed_all s (pieces ++ piece ∷ []) ≡ fed (fed_all s pieces) piece
+pub fed_more : (s : Pending) (pieces : List (List ℕ)) (piece : List ℕ) → fed_all s (pieces ++ piece ∷ []) ≡ fed (fed_all s pieces) piece
 fed_more s [] piece = refl
 fed_more s (p ∷ ps) piece = fed_more (fed s p) ps piece
 
-lines_more : (s : Pending) (pieces : List (List ℕ)) (piece : List ℕ) → lines_all s (pieces ++ piece ∷ []) ≡ lines_all s pieces ++ lines_of ((fed_all s pieces).rest ++ piece)
+pub lines_more : (s : Pending) (pieces : List (List ℕ)) (piece : List ℕ) → lines_all s (pieces ++ piece ∷ []) ≡ lines_all s pieces ++ lines_of ((fed_all s pieces).rest ++ piece)
 lines_more s [] piece = append-nil _
 lines_more s (p ∷ ps) piece = ap (λ l. lines_of (s.rest ++ p) ++ l) (lines_more (fed s p) ps piece) ∙ sym (append_assoc (lines_of (s.rest ++ p)) (lines_all (fed s p) ps) _)
 

@@ -70,7 +70,7 @@ or_again : (a b c : Bool) → (a || (b || c)) ≡ ((a || b) || c)
 or_again true b c = refl
 or_again false b c = refl
 
-any_append : {A : Type 0} (p : A → Bool) (xs ys : List A)
+pub any_append : {A : Type 0} (p : A → Bool) (xs ys : List A)
     → list_any p (xs ++ ys) ≡ (list_any p xs || list_any p ys)
 any_append p [] ys = refl
 any_append p (x ∷ xs) ys =

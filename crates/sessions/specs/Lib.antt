@@ -3,3 +3,7 @@ pub mod Given
 pub mod Answers
 pub mod Progress
 pub mod Taken
+pub mod Logins
+pub mod Admission
+pub mod Leaving
+pub mod Serving

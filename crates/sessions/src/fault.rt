@@ -1,0 +1,50 @@
+//! Why a login over streams fails.
+
+use crate::OutOfMemory;
+use irc_line::FeedError;
+use thiserror::Error;
+
+/// Why a login over streams failed.
+#[derive(Clone, Copy, Debug, PartialEq, Eq, Error)]
+pub enum LoginFault {
+    /// An allocation was refused, but for `NoRoom`.
+    #[error("out of memory")]
+    Memory,
+    /// A read failed, or the input ended before the login did.
+    #[error("cannot read")]
+    Read,
+    /// A write failed.
+    #[error("cannot write")]
+    Write,
+    /// More than 16,384 bytes came without LF.
+    #[error("line too long")]
+    TooLong,
+    /// An allocation was refused for the lines that were read.
+    #[error("no memory for a line")]
+    NoRoom,
+}
+
+impl From<OutOfMemory> for LoginFault {
+    ghost use Rattle.std.specs.Prelude.{◌≡◌};
+    ghost use Rattle.sessions.specs.declared.fault.LoginFault.TheVariants as fault;
+
+    ghost from_gives = { λ _ made. made ≡ fault.Memory };
+
+    fn from(_refused: OutOfMemory) -> LoginFault {
+        LoginFault::Memory
+    }
+}
+
+impl From<FeedError> for LoginFault {
+    ghost use Rattle.std.specs.Prelude.{◌≡◌};
+    ghost use Rattle.sessions.specs.Logins.{piece_fault};
+
+    ghost from_gives = { λ error made. made ≡ piece_fault error };
+
+    fn from(error: FeedError) -> LoginFault {
+        match error {
+            FeedError::TooLong => LoginFault::TooLong,
+            FeedError::OutOfMemory => LoginFault::NoRoom,
+        }
+    }
+}

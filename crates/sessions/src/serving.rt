@@ -1,0 +1,190 @@
+//! A client, from its first byte to the end of its session.
+
+ghost use Rattle.std.specs.Prelude.{ℕ, ◌≡◌, [], IfOk, map};
+ghost use Rattle.sessions.specs.Leaving.{HasEnded, WasHeard};
+ghost use Rattle.sessions.specs.Serving.{IsServed};
+
+use crate::OutOfMemory;
+use crate::admission::let_in;
+use crate::arrival::{Ending, LoggedIn, Unread, log_in};
+use crate::attending::{Leave, attach_claim};
+use crate::claim::Claim;
+use crate::fault::LoginFault;
+use crate::sending::{deny, refuse};
+use crate::talk::talk;
+use bnc_config::{Config, Place};
+use hub_core::{AttachError, NoSession};
+use hub_ends::SessionId;
+use hub_threads::{Clock, Ended, Gate, Network, OutletEnd, end_session, outlet, spawn_writer};
+use net_view::NetworkView;
+use std::alloc::Global;
+use std::io::{Read, Write};
+use std::sync::Wait;
+use std::thread::Threads;
+
+/// How many packets wait for a client at most.
+const PACKETS: usize = 256;
+
+/// Why a client that was let in had no session, or lost it.
+#[derive(Clone, Copy, Debug, PartialEq, Eq)]
+pub enum ServeFault {
+    /// An allocation was refused, or no thread could be started. There is no session.
+    Memory,
+    /// It was not attached, and was told why.
+    Refused(AttachError),
+    /// The hub has the session no more: its outlet was full. Its writer runs on to its own end.
+    Cut,
+}
+
+impl From<OutOfMemory> for ServeFault {
+    ghost use Rattle.std.specs.Prelude.{◌≡◌};
+    ghost use Rattle.sessions.specs.declared.serving.ServeFault.TheVariants as fault;
+
+    ghost from_gives = { λ _ made. made ≡ fault.Memory };
+
+    fn from(_refused: OutOfMemory) -> ServeFault {
+        ServeFault::Memory
+    }
+}
+
+/// How a client was served.
+#[derive(Drop)]
+pub enum Served<W: Write> {
+    /// It did not log in: it went, could not be read or written to, was closed, or was not let in.
+    NoLogin,
+    /// It was not attached, and was told why.
+    Refused(AttachError),
+    /// The hub has the session no more: its outlet was full. Its writer runs on to its own end.
+    Cut,
+    /// It said QUIT, its input ended or could not be read.
+    Ended(Ended<W>),
+}
+
+/// Attaches a client, by its claim, to an outlet of 256 packets; answers its number and the end to
+/// write from. The lock is held for that step alone.
+fn join_in<V: NetworkView + Drop, R: Wait>(
+    rt: &R,
+    alloc: Global,
+    claim: &Claim,
+    network: &Network<V>,
+) -> Result<(SessionId, OutletEnd), ServeFault>
+    ensures { IfOk result (λ x. x.1 ≡ []) }
+{
+    let (outlet, end) = outlet(alloc, PACKETS, network.pump_bell()?)?;
+    let mut hub = network.lock(rt);
+    let attached = attach_claim(&mut hub, claim, outlet);
+    drop(hub);
+    match attached {
+        Ok(id) => Ok((id, end)),
+        Err((error, outlet)) => {
+            drop(outlet);
+            Err(ServeFault::Refused(error))
+        }
+    }
+}
+
+/// Ends a session that has no writer.
+fn leave_at_once<V: NetworkView + Drop, R: Wait>(rt: &R, network: &Network<V>, id: SessionId) {
+    match network.lock(rt).detach(id) {
+        Ok(outlet) => drop(outlet),
+        Err(NoSession) => {}
+    }
+}
+
+/// Serves a client that was let in: attaches it, starts a thread that writes to it, and says each
+/// of its lines to the hub, those that are unread first, until QUIT, the input's end or a fault.
+/// Answers why it went, and what its writer handed back. No write is made under the lock.
+///
+/// A line that comes while the network is offline or takes no more, or for which there is no memory
+/// or no number, is dropped. More than 16,384 bytes without LF, and want of memory for what was
+/// read, end the session like the input's end. It reads at most 1,000,000,000 times.
+pub fn serve<
+    V: NetworkView + Drop,
+    I: Read,
+    W: Write + Send + Drop + 'static,
+    G: Gate + Clone + Send + Drop + 'static,
+    C: Clock,
+    R: Threads + Wait + Send + Copy + 'static,
+>(
+    rt: R,
+    alloc: Global,
+    reader: &mut I,
+    writer: W,
+    claim: &Claim,
+    unread: Unread,
+    network: &Network<V>,
+    gate: &G,
+    clock: &C,
+) -> Result<(Leave, Ended<W>), ServeFault>
+    ensures heard { IfOk result (λ x. WasHeard unread.splitter unread.lines.items
+        (I.remaining reader.old) (I.remaining reader.new) x.0) }
+    ensures ended { IfOk result (λ x. (id : ℕ) × HasEnded id x.1.token x.1.fresh x.1.end
+        (W.contents writer) (W.contents x.1.out) x.1.written) }
+{
+    let mut writer = writer;
+    let theirs = gate.clone()?;
+    let (id, end) = match join_in(&rt, alloc, claim, network) {
+        Ok(joined) => joined,
+        Err(ServeFault::Refused(error)) => {
+            let _ = refuse(&mut writer, error);
+            return Err(ServeFault::Refused(error));
+        }
+        Err(fault) => return Err(fault),
+    };
+    let Ok(handle) = spawn_writer(rt, end, writer, theirs, u64::MAX) else {
+        leave_at_once(&rt, network, id);
+        return Err(ServeFault::Memory);
+    };
+    let leave = talk(&rt, alloc, reader, unread, network, id, gate, clock);
+    match end_session(&rt, network, id, handle) {
+        Ok(ended) => Ok((leave, ended)),
+        Err(NoSession) => Err(ServeFault::Cut),
+    }
+}
+
+/// Lets a client log in, asks whether its claim is right and its network among these, and serves
+/// it. A client that is not let in, for its password or its network, is told so by
+/// `:bnc 464 * :Password incorrect`; a network whose place is not among these is an unknown one.
+/// `OutOfMemory` also where no thread can be started; then there is no session.
+pub fn serve_session<
+    V: NetworkView + Drop,
+    I: Read,
+    W: Write + Send + Drop + 'static,
+    G: Gate + Clone + Send + Drop + 'static,
+    C: Clock,
+    R: Threads + Wait + Send + Copy + 'static,
+>(
+    rt: R,
+    alloc: Global,
+    reader: &mut I,
+    writer: W,
+    config: &Config,
+    networks: &[(Place, Network<V>)],
+    gate: &G,
+    clock: &C,
+) -> Result<Served<W>, OutOfMemory>
+    ensures { IfOk result (IsServed W.contents config.now (map (λ one. one.0) networks.now)
+        (I.remaining reader.old) (I.remaining reader.new) (W.contents writer)) }
+{
+    let mut writer = writer;
+    let LoggedIn { ending, unread } = match log_in(alloc, reader, &mut writer) {
+        Ok(login) => login,
+        Err(LoginFault::Memory) => return Err(OutOfMemory),
+        Err(_) => return Ok(Served::NoLogin),
+    };
+    let Ending::Claims(claim) = ending else {
+        return Ok(Served::NoLogin);
+    };
+    let Some(network) = let_in(config, networks, &claim) else {
+        let _ = deny(&mut writer);
+        return Ok(Served::NoLogin);
+    };
+    match serve(
+        rt, alloc, reader, writer, &claim, unread, network, gate, clock,
+    ) {
+        Ok((_, ended)) => Ok(Served::Ended(ended)),
+        Err(ServeFault::Refused(error)) => Ok(Served::Refused(error)),
+        Err(ServeFault::Cut) => Ok(Served::Cut),
+        Err(ServeFault::Memory) => Err(OutOfMemory),
+    }
+}
