@@ -104,15 +104,14 @@ impl Bouncer {
     /// welcome.
     pub fn registers(&self, alloc: Global) -> Result<Peer, Fail> {
         let mut network = Peer::accept(&self.network)?;
-        network.hears(
-            alloc,
-            "CAP LS 302\r\nNICK ann\r\nUSER ann 0 * :Ann A\r\n",
-        )?;
+        network.hears(alloc, "CAP LS 302\r\nNICK ann\r\nUSER ann 0 * :Ann A\r\n")?;
         network.say(":s CAP * LS :multi-prefix sasl\r\n")?;
         network.hears(alloc, "CAP REQ multi-prefix\r\n")?;
         network.say(":s CAP * ACK :multi-prefix\r\n")?;
         network.hears(alloc, "CAP END\r\n")?;
-        network.say(":s 001 ann :Welcome\r\n:s 005 ann PREFIX=(ov)@+ CHANTYPES=# :are supported\r\n")?;
+        network.say(
+            ":s 001 ann :Welcome\r\n:s 005 ann PREFIX=(ov)@+ CHANTYPES=# :are supported\r\n",
+        )?;
         network.say(":s 376 ann :End of MOTD\r\n")?;
         network.hears(alloc, "JOIN #c\r\n")?;
         Ok(network)

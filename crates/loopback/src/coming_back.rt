@@ -66,9 +66,15 @@ fn a_client_that_comes_back_hears_what_it_missed(rt: HostRuntime) -> Result<(), 
     talk(alloc, &mut network, &mut phone, &mut desk)?;
     go(alloc, phone)?;
     network.say(":bob!b@h PRIVMSG #c :two\r\n:bob!b@h NOTICE #c three\r\n")?;
-    desk.hears(alloc, ":bob!b@h PRIVMSG #c two\r\n:bob!b@h NOTICE #c three\r\n")?;
+    desk.hears(
+        alloc,
+        ":bob!b@h PRIVMSG #c two\r\n:bob!b@h NOTICE #c three\r\n",
+    )?;
     let mut phone = come(&rt, alloc, &bouncer, "phone")?;
-    phone.hears(alloc, ":bob!b@h PRIVMSG #c two\r\n:bob!b@h NOTICE #c three\r\n")?;
+    phone.hears(
+        alloc,
+        ":bob!b@h PRIVMSG #c two\r\n:bob!b@h NOTICE #c three\r\n",
+    )?;
     go(alloc, phone)?;
     go(alloc, desk)?;
     drop(network);

@@ -7,8 +7,9 @@ use crate::timed::Until;
 use event_log::{Event, SystemClock, Who, tell};
 use hub_threads::Network;
 use quick_view::QuickView;
-use sessions::{Claim, Ending, Leave, LoggedIn, LoginFault, ServeFault, Unread};
-use sessions::{deny, let_in, log_in, serve};
+use sessions::{
+    Claim, Ending, Leave, LoggedIn, LoginFault, ServeFault, Unread, deny, let_in, log_in, serve,
+};
 use std::alloc::Global;
 use std::net::{SocketAddr, TcpStream};
 use std::rt::Clock;
@@ -95,7 +96,9 @@ fn serve_session<R: Threads + Clock + Eprint + Wait + Copy + Send + Drop + 'stat
     let out = stream.try_clone()?;
     let mut input = &stream;
     let clock = SystemClock::of(&rt);
-    match serve(rt, alloc, &mut input, out, claim, unread, network, &gate, &clock) {
+    match serve(
+        rt, alloc, &mut input, out, claim, unread, network, &gate, &clock,
+    ) {
         Ok((leave, ended)) => {
             let cause = cause_of_leave(leave);
             let written = ended.written.ok();
