@@ -1,0 +1,125 @@
+//! The bouncer in threads of a test, between the network and the clients of the test.
+
+use crate::peer::Peer;
+use bnc_config::Config;
+use keep::Watch;
+use serving::{Limits, Shared, accept, start_networks};
+use std::alloc::Global;
+use std::net::{Net, SocketAddr, TcpListener, TcpStream};
+use std::rt::Clock;
+use std::sync::{Arc, Wait};
+use std::test::Fail;
+use std::thread;
+use std::thread::{JoinHandle, Threads};
+use std::time::Duration;
+
+/// The bouncer, while it runs.
+#[derive(Drop)]
+pub struct Bouncer {
+    /// Where it dials.
+    pub network: TcpListener,
+    /// Where clients connect.
+    pub address: SocketAddr,
+    /// What its threads share.
+    pub shared: Arc<Shared>,
+    threads: Vec<JoinHandle<()>>,
+}
+
+/// Limits for tests: so many clients, and so many dials.
+pub fn limits(accepts: u64, dials: u64) -> Limits {
+    Limits {
+        accepts,
+        logins: 8,
+        login: Duration::from_secs(10),
+        wrong_password: Duration::from_millis(1),
+        pause: Duration::from_millis(1),
+        write: Duration::from_secs(10),
+        watch: Watch {
+            idle: 60,
+            limit: 60_000,
+        },
+        dials,
+        retry: Duration::from_millis(50),
+        connect: Duration::from_secs(10),
+        registration: Duration::from_secs(10),
+        silence: Duration::from_secs(10),
+        silences: 2,
+        turns: 100,
+        packets: 64,
+    }
+}
+
+/// The settings: the user ann with the password bc, on the network net, at this address.
+fn settings(alloc: Global, address: SocketAddr) -> Result<Config, Fail> {
+    let text = format!(in alloc;
+        "listen = \"127.0.0.1:6667\"\n[[user]]\nname = \"ann\"\nsalt = \"61\"\n\
+        password = \"ba7816bf8f01cfea414140de5dae2223b00361a396177a9cb410ff61f20015ad\"\n\
+        [[user.network]]\nname = \"net\"\naddress = \"{address}\"\nnick = \"ann\"\n\
+        user = \"ann\"\nrealname = \"Ann A\"\njoin = [\"#c\"]\n"
+    )?;
+    Ok(Config::read(alloc, text.as_str().as_bytes())?)
+}
+
+/// Starts the bouncer with these limits.
+pub fn start<
+    R: Threads
+        + Wait
+        + Clock
+        + Eprint
+        + Net<Listener = TcpListener, Stream = TcpStream>
+        + Copy
+        + Send
+        + Sync
+        + Drop
+        + 'static,
+>(rt: R, alloc: Global, limits: Limits) -> Result<Bouncer, Fail> {
+    let network = TcpListener::bind(&rt, "127.0.0.1:0")?;
+    let config = settings(alloc, network.local_addr()?)?;
+    let clients = TcpListener::bind(&rt, "127.0.0.1:0")?;
+    let address = clients.local_addr()?;
+    let (shared, links) = Shared::new(alloc, config, limits)?;
+    let shared = Arc::new(alloc, shared)?;
+    let mut threads = start_networks(rt, alloc, &shared, links)?;
+    let theirs = Arc::try_clone(&shared)?;
+    let accepting = thread::spawn(&rt, move || accept(rt, alloc, &clients, &theirs))?;
+    threads.push(accepting)?;
+    Ok(Bouncer {
+        network,
+        address,
+        shared,
+        threads,
+    })
+}
+
+impl Bouncer {
+    /// Waits until it has done all that it was to do.
+    pub fn join<R: Threads>(self, rt: &R) {
+        let Bouncer { threads, .. } = self;
+        for thread in threads {
+            thread.join(rt);
+        }
+    }
+
+    /// Takes the next connection of the bouncer, and takes part in its registration up to the
+    /// welcome.
+    pub fn registers(&self, alloc: Global) -> Result<Peer, Fail> {
+        let mut network = Peer::accept(&self.network)?;
+        network.hears(alloc, "CAP LS 302\r\nNICK ann\r\nUSER ann 0 * :Ann A\r\n")?;
+        network.say(":s CAP * LS :multi-prefix sasl\r\n")?;
+        network.hears(alloc, "CAP REQ multi-prefix\r\n")?;
+        network.say(":s CAP * ACK :multi-prefix\r\n")?;
+        network.hears(alloc, "CAP END\r\n")?;
+        network.say(
+            ":s 001 ann :Welcome\r\n:s 005 ann PREFIX=(ov)@+ CHANTYPES=# :are supported\r\n",
+        )?;
+        network.say(":s 376 ann :End of MOTD\r\n")?;
+        network.hears(alloc, "JOIN #c\r\n")?;
+        Ok(network)
+    }
+}
+
+/// Waits until the bouncer has taken all that the network said.
+pub fn settle(alloc: Global, network: &mut Peer) -> Result<(), Fail> {
+    network.say("PING :all taken\r\n")?;
+    network.hears(alloc, "PONG :all taken\r\n")
+}

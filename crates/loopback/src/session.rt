@@ -1,0 +1,121 @@
+//! A session served over a socket, from the login to QUIT.
+
+use crate::peer::{Peer, same};
+use bnc_config::{Config, Place};
+use client_caps::Moment;
+use event_log::SystemClock;
+use hub_core::{Hub, Setup};
+use hub_threads::{FreeGate, Network, OutletEnd, PumpEnd, inlet, outlet, pump_loop, shared_bell};
+use irc_line::Line;
+use net_view::Item;
+use quick_view::QuickView;
+use sessions::{Served, serve_session};
+use std::alloc::Global;
+use std::net::{TcpListener, TcpStream};
+use std::sync::{Arc, Wait};
+use std::test::Fail;
+
+/// A network's lines: a channel with a topic, modes and members.
+const LINES: [&str; 8] = [
+    ":s 001 Me :hi",
+    ":s 005 Me PREFIX=(ov)@+ CHANTYPES=# :are supported",
+    ":s 376 Me :end",
+    ":Me!m@h JOIN #c",
+    ":s 332 Me #c :Hello all",
+    ":s 324 Me #c +kl key 9",
+    ":s 353 Me = #c :Me @+bob +eve",
+    ":s 366 Me #c :End",
+];
+
+/// What a client is sent that comes then.
+const BURST: &str = ":bnc 001 Me :Welcome to the bouncer\r\n\
+    :bnc 002 Me :Your host is bnc, running version 1\r\n\
+    :bnc 003 Me :This server was created for you\r\n\
+    :bnc 004 Me bnc 1 i biklmnopstv\r\n\
+    :bnc 005 Me PREFIX=(ov)@+ CHANTYPES=# :are supported by this server\r\n\
+    :bnc 422 Me :MOTD File is missing\r\n\
+    :Me JOIN #c\r\n\
+    :bnc 332 Me #c :Hello all\r\n\
+    :bnc 324 Me #c +kl key 9\r\n\
+    :bnc 353 Me = #c :@bob +eve Me\r\n\
+    :bnc 366 Me #c :End of NAMES list\r\n";
+
+/// The settings: the user ann, whose password is bc, and the network net.
+const SETTINGS: &str = "listen = \"h:1\"\n[[user]]\nname = \"ann\"\nsalt = \"61\"\n\
+    password = \"ba7816bf8f01cfea414140de5dae2223b00361a396177a9cb410ff61f20015ad\"\n\
+    [[user.network]]\nname = \"net\"\naddress = \"h:2\"\nnick = \"ann\"\nuser = \"ann\"\n\
+    realname = \"Ann A\"\n";
+
+/// A network that has taken the lines, and the end of what goes to it.
+fn pumped<R: Wait + std::rt::Clock>(
+    rt: &R,
+    alloc: Global,
+) -> Result<(Network<QuickView>, OutletEnd), Fail> {
+    let pump = shared_bell(alloc)?;
+    let (mut end, items) = inlet(alloc, 16, Arc::try_clone(&pump)?)?;
+    let (upstream, up) = outlet(alloc, 8, Arc::try_clone(&pump)?)?;
+    let setup = Setup {
+        history: 500,
+        first_number: 1,
+        first_session: 0,
+    };
+    let hub = Hub::start(alloc, QuickView::new(alloc)?, items, upstream, setup)?;
+    let network = Network::new(hub, pump);
+    for text in LINES {
+        let line = Line::<Global>::read(alloc, text.as_bytes())?.ok_or("the text is a line")?;
+        if end.put(Item::Line(line), Moment(0)).is_err() {
+            return Err("the ring is full".into());
+        }
+    }
+    match pump_loop(rt, alloc, &network, &FreeGate, &SystemClock::of(rt), 8) {
+        PumpEnd::Turns => Ok((network, up)),
+        PumpEnd::Memory | PumpEnd::Spent => Err("the pump ended".into()),
+    }
+}
+
+/// The two ends of a connection.
+fn connected<R: std::net::Net<Listener = TcpListener, Stream = TcpStream>>(
+    rt: &R,
+) -> Result<(Peer, TcpStream), Fail> {
+    let listener = TcpListener::bind(rt, "127.0.0.1:0")?;
+    let client = Peer::dial(rt, listener.local_addr()?)?;
+    let (stream, _) = listener.accept()?;
+    Ok((client, stream))
+}
+
+#[test]
+fn a_client_is_served_from_its_login_to_quit(rt: HostRuntime) -> Result<(), Fail> {
+    let alloc = rt.alloc();
+    let (network, mut up) = pumped(&rt, alloc)?;
+    let config = Config::read(alloc, SETTINGS.as_bytes())?;
+    let place = config.find(b"ann", b"net").ok_or("the network is there")?;
+    let mut networks: Vec<(Place, Network<QuickView>)> = Vec::new(alloc);
+    networks.push((place, network))?;
+    let (mut client, stream) = connected(&rt)?;
+    client.say("PASS ann@pc/net:bc\r\nNICK x\r\nUSER x 0 * :A\r\n")?;
+    client.say("PRIVMSG #c :hi all\r\nQUIT\r\n")?;
+    let out = stream.try_clone()?;
+    let clock = SystemClock::of(&rt);
+    let served = serve_session(
+        rt,
+        alloc,
+        &mut &stream,
+        out,
+        &config,
+        networks.as_slice(),
+        &FreeGate,
+        &clock,
+    )?;
+    let Served::Ended(ended) = served else {
+        return Err("the session has not ended".into());
+    };
+    assert!(rt; ended.token);
+    assert!(rt; ended.written == Ok(BURST.len() as u64));
+    drop(ended);
+    drop(stream);
+    client.ends_with(alloc, BURST)?;
+    let packet = up.take().ok_or("nothing went to the network")?;
+    same(alloc, packet.bytes(), "PRIVMSG #c :hi all\r\n")?;
+    assert!(rt; up.take().is_none());
+    Ok(())
+}
