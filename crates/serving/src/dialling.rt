@@ -3,6 +3,7 @@
 use crate::closing::hang_up;
 use crate::limits::Limits;
 use crate::link::Link;
+use crate::rejoining::rejoining;
 use crate::shared::{Served, Shared};
 use crate::timed::{OnSilence, Patient, Until};
 use event_log::{Event, SystemClock, tell};
@@ -13,6 +14,7 @@ use hub_threads::{
 use irc_line::{Line, Splitter};
 use quick_view::QuickView;
 use std::alloc::Global;
+use std::io::Write;
 use std::net::{Net, TcpListener, TcpStream, ToSocketAddrs};
 use std::rt::Clock;
 use std::sync::Wait;
@@ -154,8 +156,14 @@ fn run<R: Threads + Wait + Clock + Sync>(
 }
 
 /// Asks for the channels that we were on when the connection was lost, and that the settings don't
-/// have, each with its key.
-fn rejoin(_alloc: Global, _served: &Served<'_>, _stream: &TcpStream) {}
+/// have, each with its key. Where memory is refused it asks for none; where a write fails, the
+/// reader is told so.
+fn rejoin<R: Wait>(rt: &R, alloc: Global, served: &Served<'_>, stream: &TcpStream) {
+    if let Ok(lines) = rejoining(rt, alloc, served) {
+        let mut stream = stream;
+        let _ = stream.write_all(lines.as_slice());
+    }
+}
 
 /// Our nick by a network's welcome.
 fn nick_in(lines: &[Line]) -> &[u8] {
@@ -203,7 +211,7 @@ fn dial<
     };
     let nick = nick_in(welcomed.lines.as_slice());
     tell(rt, &served.who, &Event::Connected { address, nick });
-    rejoin(alloc, served, &stream);
+    rejoin(rt, alloc, served, &stream);
     let (link, ended) = run(rt, alloc, served, &stream, welcomed, link);
     let cause = cause_of(ended);
     tell(rt, &served.who, &Event::Lost { cause, retry });
