@@ -16,7 +16,8 @@ use Rattle.irc_line.specs.declared.splitter.FeedError.{FeedError}
 use Rattle.irc_line.specs.declared.splitter.FeedError.TheVariants.{TooLong, OutOfMemory}
 use Rattle.net_view.specs.Arrival.{Received}
 use Rattle.bnc.specs.declared.fault.Fault.{Fault}
-use Rattle.bnc.specs.declared.fault.Fault.TheVariants.{CannotRead, CannotWrite, LineTooLong, NotReady}
+use Rattle.bnc.specs.declared.fault.Fault.TheVariants.{CannotListen, CannotRead, CannotWrite}
+use Rattle.bnc.specs.declared.fault.Fault.TheVariants.{LineTooLong, NotReady}
 use Rattle.bnc.specs.declared.fault.Fault.TheVariants.{OutOfMemory as FaultOfMemory, Settings}
 use Rattle.bnc.specs.Stream.{IsPieceRefusal, IsRefusal, transcript_of}
 use Rattle.bnc.specs.Faults.{piece_fault, reading_fault}
@@ -117,6 +118,7 @@ refused_by (Err f) P fault same h = rw same h
 -- a refused piece is an input that is refused
 pub refused_piece : (bytes : List ℕ) (fault : Fault) → IsPieceRefusal bytes fault
     → IsRefusal bytes fault
+refused_piece bytes CannotListen h = absurd h
 refused_piece bytes CannotRead h = absurd h
 refused_piece bytes CannotWrite h = h
 refused_piece bytes LineTooLong h = h

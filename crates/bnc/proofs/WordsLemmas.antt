@@ -16,7 +16,7 @@ use Rattle.client_caps.specs.declared.caps.Caps.{Caps}
 use Rattle.client_caps.specs.Caps.{no_caps}
 use Rattle.client_caps.specs.Request.{request_of}
 use Rattle.bnc.specs.declared.words.Command.{Command}
-use Rattle.bnc.specs.declared.words.Command.TheVariants.{Attach, Check, View}
+use Rattle.bnc.specs.declared.words.Command.TheVariants.{Attach, Check, Serve, View}
 use Rattle.bnc.specs.declared.words.WordsFault.{WordsFault}
 use Rattle.bnc.specs.declared.words.WordsFault.TheVariants.{Bad, Help, OutOfMemory}
 
@@ -93,11 +93,24 @@ pub attach_is_not_check : codes "attach" ≡ codes "check" → ⊥
 attach_is_not_check same =
     let first : ◌≡◌ {A = ℕ} 97 99 = ap (λ (t : Text). slice_index t 0) same in absurd (omega arith)
 
+pub view_is_not_serve : codes "view" ≡ codes "serve" → ⊥
+view_is_not_serve same =
+    let first : ◌≡◌ {A = ℕ} 118 115 = ap (λ (t : Text). slice_index t 0) same in absurd (omega arith)
+
+pub attach_is_not_serve : codes "attach" ≡ codes "serve" → ⊥
+attach_is_not_serve same =
+    let first : ◌≡◌ {A = ℕ} 97 115 = ap (λ (t : Text). slice_index t 0) same in absurd (omega arith)
+
+pub check_is_not_serve : codes "check" ≡ codes "serve" → ⊥
+check_is_not_serve same =
+    let first : ◌≡◌ {A = ℕ} 99 115 = ap (λ (t : Text). slice_index t 0) same in absurd (omega arith)
+
 -- an attach whose options ask for nothing asks for nothing
 pub no_attach : (rows : List Row) → ((caps : Caps) (n : ℕ) → IsAttach rows caps n → ⊥)
     → (command : Command) → IsCommandOf (codes "attach") rows command → ⊥
 no_attach rows none View asks = view_is_not_attach (sym asks)
 no_attach rows none (Check file) asks = attach_is_not_check asks.0
+no_attach rows none (Serve file) asks = attach_is_not_serve asks.0
 no_attach rows none (Attach caps n) asks = none caps n asks.1
 
 -- nor does a check without a file
@@ -106,15 +119,26 @@ pub no_check : (name : Text) (rows : List Row) → name ≡ codes "check"
     → (command : Command) → IsCommandOf name rows command → ⊥
 no_check name rows is none View asks = view_is_not_check (sym asks ∙ is)
 no_check name rows is none (Check file) asks = no_text (string_bytes file) (none ∙ asks.1)
+no_check name rows is none (Serve file) asks = check_is_not_serve (sym is ∙ asks.0)
 no_check name rows is none (Attach caps n) asks = attach_is_not_check (sym asks.0 ∙ is)
+
+-- nor does a serve without a file
+pub no_serve : (name : Text) (rows : List Row) → name ≡ codes "serve"
+    → None ≡ first_of (codes "file") rows
+    → (command : Command) → IsCommandOf name rows command → ⊥
+no_serve name rows is none View asks = view_is_not_serve (sym asks ∙ is)
+no_serve name rows is none (Check file) asks = check_is_not_serve (sym asks.0 ∙ is)
+no_serve name rows is none (Serve file) asks = no_text (string_bytes file) (none ∙ asks.1)
+no_serve name rows is none (Attach caps n) asks = attach_is_not_serve (sym asks.0 ∙ is)
 
 -- nor a command of another name
 pub no_command : (name : Text) (rows : List Row) → (name ≡ codes "view" → ⊥)
-    → (name ≡ codes "attach" → ⊥) → (name ≡ codes "check" → ⊥)
+    → (name ≡ codes "attach" → ⊥) → (name ≡ codes "check" → ⊥) → (name ≡ codes "serve" → ⊥)
     → (command : Command) → IsCommandOf name rows command → ⊥
-no_command name rows v a c View asks = v asks
-no_command name rows v a c (Check file) asks = c asks.0
-no_command name rows v a c (Attach caps n) asks = a asks.0
+no_command name rows v a c s View asks = v asks
+no_command name rows v a c s (Check file) asks = c asks.0
+no_command name rows v a c s (Serve file) asks = s asks.0
+no_command name rows v a c s (Attach caps n) asks = a asks.0
 
 -- what the command asks for is what the words ask for
 pub words_ask : (words : List Text) (name : Text) (rows : List Row) (r : Result Command WordsFault)

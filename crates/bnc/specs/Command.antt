@@ -12,7 +12,7 @@ use Rattle.bnc.specs.declared.words.Command.{Command}
 use Rattle.client_caps.specs.declared.caps.Caps.{Caps}
 use Rattle.client_caps.specs.Caps.{no_caps}
 use Rattle.client_caps.specs.Request.{request_of}
-use Rattle.bnc.specs.declared.words.Command.TheVariants.{Attach, Check, View}
+use Rattle.bnc.specs.declared.words.Command.TheVariants.{Attach, Check, Serve, View}
 use Rattle.bnc.specs.declared.words.WordsFault.{WordsFault}
 use Rattle.bnc.specs.declared.words.WordsFault.TheVariants.{Bad, Help, OutOfMemory}
 
@@ -23,6 +23,10 @@ file_rule = record (new_rule (codes "file")) { required = true; action = Some Se
 -- check FILE
 abbrev pub check_app : App
 check_app = with_rule (new_app (codes "check")) file_rule
+
+-- serve FILE
+abbrev pub serve_app : App
+serve_app = with_rule (new_app (codes "serve")) file_rule
 
 -- --caps LIST
 abbrev pub caps_rule : Rule
@@ -60,8 +64,8 @@ bare_app = let app = new_app (codes "bnc") in
 
 abbrev pub bnc_app : App
 bnc_app =
-    with_subcommand (with_subcommand (with_subcommand bare_app view_app.top) attach_app.top)
-    check_app.top
+    with_subcommand (with_subcommand (with_subcommand (with_subcommand bare_app view_app.top)
+    attach_app.top) check_app.top) serve_app.top
 
 -- LIST has the words of a request, with commas in place of spaces
 abbrev pub space_for_comma : ℕ → ℕ
@@ -92,6 +96,8 @@ IsCommandOf name rows View = name ≡ codes "view"
 IsCommandOf name rows (Attach caps n) = (name ≡ codes "attach") × IsAttach rows caps n
 IsCommandOf name rows (Check file) =
     (name ≡ codes "check") × (first_of (codes "file") rows ≡ Some (string_bytes file))
+IsCommandOf name rows (Serve file) =
+    (name ≡ codes "serve") × (first_of (codes "file") rows ≡ Some (string_bytes file))
 
 -- why it asks for nothing; want of memory is a fault of no words
 abbrev pub IsCommandCause : Text → List Row → WordsFault → Type 0

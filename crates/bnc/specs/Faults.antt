@@ -6,11 +6,12 @@ use Rattle.irc_line.specs.declared.splitter.FeedError.{FeedError}
 use Rattle.irc_line.specs.declared.splitter.FeedError.TheVariants as feed
 use Rattle.bnc_config.specs.ConfigFault as config
 use Rattle.bnc.specs.declared.fault.Fault.{Fault}
-use Rattle.bnc.specs.declared.fault.Fault.TheVariants.{CannotRead, CannotWrite, LineTooLong}
-use Rattle.bnc.specs.declared.fault.Fault.TheVariants.{NotReady, OutOfMemory, Settings}
+use Rattle.bnc.specs.declared.fault.Fault.TheVariants.{CannotListen, CannotRead, CannotWrite}
+use Rattle.bnc.specs.declared.fault.Fault.TheVariants.{LineTooLong, NotReady, OutOfMemory, Settings}
 
 -- the text that a fault is told as
 abbrev pub text_of : Fault → List ℕ
+text_of CannotListen = codes "cannot listen"
 text_of CannotRead = codes "cannot read"
 text_of CannotWrite = codes "cannot write"
 text_of LineTooLong = codes "line too long"

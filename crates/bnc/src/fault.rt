@@ -14,6 +14,8 @@ use std::{fmt, io};
 /// A fault of what the program was given, told on standard error as `bnc: TEXT`; its status is 1.
 #[derive(Debug, Drop)]
 pub enum Fault {
+    /// The address for clients can't be listened at.
+    CannotListen,
     /// An input can't be read.
     CannotRead,
     /// The output can't be written.
@@ -73,6 +75,7 @@ impl fmt::Display for Fault {
 
     fn fmt<W: fmt::Write>(&self, f: &mut fmt::Formatter<W>) -> fmt::Result {
         match self {
+            Fault::CannotListen => write!(f, "cannot listen"),
             Fault::CannotRead => write!(f, "cannot read"),
             Fault::CannotWrite => write!(f, "cannot write"),
             Fault::LineTooLong => write!(f, "line too long"),

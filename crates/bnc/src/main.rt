@@ -9,18 +9,23 @@ mod check;
 mod fault;
 mod input;
 mod report;
+mod serve;
 mod view;
 mod words;
 
 use crate::attach::run_attach;
 use crate::check::check_file;
 use crate::fault::Fault;
+use crate::serve::serve_file;
 use crate::view::run_view;
 use crate::words::{Command, WordsFault, explain_words, read_words};
 use std::alloc::{AllocError, Global};
 use std::io::ErrorKind;
+use std::net::{Net, TcpListener, TcpStream};
 use std::process::ExitCode;
-use std::rt::{Env, Files};
+use std::rt::{Clock, Env, Files};
+use std::sync::Wait;
+use std::thread::Threads;
 use std::{env, io};
 
 /// The words after the program's name.
@@ -69,17 +74,33 @@ fn refuse_words<R: AllocGlobal + Env + Eprint>(rt: &R) -> ExitCode
 }
 
 /// Does what the command line asks for.
-fn run<R: AllocGlobal + Files + Input + Print>(rt: &R, command: &Command) -> Result<(), Fault> {
+fn run<
+    R: AllocGlobal
+        + Files
+        + Input
+        + Print
+        + Eprint
+        + Clock
+        + Wait
+        + Threads
+        + Net<Listener = TcpListener, Stream = TcpStream>
+        + Copy
+        + Send
+        + Sync
+        + Drop
+        + 'static,
+>(rt: R, command: &Command) -> Result<(), Fault> {
     match command {
-        Command::View => run_view(rt.alloc(), &mut rt.reader(), &mut io::writer(rt)),
+        Command::View => run_view(rt.alloc(), &mut rt.reader(), &mut io::writer(&rt)),
         Command::Attach(caps, history) => run_attach(
             rt.alloc(),
             &mut rt.reader(),
-            &mut io::writer(rt),
+            &mut io::writer(&rt),
             *caps,
             *history,
         ),
-        Command::Check(path) => check_file(rt, path.as_str()),
+        Command::Check(path) => check_file(&rt, path.as_str()),
+        Command::Serve(path) => serve_file(rt, path.as_str()),
     }
 }
 
@@ -93,7 +114,7 @@ fn refuse(rt: &impl Eprint, fault: &Fault) -> ExitCode
 
 fn main(rt: HostRuntime) -> ExitCode {
     let done = match command_of(&rt) {
-        Ok(command) => run(&rt, &command),
+        Ok(command) => run(rt, &command),
         Err(WordsFault::Help(text)) => print!(rt; "{text}").map_err(|_| Fault::CannotWrite),
         Err(WordsFault::OutOfMemory) => Err(Fault::OutOfMemory),
         Err(WordsFault::Bad) => return refuse_words(&rt),

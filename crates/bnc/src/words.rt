@@ -7,7 +7,7 @@ ghost use Rattle.client_caps.specs.Caps.{no_caps};
 ghost use Rattle.client_caps.specs.Request.{request_of};
 ghost use Rattle.bnc.specs.Command.{AsksFor, IsCauseOf, IsExplained, IsOfKind, bare_app, bnc_app};
 ghost use Rattle.bnc.specs.Command.{IsCommandCause, IsCommandOf, IsHistory, attach_app, caps_rule};
-ghost use Rattle.bnc.specs.Command.{file_rule, history_rule, space_for_comma, spaced};
+ghost use Rattle.bnc.specs.Command.{file_rule, history_rule, serve_app, space_for_comma, spaced};
 
 use clap::builder::ValueParser;
 use clap::error::ErrorKind;
@@ -26,6 +26,8 @@ pub enum Command {
     Attach(Caps, usize),
     /// `check FILE`: to check a settings file.
     Check(String),
+    /// `serve FILE`: to serve the clients of its users.
+    Serve(String),
 }
 
 /// Why the words ask for nothing.
@@ -133,6 +135,18 @@ fn add_attach<'a>(
     Ok(added)
 }
 
+/// A command with `serve FILE` beneath it.
+fn add_serve<'a>(alloc: Global, command: clap::Command<'a>) -> Result<clap::Command<'a>, AllocError>
+    ensures { IfOk result (λ added. app_of added
+        ≡ with_subcommand (app_of command.entry) serve_app.top) }
+{
+    let serve = clap::Command::new(alloc, "serve")
+        .about("Stays on the networks of a settings file and serves their users' clients")
+        .arg(file_argument(alloc))?;
+    let added = command.subcommand(serve)?;
+    Ok(added)
+}
+
 /// The grammar of the words after the program's name.
 fn grammar<'a>(alloc: Global) -> Result<clap::Command<'a>, AllocError>
     ensures { IfOk result (λ command. app_of command ≡ bnc_app) }
@@ -146,7 +160,8 @@ fn grammar<'a>(alloc: Global) -> Result<clap::Command<'a>, AllocError>
     let bare = bnc_grammar(alloc)?;
     let with_view = bare.subcommand(view)?;
     let with_attach = add_attach(alloc, with_view)?;
-    let bnc = with_attach.subcommand(check)?;
+    let with_check = with_attach.subcommand(check)?;
+    let bnc = add_serve(alloc, with_check)?;
     Ok(bnc)
 }
 
@@ -234,6 +249,10 @@ fn read_command<'a>(
             Some(file) => Ok(Command::Check(String::from_str(alloc, file)?)),
             None => Err(WordsFault::Bad),
         },
+        "serve" => match matches.get_str("file") {
+            Some(path) => Ok(Command::Serve(String::from_str(alloc, path)?)),
+            None => Err(WordsFault::Bad),
+        },
         _ => Err(WordsFault::Bad),
     }
 }
@@ -291,6 +310,8 @@ mod tests {
         let alloc = rt.alloc();
         let command = read_words(alloc, &["check", "bnc.toml"])?;
         assert!(rt; matches!(&command, Command::Check(file) if file.as_str() == "bnc.toml"));
+        let command = read_words(alloc, &["serve", "bnc.toml"])?;
+        assert!(rt; matches!(&command, Command::Serve(file) if file.as_str() == "bnc.toml"));
         assert!(rt; matches!(read_words(alloc, &["view"])?, Command::View));
         assert!(rt; matches!(read_words(alloc, &["attach"])?, Command::Attach(_, 500)));
         assert!(rt; matches!(read_words(alloc, &["--help"]), Err(WordsFault::Help(_))));

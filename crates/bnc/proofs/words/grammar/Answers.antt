@@ -1,6 +1,6 @@
 use Rattle.std.proofs.Common.{◌≡◌, ap, ap₂, ◌∙◌, codes, rules}
 use Rattle.clap.specs.Words.{App, app_of, new_app, with_rule, with_subcommand}
-use Rattle.bnc.specs.Command.{attach_app, check_app, view_app}
+use Rattle.bnc.specs.Command.{attach_app, check_app, serve_app, view_app}
 use Rattle.bnc.proofs.words.grammar.Goals as goal
 
 pub returns : goal.returns
@@ -15,5 +15,7 @@ returns c =
     ∙ ap₂ with_subcommand c.in_ok-bare.ensures (ap (λ (a : App). a.top) view_is) in
     let three_are =
     c.in_ok-with_attach.ensures ∙ ap (λ (a : App). with_subcommand a attach_app.top) both_is in
-    c.in_ok-bnc.ensures.shape (search rules)
-    ∙ ap₂ with_subcommand three_are (ap (λ (a : App). a.top) check_is)
+    let four_are =
+    c.in_ok-with_check.ensures.shape (search rules)
+    ∙ ap₂ with_subcommand three_are (ap (λ (a : App). a.top) check_is) in
+    c.in_ok-bnc.ensures ∙ ap (λ (a : App). with_subcommand a serve_app.top) four_are

@@ -1,0 +1,60 @@
+//! `bnc serve FILE`: stays on the networks of a settings file, and serves their users' clients.
+
+use crate::fault::Fault;
+use bnc_config::Config;
+use serving::{Limits, Shared, accept, start_networks};
+use std::fs;
+use std::net::{Net, TcpListener, TcpStream};
+use std::rt::{Clock, Files};
+use std::sync::{Arc, Wait};
+use std::thread::Threads;
+
+/// The settings of the file at a path.
+fn settings_at<R: AllocGlobal + Files>(rt: &R, path: &str) -> Result<Config, Fault> {
+    let text = match fs::read(rt, path) {
+        Ok(text) => text,
+        Err(error) => return Err(Fault::of_reading(&error)),
+    };
+    match Config::read(rt.alloc(), text.as_slice()) {
+        Ok(config) => Ok(config),
+        Err(fault) => Err(Fault::Settings(fault)),
+    }
+}
+
+/// Reads the settings file at a path, listens where it says, prints `listening ADDRESS`, and
+/// serves. It returns before it is killed only for a fault.
+pub fn serve_file<
+    R: AllocGlobal
+        + Files
+        + Threads
+        + Wait
+        + Clock
+        + Print
+        + Eprint
+        + Net<Listener = TcpListener, Stream = TcpStream>
+        + Copy
+        + Send
+        + Sync
+        + Drop
+        + 'static,
+>(rt: R, path: &str) -> Result<(), Fault> {
+    let alloc = rt.alloc();
+    let config = settings_at(&rt, path)?;
+    let limits = Limits::of_program(config.retry());
+    let Ok(listener) = TcpListener::bind(&rt, config.listen()) else {
+        return Err(Fault::CannotListen);
+    };
+    let Ok(address) = listener.local_addr() else {
+        return Err(Fault::CannotListen);
+    };
+    let (shared, links) = Shared::new(alloc, config, limits)?;
+    let Ok(shared) = Arc::new(alloc, shared) else {
+        return Err(Fault::OutOfMemory);
+    };
+    let _threads = start_networks(rt, alloc, &shared, links)?;
+    if println!(rt; "listening {address}").is_err() {
+        return Err(Fault::CannotWrite);
+    }
+    accept(rt, alloc, &listener, &shared);
+    Ok(())
+}
