@@ -9,7 +9,7 @@ use std::process::Abort;
 use std::test::Fail;
 use welcome::Packet;
 
-fn line(alloc: Global, text: &[u8]) -> Result<Line, Fail> {
+pub(crate) fn line(alloc: Global, text: &[u8]) -> Result<Line, Fail> {
     let line = Line::<Global>::read(alloc, text)?;
     Ok(line.ok_or("the text is a line")?)
 }

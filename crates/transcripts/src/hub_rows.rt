@@ -1,7 +1,7 @@
-//! What a hub does of scripts of events: what it answers, what its clients and the network are sent.
+//! What a hub does of scripts of events: what is answered, what clients and the network are sent.
 
+mod garden;
 mod scripts;
-mod sessions;
 
 use crate::hub_rows::scripts::{Story, WELCOME, check, check_text, push_count, push_line};
 use std::test::Fail;

@@ -13,6 +13,8 @@ mod hub_rows;
 #[cfg(test)]
 mod kept_messages;
 #[cfg(test)]
+mod late_attach;
+#[cfg(test)]
 mod lines;
 #[cfg(test)]
 mod login;

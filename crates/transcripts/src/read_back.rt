@@ -14,7 +14,7 @@ use tape_view::TapeView;
 use welcome::{Packet, state_part};
 
 /// As an ngIRCd server says it: names by `ascii`, one symbol in a name list, no capabilities.
-const NGIRCD: [&[u8]; 38] = [
+pub(crate) const NGIRCD: [&[u8]; 38] = [
     b":irc.example.net 001 ann :Welcome to the Internet Relay Network ann!~ann@client.example",
     b":irc.example.net 002 ann :Your host is irc.example.net, running version ngircd-26.1",
     b":irc.example.net 003 ann :This server has been started Mon Nov 02 2026 at 08:12:31 (UTC)",
@@ -59,7 +59,7 @@ const NGIRCD: [&[u8]; 38] = [
 ];
 
 /// As an InspIRCd server says it: names by `rfc1459`, and all capabilities but batch.
-const INSPIRCD: [&[u8]; 39] = [
+pub(crate) const INSPIRCD: [&[u8]; 39] = [
     b":irc.island.example NOTICE * :*** Looking up your hostname...",
     b":irc.island.example CAP * ACK :account-notify away-notify extended-join multi-prefix",
     b":irc.island.example 001 Ivy :Welcome to the Island IRC Network Ivy!ivy@client.example",
@@ -111,7 +111,11 @@ const INSPIRCD: [&[u8]; 39] = [
 const ALL: &[u8] = b"multi-prefix extended-join account-notify away-notify server-time batch";
 
 /// Takes the lines of a packet.
-fn take_packet(alloc: Global, view: &mut TapeView, packet: &Packet) -> Result<(), Fail> {
+pub(crate) fn take_packet<V: NetworkView>(
+    alloc: Global,
+    view: &mut V,
+    packet: &Packet,
+) -> Result<(), Fail> {
     for place in 0..packet.line_count() {
         let line = packet.line(alloc, place)?;
         view.take(&Item::Line(line))?;

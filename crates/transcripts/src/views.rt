@@ -36,7 +36,11 @@ pub(crate) fn quick_of(alloc: Global, texts: &[&[u8]]) -> Result<QuickView, Fail
 }
 
 /// The modes of a channel in braces, in order, each with its parameter.
-fn show_modes<V: NetworkView>(view: &V, channel: usize, text: &mut Vec<u8>) -> Result<(), Fail> {
+pub(crate) fn show_modes<V: NetworkView>(
+    view: &V,
+    channel: usize,
+    text: &mut Vec<u8>,
+) -> Result<(), Fail> {
     if view.mode_at(channel, 0).is_none() {
         return Ok(());
     }
@@ -57,7 +61,11 @@ fn show_modes<V: NetworkView>(view: &V, channel: usize, text: &mut Vec<u8>) -> R
 }
 
 /// The symbols of a set of ranks, the highest first.
-fn show_ranks<V: NetworkView>(view: &V, ranks: Ranks, text: &mut Vec<u8>) -> Result<(), Fail> {
+pub(crate) fn show_ranks<V: NetworkView>(
+    view: &V,
+    ranks: Ranks,
+    text: &mut Vec<u8>,
+) -> Result<(), Fail> {
     for rank in 0..16 {
         if ranks.has(rank) {
             let symbol = view.support().symbol(rank).ok_or("no such rank")?;
@@ -68,7 +76,7 @@ fn show_ranks<V: NetworkView>(view: &V, ranks: Ranks, text: &mut Vec<u8>) -> Res
 }
 
 /// A text behind a mark, where there is one.
-fn show_fact(mark: u8, fact: Option<&[u8]>, text: &mut Vec<u8>) -> Result<(), Fail> {
+pub(crate) fn show_fact(mark: u8, fact: Option<&[u8]>, text: &mut Vec<u8>) -> Result<(), Fail> {
     if let Some(fact) = fact {
         text.push(mark)?;
         text.extend_from_slice(fact)?;
@@ -91,6 +99,24 @@ fn show_members<V: NetworkView>(view: &V, channel: usize, text: &mut Vec<u8>) ->
     Ok(())
 }
 
+/// A channel's name, its modes, and its topic in brackets.
+pub(crate) fn show_channel<V: NetworkView>(
+    view: &V,
+    place: usize,
+    text: &mut Vec<u8>,
+) -> Result<(), Fail> {
+    let channel = view.channel_at(place).ok_or("no such channel")?;
+    text.extend_from_slice(b" / ")?;
+    text.extend_from_slice(channel.name)?;
+    show_modes(view, place, text)?;
+    if let Some(topic) = channel.topic {
+        text.extend_from_slice(b" [")?;
+        text.extend_from_slice(topic)?;
+        text.push(b']')?;
+    }
+    Ok(())
+}
+
 /// Our nick, then each channel with its modes, its topic in brackets and its members, in order.
 pub(crate) fn shown<V: NetworkView>(alloc: Global, view: &V) -> Result<Vec<u8>, Fail> {
     let mut text = Vec::new(alloc);
@@ -98,15 +124,7 @@ pub(crate) fn shown<V: NetworkView>(alloc: Global, view: &V) -> Result<Vec<u8>, 
         text.extend_from_slice(nick)?;
     }
     for place in 0..view.channel_count() {
-        let channel = view.channel_at(place).ok_or("no such channel")?;
-        text.extend_from_slice(b" / ")?;
-        text.extend_from_slice(channel.name)?;
-        show_modes(view, place, &mut text)?;
-        if let Some(topic) = channel.topic {
-            text.extend_from_slice(b" [")?;
-            text.extend_from_slice(topic)?;
-            text.push(b']')?;
-        }
+        show_channel(view, place, &mut text)?;
         show_members(view, place, &mut text)?;
     }
     Ok(text)

@@ -1,0 +1,182 @@
+//! Writers that are held, and writers that are told to stop.
+
+ghost use Rattle.std.specs.Prelude.{◌<◌};
+
+use crate::gates::{Held, SharedDoor, shut_door};
+use crate::stage::{
+    BURST, JOINED, Stage, attach, joined, put, stage_after, take_all, waiting_text,
+};
+use crate::streams::Sink;
+use client_caps::Moment;
+use hub_core::Said;
+use hub_ends::SessionId;
+use hub_threads::{
+    FreeGate, Network, OutletEnd, Stopper, Writer, Written, end_session, spawn_writer,
+};
+use irc_line::Line;
+use quick_view::QuickView;
+use std::alloc::Global;
+use std::sync::{Arc, Wait};
+use std::test::Fail;
+use std::thread::Threads;
+use std::time::Clock;
+
+/// A session with room for so many packets, whose writer is held before its first write.
+fn held<R: Threads + Wait + Clock + Send + Copy + Drop + 'static>(
+    rt: R,
+    alloc: Global,
+    network: &Network<QuickView>,
+    capacity: usize,
+    door: &SharedDoor,
+) -> Result<(SessionId, Writer<Sink>), Fail>
+    requires { 0 < capacity }
+{
+    let (id, end) = attach(&rt, alloc, network, b"", capacity)?;
+    let gate = Held {
+        rt,
+        door: Arc::try_clone(door)?,
+    };
+    let writer = spawn_writer(rt, end, Sink::whole(alloc), gate, u64::MAX)?;
+    if !door.is_reached(&rt) {
+        return Err("the writer writes")?;
+    }
+    Ok((id, writer))
+}
+
+/// The bytes of a session that ends, all of them written.
+fn bytes_at_end<R: Threads + Wait>(
+    rt: &R,
+    network: &Network<QuickView>,
+    id: SessionId,
+    writer: Writer<Sink>,
+) -> Result<Vec<u8>, Fail> {
+    match end_session(rt, network, id, writer) {
+        Ok(ended) if ended.token => Ok(ended.out.bytes),
+        Ok(_) => Err("not all was written")?,
+        Err(_) => Err("no session")?,
+    }
+}
+
+/// The bytes of a session that comes and goes.
+fn bytes_of_another<R: Threads + Wait + Send + Copy + 'static>(
+    rt: R,
+    alloc: Global,
+    network: &Network<QuickView>,
+) -> Result<Vec<u8>, Fail> {
+    let (id, end) = attach(&rt, alloc, network, b"", 8)?;
+    let writer = spawn_writer(rt, end, Sink::whole(alloc), FreeGate, u64::MAX)?;
+    bytes_at_end(&rt, network, id, writer)
+}
+
+/// While the writer of one session is held, another one attaches, and its burst is written.
+#[test]
+fn writers_do_not_wait_for_one_another(rt: HostRuntime) -> Result<(), Fail> {
+    let stage = stage_after(&rt, rt.alloc(), 1, &JOINED)?;
+    let door = shut_door(rt.alloc())?;
+    let (id, writer) = held(rt, rt.alloc(), &stage.network, 8, &door)?;
+    let other = bytes_of_another(rt, rt.alloc(), &stage.network)?;
+    assert!(&rt; other.as_slice() == BURST);
+    assert!(&rt; !door.was_forced());
+    door.let_go();
+    let bytes = bytes_at_end(&rt, &stage.network, id, writer)?;
+    assert!(&rt; bytes.as_slice() == BURST);
+    assert!(&rt; !door.was_forced());
+    Ok(())
+}
+
+const MESSAGES: [&[u8]; 3] = [
+    b":bob!b@h PRIVMSG #c m1",
+    b":bob!b@h PRIVMSG #c m2",
+    b":bob!b@h PRIVMSG #c m3",
+];
+
+/// How many sessions are cut at each of the messages.
+fn cut_at_each<R: Wait>(
+    rt: &R,
+    alloc: Global,
+    stage: &mut Stage<QuickView>,
+) -> Result<[usize; 3], Fail> {
+    let mut cut = [0, 0, 0];
+    for (count, message) in cut.iter_mut().zip(&MESSAGES) {
+        put(alloc, &mut stage.end, &[*message])?;
+        *count = take_all(rt, &stage.network)?.1;
+    }
+    Ok(cut)
+}
+
+/// Whether a session is not there any more.
+fn is_gone<R: Wait>(
+    rt: &R,
+    alloc: Global,
+    network: &Network<QuickView>,
+    id: SessionId,
+) -> Result<bool, Fail> {
+    let line = Line::<Global>::read(alloc, b"PING x")?.ok_or("a line")?;
+    let said = network.lock(rt).said(id, &line, Moment(0))?;
+    Ok(said == Said::NoSession)
+}
+
+/// A session whose writer is held is cut at the message that finds no room; another one is not.
+#[test]
+fn a_session_that_is_cut(rt: HostRuntime) -> Result<(), Fail> {
+    let mut stage = stage_after(&rt, rt.alloc(), 1, &JOINED)?;
+    let door = shut_door(rt.alloc())?;
+    let (id, writer) = held(rt, rt.alloc(), &stage.network, 2, &door)?;
+    let (_, mut other) = attach(&rt, rt.alloc(), &stage.network, b"", 8)?;
+    assert!(&rt; cut_at_each(&rt, rt.alloc(), &mut stage)? == [0, 0, 1]);
+    assert!(&rt; is_gone(&rt, rt.alloc(), &stage.network, id)?);
+    let sent = waiting_text(rt.alloc(), &mut other)?;
+    assert!(&rt; sent == joined(rt.alloc(), &[BURST, THREE])?);
+    door.let_go();
+    let written = writer.join(&rt);
+    assert!(&rt; written.out.bytes == joined(rt.alloc(), &[BURST, TWO])?);
+    assert!(&rt; written.end.closed().is_none());
+    assert!(&rt; !door.was_forced());
+    Ok(())
+}
+
+const TWO: &[u8] = b":bob!b@h PRIVMSG #c m1\r\n:bob!b@h PRIVMSG #c m2\r\n";
+
+const THREE: &[u8] =
+    b":bob!b@h PRIVMSG #c m1\r\n:bob!b@h PRIVMSG #c m2\r\n:bob!b@h PRIVMSG #c m3\r\n";
+
+/// Starts a writer of an end, with what tells it to stop.
+fn started<R: Threads + Wait + Send + Copy + 'static>(
+    rt: R,
+    alloc: Global,
+    end: OutletEnd,
+) -> Result<(Stopper, Writer<Sink>), Fail> {
+    let stopper = end.stopper()?;
+    let writer = spawn_writer(rt, end, Sink::whole(alloc), FreeGate, u64::MAX)?;
+    Ok((stopper, writer))
+}
+
+/// A writer is told to stop, and another one goes on with its end: the bytes of both.
+fn bytes_of_two<R: Threads + Wait + Send + Copy + 'static>(
+    rt: R,
+    alloc: Global,
+    stage: &mut Stage<QuickView>,
+) -> Result<Vec<u8>, Fail> {
+    let (id, end) = attach(&rt, alloc, &stage.network, b"", 8)?;
+    let (stopper, writer) = started(rt, alloc, end)?;
+    stopper.stop();
+    let Written { end, out, .. } = writer.join(&rt);
+    put(alloc, &mut stage.end, &MESSAGES)?;
+    take_all(&rt, &stage.network)?;
+    end.go_on();
+    let (_, writer) = started(rt, alloc, end)?;
+    let mut bytes = out.bytes;
+    match end_session(&rt, &stage.network, id, writer) {
+        Ok(ended) => bytes.extend_from_slice(&ended.out.bytes)?,
+        Err(_) => return Err("no session")?,
+    }
+    Ok(bytes)
+}
+
+#[test]
+fn a_writer_that_is_told_to_stop(rt: HostRuntime) -> Result<(), Fail> {
+    let mut stage = stage_after(&rt, rt.alloc(), 1, &JOINED)?;
+    let bytes = bytes_of_two(rt, rt.alloc(), &mut stage)?;
+    assert!(&rt; bytes == joined(rt.alloc(), &[BURST, THREE])?);
+    Ok(())
+}

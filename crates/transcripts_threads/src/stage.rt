@@ -1,0 +1,164 @@
+//! Networks with rings as their ends: lines are put in, sessions attach, and what they are sent is
+//! taken out.
+
+ghost use Rattle.std.specs.Prelude.{◌≡◌, ◌<◌};
+ghost use Rattle.net_view.specs.View.{empty_view};
+
+use client_caps::{Caps, Moment, read_request};
+use hub_core::{Hub, Pumped, Setup};
+use hub_ends::SessionId;
+use hub_threads::{InletEnd, Network, OutletEnd, inlet, outlet, shared_bell};
+use irc_line::Line;
+use net_view::{Item, NetworkView};
+use quick_view::QuickView;
+use std::alloc::Global;
+use std::sync::{Arc, Wait};
+use std::test::Fail;
+
+/// A network, the end that its lines are put into, and the end that what it sends to the network is
+/// taken from.
+#[derive(Drop)]
+pub(crate) struct Stage<V: NetworkView + Drop> {
+    pub(crate) network: Network<V>,
+    pub(crate) end: InletEnd,
+    pub(crate) upward: OutletEnd,
+}
+
+/// A welcome, and a JOIN of ours.
+pub(crate) const JOINED: [&[u8]; 4] = [
+    b":s 001 Me :hi",
+    b":s 005 Me PREFIX=(ov)@+ CHANTYPES=# :are supported",
+    b":s 376 Me :end",
+    b":Me!m@h JOIN #c",
+];
+
+/// What a client without capabilities is sent first, behind these.
+pub(crate) const BURST: &[u8] = b":bnc 001 Me :Welcome to the bouncer\r\n\
+    :bnc 002 Me :Your host is bnc, running version 1\r\n\
+    :bnc 003 Me :This server was created for you\r\n\
+    :bnc 004 Me bnc 1 i biklmnopstv\r\n\
+    :bnc 005 Me PREFIX=(ov)@+ CHANTYPES=# :are supported by this server\r\n\
+    :bnc 422 Me :MOTD File is missing\r\n\
+    :Me JOIN #c\r\n\
+    :bnc 353 Me = #c Me\r\n\
+    :bnc 366 Me #c :End of NAMES list\r\n";
+
+/// A network to which nothing came, with room for so many items at a time.
+pub(crate) fn empty_stage<V: NetworkView + Drop>(
+    alloc: Global,
+    view: V,
+    first_number: u64,
+    items: usize,
+) -> Result<Stage<V>, Fail>
+    requires view { V.view view ≡ empty_view }
+    requires items { 0 < items }
+{
+    let pump = shared_bell(alloc)?;
+    let (end, inlet) = inlet(alloc, items, Arc::try_clone(&pump)?)?;
+    let (upstream, upward) = outlet(alloc, 8, Arc::try_clone(&pump)?)?;
+    let setup = Setup {
+        history: 10,
+        first_number,
+        first_session: 0,
+    };
+    let hub = Hub::start(alloc, view, inlet, upstream, setup)?;
+    Ok(Stage {
+        network: Network::new(hub, pump),
+        end,
+        upward,
+    })
+}
+
+/// A network by the view of tables.
+pub(crate) fn quick_stage(
+    alloc: Global,
+    first_number: u64,
+    items: usize,
+) -> Result<Stage<QuickView>, Fail>
+    requires { 0 < items }
+{
+    empty_stage(alloc, QuickView::new(alloc)?, first_number, items)
+}
+
+/// Puts lines.
+pub(crate) fn put(alloc: Global, end: &mut InletEnd, texts: &[&[u8]]) -> Result<(), Fail> {
+    for text in texts {
+        let line = Line::<Global>::read(alloc, text)?.ok_or("the text is a line")?;
+        match end.put(Item::Line(line), Moment(0)) {
+            Ok(()) => {}
+            Err(_) => return Err("no room")?,
+        }
+    }
+    Ok(())
+}
+
+/// Has the hub take all items that wait; answers how many it took, and how many sessions were cut.
+pub(crate) fn take_all<V: NetworkView + Drop, R: Wait>(
+    rt: &R,
+    network: &Network<V>,
+) -> Result<(u64, usize), Fail> {
+    let mut taken: u64 = 0;
+    let mut gone: usize = 0;
+    for _ in 0..1_000 {
+        match network.lock(rt).pump()? {
+            Pumped::Nothing => break,
+            Pumped::Taken { cut } => {
+                taken = taken.saturating_add(1);
+                gone = gone.saturating_add(cut);
+            }
+        }
+    }
+    Ok((taken, gone))
+}
+
+/// The network that took these lines.
+pub(crate) fn stage_after<R: Wait>(
+    rt: &R,
+    alloc: Global,
+    first_number: u64,
+    texts: &[&[u8]],
+) -> Result<Stage<QuickView>, Fail> {
+    let mut stage = quick_stage(alloc, first_number, 64)?;
+    put(alloc, &mut stage.end, texts)?;
+    take_all(rt, &stage.network)?;
+    Ok(stage)
+}
+
+/// A client with these capabilities attaches, with room for so many packets.
+pub(crate) fn attach<V: NetworkView + Drop, R: Wait>(
+    rt: &R,
+    alloc: Global,
+    network: &Network<V>,
+    names: &[u8],
+    capacity: usize,
+) -> Result<(SessionId, OutletEnd), Fail>
+    requires { 0 < capacity }
+{
+    let (out, end) = outlet(alloc, capacity, network.pump_bell()?)?;
+    let caps = read_request(Caps::none(), names).ok_or("taken")?;
+    match network.lock(rt).attach(caps, None, out) {
+        Ok(id) => Ok((id, end)),
+        Err(_) => Err("not attached")?,
+    }
+}
+
+/// The bytes of all packets that wait.
+pub(crate) fn waiting_text(alloc: Global, end: &mut OutletEnd) -> Result<Vec<u8>, Fail> {
+    let mut text = Vec::new(alloc);
+    for _ in 0..1_000 {
+        let Some(packet) = end.take() else {
+            break;
+        };
+        text.extend_from_slice(packet.bytes())?;
+    }
+    Ok(text)
+}
+
+/// These texts, one behind the other.
+pub(crate) fn joined(alloc: Global, texts: &[&[u8]]) -> Result<Vec<u8>, Fail> {
+    let mut text = Vec::new(alloc);
+    for part in texts {
+        text.extend_from_slice(part)?;
+    }
+    Ok(text)
+}
