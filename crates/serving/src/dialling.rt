@@ -3,6 +3,7 @@
 use crate::closing::hang_up;
 use crate::limits::Limits;
 use crate::link::Link;
+use crate::rejoining::rejoin;
 use crate::shared::{Served, Shared};
 use crate::timed::{OnSilence, Patient, Until};
 use event_log::{Event, SystemClock, tell};
@@ -153,10 +154,6 @@ fn run<R: Threads + Wait + Clock + Sync>(
     (link, ended)
 }
 
-/// Asks for the channels that we were on when the connection was lost, and that the settings don't
-/// have, each with its key.
-fn rejoin(_alloc: Global, _served: &Served<'_>, _stream: &TcpStream) {}
-
 /// Our nick by a network's welcome.
 fn nick_in(lines: &[Line]) -> &[u8] {
     match lines.first() {
@@ -203,7 +200,7 @@ fn dial<
     };
     let nick = nick_in(welcomed.lines.as_slice());
     tell(rt, &served.who, &Event::Connected { address, nick });
-    rejoin(alloc, served, &stream);
+    rejoin(rt, alloc, served, &stream);
     let (link, ended) = run(rt, alloc, served, &stream, welcomed, link);
     let cause = cause_of(ended);
     tell(rt, &served.who, &Event::Lost { cause, retry });

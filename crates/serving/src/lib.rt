@@ -9,6 +9,7 @@ mod dialling;
 mod limits;
 mod link;
 mod pumping;
+mod rejoining;
 mod shared;
 mod starting;
 mod timed;
