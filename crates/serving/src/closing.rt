@@ -10,7 +10,7 @@ pub fn hang_up(stream: &TcpStream) {
     let _ = stream.shutdown(Shutdown::Both);
 }
 
-/// The gate of a session. It holds nobody, and when it, or a copy of it, is dropped, as the writer's
+/// The gate of a session. It holds nobody. When it or a copy of it is dropped, as the writer's
 /// thread does at its end, it shuts the connection: so the reader of a session that was cut, or to
 /// which nothing can be written, ends too.
 pub struct HangingUp {
