@@ -17,11 +17,16 @@ const GREETING: &str = ":bnc 001 ann :Welcome to the bouncer\r\n\
     :bnc 353 ann = #c :ann @bob\r\n\
     :bnc 366 ann #c :End of NAMES list\r\n";
 
+/// The bouncer is in a channel with bob from here on, and has taken it.
+fn enter(alloc: Global, network: &mut Peer) -> Result<(), Fail> {
+    network.say(":ann!a@h JOIN #c\r\n:s 353 ann = #c :ann @bob\r\n:s 366 ann #c :End\r\n")?;
+    settle(alloc, network)
+}
+
 /// The network lets the bouncer in, to a channel with bob.
 fn let_in(alloc: Global, bouncer: &Bouncer) -> Result<Peer, Fail> {
     let mut network = bouncer.registers(alloc)?;
-    network.say(":ann!a@h JOIN #c\r\n:s 353 ann = #c :ann @bob\r\n:s 366 ann #c :End\r\n")?;
-    settle(alloc, &mut network)?;
+    enter(alloc, &mut network)?;
     Ok(network)
 }
 
@@ -82,31 +87,26 @@ fn a_client_that_comes_back_hears_what_it_missed(rt: HostRuntime) -> Result<(), 
     Ok(())
 }
 
-/// A client asks for a channel that the settings don't have, by its key.
-fn join_another(alloc: Global, network: &mut Peer, client: &mut Peer) -> Result<(), Fail> {
-    client.say("JOIN #d sesame\r\n")?;
-    network.hears(alloc, "JOIN #d sesame\r\n")?;
-    network.say(":ann!a@h JOIN #d\r\n:s 324 ann #d +k sesame\r\n")?;
-    client.hears(alloc, ":ann!a@h JOIN #d\r\n:s 324 ann #d +k sesame\r\n")
-}
-
 #[test]
 fn a_connection_lost_in_mid_line_is_made_anew(rt: HostRuntime) -> Result<(), Fail> {
     let alloc = rt.alloc();
     let bouncer = start(rt, alloc, limits(1, 2))?;
     let mut network = let_in(alloc, &bouncer)?;
     let mut desk = come(&rt, alloc, &bouncer, "desk")?;
-    join_another(alloc, &mut network, &mut desk)?;
-    network.say(":bob!b@h PRIV")?;
+    desk.say("JOIN #d key\r\n")?;
+    network.hears(alloc, "JOIN #d key\r\n")?;
+    network.say(":ann!a@h JOIN #d\r\n:s MODE #d +k key\r\n:bob!b@h PRIV")?;
+    desk.hears(alloc, ":ann!a@h JOIN #d\r\n:s MODE #d +k key\r\n")?;
     drop(network);
     desk.hears(alloc, ":ann PART #c\r\n:ann PART #d\r\n")?;
     let mut network = bouncer.registers(alloc)?;
-    network.hears(alloc, "JOIN #d sesame\r\n")?;
-    network.say(":ann!a@h JOIN #c\r\n")?;
+    network.hears(alloc, "JOIN #d key\r\n")?;
+    enter(alloc, &mut network)?;
     desk.hears(
         alloc,
         ":s 001 ann Welcome\r\n:s 005 ann PREFIX=(ov)@+ CHANTYPES=# :are supported\r\n\
-        :s 376 ann :End of MOTD\r\n:ann!a@h JOIN #c\r\n",
+        :s 376 ann :End of MOTD\r\n:ann!a@h JOIN #c\r\n:s 353 ann = #c :ann @bob\r\n\
+        :s 366 ann #c End\r\n",
     )?;
     go(alloc, desk)?;
     drop(network);

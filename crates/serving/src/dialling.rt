@@ -3,7 +3,7 @@
 use crate::closing::hang_up;
 use crate::limits::Limits;
 use crate::link::Link;
-use crate::rejoining::rejoining;
+use crate::rejoining::rejoin;
 use crate::shared::{Served, Shared};
 use crate::timed::{OnSilence, Patient, Until};
 use event_log::{Event, SystemClock, tell};
@@ -14,7 +14,6 @@ use hub_threads::{
 use irc_line::{Line, Splitter};
 use quick_view::QuickView;
 use std::alloc::Global;
-use std::io::Write;
 use std::net::{Net, TcpListener, TcpStream, ToSocketAddrs};
 use std::rt::Clock;
 use std::sync::Wait;
@@ -153,16 +152,6 @@ fn run<R: Threads + Wait + Clock + Sync>(
         stopper,
     };
     (link, ended)
-}
-
-/// Asks for the channels that we were on when the connection was lost, and that the settings don't
-/// have, each with its key. Where memory is refused it asks for none; where a write fails, the
-/// reader is told so.
-fn rejoin<R: Wait>(rt: &R, alloc: Global, served: &Served<'_>, stream: &TcpStream) {
-    if let Ok(lines) = rejoining(rt, alloc, served) {
-        let mut stream = stream;
-        let _ = stream.write_all(lines.as_slice());
-    }
 }
 
 /// Our nick by a network's welcome.

@@ -1,49 +1,53 @@
-//! The channels that a new connection to a network is to join again.
+//! The channels of a lost connection, joined again on the next one.
 
 use crate::shared::Served;
 use bnc_config::NetworkConfig;
 use hub_core::LostChannel;
-use irc_line::{Line, MakeError, OutOfMemory};
-use irc_names::CaseMapping;
-use net_view::NetworkView;
-use std::alloc::Global;
+use irc_line::{Line, MakeError};
+use std::alloc::{AllocError, Global};
+use std::io::Write;
+use std::net::TcpStream;
 use std::sync::Wait;
 
-/// Whether the settings have this channel, which the registration then joins.
-fn is_configured(settings: &NetworkConfig, mapping: CaseMapping, name: &[u8]) -> bool {
-    settings
-        .join()
-        .iter()
-        .any(|channel| mapping.same(channel.as_bytes(), name))
+/// Whether the settings join this channel, without a key, by themselves.
+fn is_in_settings(settings: &NetworkConfig, channel: &LostChannel) -> bool {
+    let mut names = settings.join().iter();
+    channel.key.is_none() && names.any(|name| name.as_bytes() == channel.name.as_slice())
 }
 
-/// What asks for a channel: its JOIN, with its key where it had one (RFC 2812, section 3.2.1).
-fn join_line(alloc: Global, channel: &LostChannel) -> Result<Line, MakeError> {
-    match &channel.key {
-        Some(key) => Line::make(alloc, None, b"JOIN", &[channel.name.as_slice(), key.as_slice()]),
-        None => Line::make(alloc, None, b"JOIN", &[channel.name.as_slice()]),
+/// Adds `JOIN channel key`, or `JOIN channel` without a key (RFC 2812, section 3.2.1).
+fn push_join(alloc: Global, bytes: &mut Vec<u8>, channel: &LostChannel) -> Result<(), AllocError> {
+    let name = channel.name.as_slice();
+    let made = match &channel.key {
+        Some(key) => Line::make(alloc, None, b"JOIN", &[name, key.as_slice()]),
+        None => Line::make(alloc, None, b"JOIN", &[name]),
+    };
+    match made {
+        Ok(line) => line.write(bytes),
+        Err(MakeError::OutOfMemory) => Err(AllocError),
+        Err(MakeError::NotALine) => Ok(()),
     }
 }
 
-/// The JOIN lines, each with CR LF, of the channels that we were on when the connection was lost
-/// last, but for those of the settings. The lock is held meanwhile.
-pub fn rejoining<R: Wait>(
-    rt: &R,
-    alloc: Global,
-    served: &Served<'_>,
-) -> Result<Vec<u8>, OutOfMemory> {
-    let mut text = Vec::new(alloc);
+/// The JOIN lines of the channels that we were on when the connection was lost, but for those that
+/// the settings join.
+fn joins<R: Wait>(rt: &R, alloc: Global, served: &Served<'_>) -> Result<Vec<u8>, AllocError> {
+    let mut bytes = Vec::new(alloc);
     let hub = served.network.lock(rt);
-    let mapping = hub.view().support().mapping();
     for channel in hub.lost_channels() {
-        if is_configured(served.settings, mapping, channel.name.as_slice()) {
-            continue;
-        }
-        match join_line(alloc, channel) {
-            Ok(line) => line.write(&mut text)?,
-            Err(MakeError::OutOfMemory) => return Err(OutOfMemory),
-            Err(MakeError::NotALine) => {}
+        if !is_in_settings(served.settings, channel) {
+            push_join(alloc, &mut bytes, channel)?;
         }
     }
-    Ok(text)
+    Ok(bytes)
+}
+
+/// Asks a network for the channels that we were on when the connection was lost, each with its key,
+/// but for those that the settings join, in one write. Where memory is refused nothing is asked
+/// for; a write that fails is found out by the next.
+pub fn rejoin<R: Wait>(rt: &R, alloc: Global, served: &Served<'_>, stream: &TcpStream) {
+    let mut stream = stream;
+    if let Ok(bytes) = joins(rt, alloc, served) {
+        let _ = stream.write_all(bytes.as_slice());
+    }
 }
