@@ -94,6 +94,6 @@ pub fn run_view<R: Read, W: Write>(alloc: Global, reader: &mut R, out: &mut W) -
 }
 
 #[cfg(test)]
-mod whole_sessions;
-#[cfg(test)]
 mod tests;
+#[cfg(test)]
+mod whole_sessions;

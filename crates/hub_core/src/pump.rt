@@ -208,8 +208,7 @@ fn prepare_arrival<V: NetworkView, O: Outlet>(
     ensures spent { IsErrOf result HubError.Spent ↔
         (IsSome (entry_for (arrival_of item.now, moment.0)) × (history.now.next ≡ None)) }
 {
-    let (entry, pong) =
-        prepare_item(alloc, view, sessions, history, item, moment, None, made)?;
+    let (entry, pong) = prepare_item(alloc, view, sessions, history, item, moment, None, made)?;
     let lost = lost_by(alloc, view, item)?;
     Ok((entry, pong, lost))
 }

@@ -42,9 +42,9 @@ apart_delivered alone give [] ts apart d = subst Apart (sym d) tt
 apart_delivered alone give (s ∷ ss) ts apart d =
     elim d [
       | inl e ↦ subst Apart (sym e.2) (
-          each_delivered (λ t. s.id < t.id) (λ t o less. less) alone give ss e.1 apart.0 e.4,
-          apart_delivered alone give ss e.1 apart.1 e.4,
-        )
+        each_delivered (λ t. s.id < t.id) (λ t o less. less) alone give ss e.1 apart.0 e.4,
+        apart_delivered alone give ss e.1 apart.1 e.4,
+      )
       | inr e ↦ apart_delivered alone give ss ts apart.1 e.1
     ]
 
@@ -58,8 +58,7 @@ pub apart_put : (front : List SessionState) (s : SessionState) (o : OutletState)
     → Apart (front ++ with_outlet s o ∷ back)
 apart_put [] s o back apart = apart
 apart_put (r ∷ front) s o back apart =
-    let after = each_back (λ t. r.id < t.id) front (s ∷ back) apart.0 in
-    (
+    let after = each_back (λ t. r.id < t.id) front (s ∷ back) apart.0 in (
       each_append (λ t. r.id < t.id) front (with_outlet s o ∷ back)
           (each_front (λ t. r.id < t.id) front (s ∷ back) apart.0) (after.0, after.1),
       apart_put front s o back apart.1,

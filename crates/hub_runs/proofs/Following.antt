@@ -278,12 +278,13 @@ module _ (capacity first up : ℕ) where
       (ss : List SessionState) → AllByRecursion (Fine marks next) ss
       → AllByRecursion (Fine (marked name number marks) next) ss
   marked_fine marks next name number [] all = tt
-  marked_fine marks next name number (s ∷ ss) all =
-      (record { known = known s.name all.0.known; below = all.0.below },
-      marked_fine marks next name number ss all.1) where
-        known : (n : Option Text) → Known marks n → Known (marked name number marks) n
-        known None k = tt
-        known (Some n) k = marked_stays marks name number n k
+  marked_fine marks next name number (s ∷ ss) all = (
+    record { known = known s.name all.0.known; below = all.0.below },
+    marked_fine marks next name number ss all.1,
+  ) where
+    known : (n : Option Text) → Known marks n → Known (marked name number marks) n
+    known None k = tt
+    known (Some n) k = marked_stays marks name number n k
 
   pub left : (ds : List Deed) (h : HubState) (id : ℕ) (o : OutletState) (told : Bool)
       (new : HubState) → Followed ds h → Detaches h id o told new → Followed (Left id ∷ ds) new
@@ -328,8 +329,7 @@ module _ (capacity first up : ℕ) where
       → AllByRecursion (IsSent capacity first (Joined id name caps ∷ ds)) ss
   joined_quiet ds id name caps marks [] fine each = tt
   joined_quiet ds id name caps marks (s ∷ ss) fine each =
-      let other : (id == s.id) ≡ false = is_other s.id id fine.0.below in
-      (
+      let other : (id == s.id) ≡ false = is_other s.id id fine.0.below in (
         (
           each.0.0
               ∙ ap (λ b. cond b (burst_of (view_then ds) caps (missed_then capacity first name ds) ∷ [])
@@ -349,8 +349,7 @@ module _ (capacity first up : ℕ) where
       → AllByRecursion (Fine (with_name name marks) (number_after id)) ss
   named_fine marks name id [] all = tt
   named_fine marks name id (s ∷ ss) all =
-      let less : s.id < id = all.0.below in
-      (
+      let less : s.id < id = all.0.below in (
         record { known = known s.name all.0.known; below = below_next id s (omega (less, arith)) },
         named_fine marks name id ss all.1,
       ) where
