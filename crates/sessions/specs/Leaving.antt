@@ -6,6 +6,7 @@ use Rattle.std.specs.Io.KnownBytes.{Consumes, IsAtEnd}
 use Rattle.irc_line.specs.Line.{Parts}
 use Rattle.irc_line.specs.Lines.{Pending, fed, fed_all, is_too_long, lines_all, lines_of}
 use Rattle.hub_core.specs.Attaching.{Attaches}
+use Rattle.hub_core.specs.LostChannels.{lost_channels}
 use Rattle.hub_core.specs.Online.{is_online}
 use Rattle.hub_core.specs.Running.{IsRunning}
 use Rattle.hub_core.specs.States.{HubState, OutletState, heard, view_now}
@@ -89,7 +90,7 @@ pub record WasAttached (claim : ClaimParts) (id : ℕ) : Type 0 where
   pub old : HubState
   pub new : HubState
   pub outlet : OutletState
-  pub runs : IsRunning old (view_now old) (is_online (heard old))
+  pub runs : IsRunning old (view_now old) (is_online (heard old)) (lost_channels (heard old))
   pub unsent : outlet.sent ≡ []
   pub attached : Attaches false old claim.caps claim.client outlet id new
 
