@@ -45,14 +45,14 @@ server
 "$bnc" serve bnc.toml > bnc.out 2> bnc.log & sleep 3
 
 # bob is on the network itself
-ii -i "$at/bob" -s 127.0.0.1 -p 16660 -n bob & sleep 2
+ii -i "$at/bob" -s 127.0.0.1 -p 16660 -n bob > bob.raw & sleep 2
 echo '/j #c' > bob/127.0.0.1/in; sleep 2
 echo '/t Hello all' > 'bob/127.0.0.1/#c/in'; echo 'one' > 'bob/127.0.0.1/#c/in'; sleep 1
 
-phone() { BNC=ann@phone/net:bc ii -i "$at/phone$1" -s 127.0.0.1 -p 16667 -k BNC -n ann & phone=$!; sleep 3; }
+phone() { BNC=ann@phone/net:bc ii -i "$at/phone$1" -s 127.0.0.1 -p 16667 -k BNC -n ann > "phone$1.raw" & phone=$!; sleep 3; }
 phone 1
-title 'ii, late: the server window, and the channel'
-grep -v '^$' phone1/127.0.0.1/out; cat 'phone1/127.0.0.1/#c/out'
+title 'ii, late: what it was sent, and the channel'
+grep ' :' phone1.raw; cat 'phone1/127.0.0.1/#c/out'
 echo 'hi from the phone' > 'phone1/127.0.0.1/#c/in'; sleep 1
 title 'what bob heard'
 cat 'bob/127.0.0.1/#c/out'
@@ -60,7 +60,7 @@ kill $phone; sleep 1
 echo 'two' > 'bob/127.0.0.1/#c/in'; sleep 1; echo 'three' > 'bob/127.0.0.1/#c/in'; sleep 1
 phone 2
 title 'ii, back: two and three, once'
-cat 'phone2/127.0.0.1/#c/out'
+grep PRIVMSG phone2.raw
 
 if command -v irssi > /dev/null; then
   tmux -L bnc-try -f /dev/null new-session -d -s irssi -x 100 -y 40 \
@@ -74,12 +74,12 @@ if command -v weechat > /dev/null; then
     "weechat -d $at/weechat -r '/server add net 127.0.0.1/16667 -notls -password=ann@couch/net:bc -nicks=ann;/connect net'"
   sleep 7; tmux -L bnc-try send-keys -t weechat '/buffer #c' Enter; sleep 2
   title 'WeeChat, late: the channel with its nick list'
-  tmux -L bnc-try capture-pane -p -t weechat | grep -v '^$'
+  tmux -L bnc-try capture-pane -p -t weechat | grep '[0-9@]'
 fi
 
 title 'the server is started again'
 kill $server; sleep 3; server; sleep 4
-tail -n 5 'phone2/127.0.0.1/#c/out' phone2/127.0.0.1/out
+tail -n 8 phone2.raw
 title 'the log'
 cat bnc.log
 printf '\nall files: %s\n' "$at"
