@@ -12,6 +12,10 @@ use std::sync::Wait;
 /// together.
 const PATIENCE: u64 = 50;
 
+/// How often it looks at most whether they still are: each packet taken may wake it, so the time is
+/// told by the clock, and this ends the wait where a clock stands still.
+const LOOKS: u64 = 20_000;
+
 /// For whom no more time is to be spent: the sessions that took nothing while they were given time,
 /// each until it takes a packet.
 #[derive(Drop)]
@@ -56,7 +60,7 @@ impl Patience {
         }
         bell.raise();
         let began = clock.now();
-        for _ in 0..PATIENCE {
+        for _ in 0..LOOKS {
             bell.sleep(rt, 0);
             let are_left = !self.lagging(rt, network).is_empty();
             if !are_left || clock.now().0.saturating_sub(began.0) >= PATIENCE {
