@@ -65,6 +65,8 @@ pub enum Event<'a> {
     },
     /// A session was not attached.
     NotAttached(AttachError),
+    /// A session was cut by the hub; its writer runs on to its own end.
+    Cut,
     /// A session has ended.
     Ended {
         /// Why.
@@ -122,6 +124,7 @@ impl fmt::Display for Event<'_> {
             Event::WrongPassword { peer } => write!(f, "wrong password from {peer}"),
             Event::NoLogin { peer, cause } => write!(f, "no login from {peer}: {cause}"),
             Event::NotAttached(error) => write!(f, "not attached: {error}"),
+            Event::Cut => write!(f, "session cut: it took too little"),
             Event::Ended { cause, written } => match written {
                 Some(bytes) => write!(f, "session ended: {cause}; {bytes} bytes written"),
                 None => write!(f, "session ended: {cause}; cannot write"),

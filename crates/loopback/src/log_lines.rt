@@ -40,6 +40,7 @@ fn what_the_log_tells(rt: HostRuntime) -> Result<(), Fail> {
             Event::NotAttached(AttachError::NotReady),
             "not attached: not ready",
         ),
+        (Event::Cut, "session cut: it took too little"),
     ];
     for (event, want) in rows {
         let text = format!(in rt.alloc(); "{event}")?;

@@ -106,14 +106,7 @@ fn serve_session<R: Threads + Clock + Eprint + Wait + Copy + Send + Drop + 'stat
         }
         Err(ServeFault::Memory) => tell(&rt, &claimant(claim), &Event::SessionWithoutMemory),
         Err(ServeFault::Refused(error)) => tell(&rt, &claimant(claim), &Event::NotAttached(error)),
-        Err(ServeFault::Cut) => tell(
-            &rt,
-            &claimant(claim),
-            &Event::Ended {
-                cause: "cut, it took too little",
-                written: None,
-            },
-        ),
+        Err(ServeFault::Cut) => tell(&rt, &claimant(claim), &Event::Cut),
     }
     Ok(())
 }
