@@ -14,7 +14,7 @@ use Rattle.net_view.specs.Ranks.{rank_count, ranks_that, has_rank}
 use Rattle.net_view.specs.Readers.{MemberParts}
 use Rattle.net_view.specs.declared.channel.Member.{Member}
 use Rattle.bnc.specs.Readers.{parts_of}
-use Rattle.bnc.specs.Report.{symbols_of}
+use Rattle.irc_support.specs.Written.{symbols_of}
 
 -- the ranks of a set that stand before a place
 abbrev pub ranks_before : List ℕ → ℕ → List ℕ

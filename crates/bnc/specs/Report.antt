@@ -6,9 +6,9 @@ use Rattle.std.specs.FinMap.{entries}
 use Rattle.std.specs.Fmt.{decimal}
 use Rattle.std.proofs.Common.{Option, Some, None}
 use Rattle.irc_line.specs.Lines.{with_lf}
+use Rattle.irc_support.specs.Written.{symbols_of}
 use Rattle.net_view.specs.Text.{Text}
 use Rattle.net_view.specs.Tokens.{Token}
-use Rattle.net_view.specs.Ranking.{symbol_of}
 use Rattle.net_view.specs.View.{Channel, View}
 use Rattle.net_view.specs.Readers.{MemberParts, member_parts}
 
@@ -16,10 +16,6 @@ use Rattle.net_view.specs.Readers.{MemberParts, member_parts}
 abbrev pub labelled : Text → Option Text → Text
 labelled label None = []
 labelled label (Some text) = label ++ text
-
--- the symbols of ranks, in their order (isupport draft, section 3.14)
-abbrev pub symbols_of : List Token → List ℕ → Text
-symbols_of settings ranks = filter_map (symbol_of settings) ranks
 
 -- a member of a channel: the symbols of all ranks that are held, the highest first, and the nick;
 -- then the account and the away text, where they are known

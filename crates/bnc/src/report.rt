@@ -8,7 +8,8 @@ ghost use Rattle.bnc.specs.Readers.{modes_shown, parts_of};
 ghost use Rattle.bnc.specs.Report.{channel_lines, channels_lines, labelled, letters_of};
 ghost use Rattle.bnc.specs.Report.{member_line};
 ghost use Rattle.bnc.specs.Report.{member_lines, mode_lines, params_of, report_of, skipped_lines};
-ghost use Rattle.bnc.specs.Report.{symbols_of, text_of, topic_lines};
+ghost use Rattle.irc_support.specs.Written.{symbols_of};
+ghost use Rattle.bnc.specs.Report.{text_of, topic_lines};
 
 use net_view::{Member, NetworkView, OutOfMemory};
 use std::alloc::Global;

@@ -7,8 +7,8 @@ use Rattle.irc_support.specs.Text.{Text}
 use Rattle.irc_support.specs.Tokens.{Token}
 use Rattle.irc_support.specs.Line.{split_words_in}
 use Rattle.irc_support.specs.NamesReply.{words_between, split_word, split_words}
-use Rattle.irc_support.specs.Written.{highest_text}
-use Rattle.client_caps.specs.Images.{names_with_highest, with_param}
+use Rattle.irc_support.specs.Written.{highest_text, names_with_highest}
+use Rattle.client_caps.specs.Images.{with_param}
 
 mapped_twice : {A B C : Type 0} (f : B → C) (g : A → B) (xs : List A)
     → map f (map g xs) ≡ map (λ x. f (g x)) xs

@@ -10,7 +10,8 @@ use Rattle.irc_support.specs.Text.{Text}
 use Rattle.irc_support.specs.Settings.{is_channel}
 use Rattle.net_view.specs.View.{View}
 use Rattle.client_caps.specs.Caps.{Caps, all_caps}
-use Rattle.client_caps.specs.Images.{account_joined, as_sent, image_of, is_bare_join, is_passed_on, link_commands, names_with_highest, with_param}
+use Rattle.irc_support.specs.Written.{names_with_highest}
+use Rattle.client_caps.specs.Images.{account_joined, as_sent, image_of, is_bare_join, is_passed_on, link_commands, with_param}
 use Rattle.client_caps.proofs.ImageMade.{timed, untimed}
 
 -- an image is the line as it is sent

@@ -3,16 +3,16 @@
 ghost use Rattle.std.specs.Prelude.{◌≡◌, true, false, ◌∷◌, [], ◌++◌, ◌&&◌, cond, not, IsTrue, IfOk};
 ghost use Rattle.std.specs.Prelude.{OnOk, codes, option_map, option_to_list, map, slice_get, take};
 ghost use Rattle.std.specs.List.{list_any, list_all, join_with_byte};
-ghost use Rattle.irc_support.specs.Written.{highest_text};
+ghost use Rattle.irc_support.specs.Written.{highest_text, symbols_of, names_with_highest};
 ghost use Rattle.irc_support.specs.Line.{split_words_in};
 ghost use Rattle.std.specs.Str.{str_eq_ignore_ascii_case};
 ghost use Rattle.irc_line.specs.Line.{has_command};
 ghost use Rattle.irc_line.specs.Writing.{is_writable, is_part, line_of_parts, retagged};
 ghost use Rattle.irc_support.specs.NamesReply.{words_between};
 ghost use Rattle.net_view.specs.StateLines.{actor_nick};
-ghost use Rattle.client_caps.specs.Images.{account_joined, is_passed_on, link_commands, symbols_of};
+ghost use Rattle.client_caps.specs.Images.{account_joined, is_passed_on, link_commands};
 ghost use Rattle.client_caps.specs.Images.{image_of, part_lines_of};
-ghost use Rattle.client_caps.specs.Images.{image_params, join_params, names_with_highest};
+ghost use Rattle.client_caps.specs.Images.{image_params, join_params};
 ghost use Rattle.client_caps.specs.Images.{with_param, word_at};
 ghost use Rattle.client_caps.specs.Moment.{time_text_of};
 

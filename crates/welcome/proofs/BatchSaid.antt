@@ -9,7 +9,7 @@ use Rattle.irc_support.specs.Text.{Text}
 use Rattle.client_caps.specs.declared.caps.Caps.{Caps}
 use Rattle.history.specs.Entry.{EntryParts}
 use Rattle.welcome.specs.Arranged.{batch_of, batch_tag}
-use Rattle.welcome.specs.Burst.{from_bouncer}
+use Rattle.client_caps.specs.Answers.{from_bouncer}
 use Rattle.welcome.specs.Playback.{backlog_of, batch_name, entry_line}
 use Rattle.welcome.proofs.Said.{said_all, said_next}
 

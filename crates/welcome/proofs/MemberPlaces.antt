@@ -8,7 +8,8 @@ use Rattle.std.proofs.lemmas.List.{map-append, take_all}
 use Rattle.irc_support.specs.Text.{Text}
 use Rattle.net_view.specs.View.{Channel, View}
 use Rattle.net_view.specs.Readers.{MemberParts, channel_shown, member_parts, member_shown, members_shown}
-use Rattle.client_caps.specs.Images.{symbols_of, ranks_shown}
+use Rattle.irc_support.specs.Written.{symbols_of}
+use Rattle.client_caps.specs.Images.{ranks_shown}
 use Rattle.welcome.specs.Burst.{member_word}
 use Rattle.welcome.specs.Lent.{members_at}
 use Rattle.welcome.proofs.Places.{take_next}

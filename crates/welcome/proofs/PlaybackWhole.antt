@@ -22,7 +22,7 @@ use Rattle.net_view.proofs.Keys.{is_same}
 use Rattle.client_caps.proofs.Entries.{entries_got}
 use Rattle.client_caps.specs.declared.caps.Caps.{Caps}
 use Rattle.history.specs.Entry.{EntryParts, bare_line, is_message_command}
-use Rattle.welcome.specs.Burst.{from_bouncer}
+use Rattle.client_caps.specs.Answers.{from_bouncer}
 use Rattle.welcome.specs.Playback.{backlog_of, batch_name, entry_line, is_for, is_for_a_channel}
 use Rattle.welcome.specs.Playback.{messages_in, playback_of, played_of}
 use Rattle.welcome.proofs.Arranging.{first_of, key_in, left_over, not_equal, second_of}

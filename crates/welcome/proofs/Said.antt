@@ -5,7 +5,7 @@ use Rattle.std.proofs.lemmas.Grind.{flat_map-append}
 use Rattle.irc_line.specs.Line.{Parts}
 use Rattle.irc_line.specs.Writing.{written}
 use Rattle.irc_support.specs.Text.{Text}
-use Rattle.welcome.specs.Burst.{from_bouncer}
+use Rattle.client_caps.specs.Answers.{from_bouncer}
 
 -- one more line
 pub said_next : (before now then : Text) (done : List Parts) (line : Parts)

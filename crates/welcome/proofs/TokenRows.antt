@@ -10,7 +10,8 @@ use Rattle.irc_line.specs.Writing.{written}
 use Rattle.irc_support.specs.Text.{Text}
 use Rattle.irc_support.specs.Tokens.{Token}
 use Rattle.welcome.specs.Rows.{is_token_row, rows_of}
-use Rattle.welcome.specs.Burst.{from_bouncer, token_text}
+use Rattle.irc_support.specs.Written.{token_text}
+use Rattle.client_caps.specs.Answers.{from_bouncer}
 use Rattle.welcome.proofs.Places.{take_next}
 use Rattle.welcome.proofs.Filled.{Filled, closed_said, fill, full_open, goes_on, is_open, join_on, line_on, put, room, rows_filled}
 

@@ -12,7 +12,7 @@ use Rattle.net_view.specs.Names.{same}
 use Rattle.net_view.specs.View.{Channel, View}
 use Rattle.history.specs.Entry.{EntryParts}
 use Rattle.client_caps.specs.declared.caps.Caps.{Caps}
-use Rattle.welcome.specs.Burst.{from_bouncer}
+use Rattle.client_caps.specs.Answers.{from_bouncer}
 use Rattle.welcome.specs.Playback.{backlog_of, batch_name, entry_line, is_for, is_for_a_channel}
 
 -- one more in the group at a place

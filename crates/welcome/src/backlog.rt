@@ -9,7 +9,7 @@ ghost use Rattle.std.specs.FinMap as fin;
 ghost use Rattle.irc_line.specs.Writing.{written};
 ghost use Rattle.history.specs.Entry.{IsWrittenEntry};
 ghost use Rattle.welcome.specs.Arranged.{arranged_of, backlogs_of, batch_of, time_tag};
-ghost use Rattle.welcome.specs.Burst.{from_bouncer};
+ghost use Rattle.client_caps.specs.Answers.{from_bouncer};
 ghost use Rattle.welcome.specs.Playback.{backlog_of, batch_name, entry_line, playback_of};
 ghost use Rattle.welcome.specs.Playback.{tags_text};
 

@@ -4,7 +4,8 @@
 ghost use Rattle.std.specs.Prelude.{◌≡◌, ◌++◌, [], OnOk, map, unwrap_or};
 ghost use Rattle.std.specs.List.{flat_map};
 ghost use Rattle.irc_line.specs.Writing.{written};
-ghost use Rattle.welcome.specs.Burst.{from_bouncer, greeting_of, no_motd};
+ghost use Rattle.client_caps.specs.Answers.{from_bouncer};
+ghost use Rattle.welcome.specs.Burst.{greeting_of, no_motd};
 
 use irc_line::write_line;
 use net_view::{NetworkView, OutOfMemory};

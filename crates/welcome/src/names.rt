@@ -4,8 +4,10 @@ ghost use Rattle.std.specs.Prelude.{◌≡◌, ◌++◌, ◌+◌, ◌∷◌, OnO
 ghost use Rattle.std.specs.Prelude.{true, codes, take, []};
 ghost use Rattle.std.specs.List.{flat_map};
 ghost use Rattle.irc_line.specs.Writing.{written};
-ghost use Rattle.client_caps.specs.Images.{symbols_of, ranks_shown};
-ghost use Rattle.welcome.specs.Burst.{from_bouncer, member_word};
+ghost use Rattle.client_caps.specs.Answers.{from_bouncer};
+ghost use Rattle.irc_support.specs.Written.{symbols_of};
+ghost use Rattle.client_caps.specs.Images.{ranks_shown};
+ghost use Rattle.welcome.specs.Burst.{member_word};
 ghost use Rattle.welcome.specs.Lent.{members_at};
 ghost use Rattle.welcome.specs.Rows.{is_short, rows_of};
 ghost use Rattle.welcome.specs.Filling.{name_row};

@@ -5,7 +5,9 @@ ghost use Rattle.std.specs.Prelude.{◌≡◌, ◌++◌, ◌+◌, ◌∷◌, [],
 ghost use Rattle.std.specs.Prelude.{if◌then◌else◌, true, nat_eq, nat_lt, codes, option_map};
 ghost use Rattle.std.specs.List.{flat_map};
 ghost use Rattle.irc_line.specs.Writing.{written};
-ghost use Rattle.welcome.specs.Burst.{from_bouncer, settings_lines, token_text};
+ghost use Rattle.irc_support.specs.Written.{token_text};
+ghost use Rattle.client_caps.specs.Answers.{from_bouncer};
+ghost use Rattle.welcome.specs.Burst.{settings_lines};
 
 use crate::greeting::{own_nick, push_reply};
 use crate::names::has_room;

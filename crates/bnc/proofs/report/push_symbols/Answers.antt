@@ -1,6 +1,6 @@
 use Rattle.std.proofs.Common.{◌≡◌, ◌++◌, ◌<◌, Some, None, true, arith, ap, sym, ◌∙◌, append-nil}
 use Rattle.net_view.specs.Ranking.{symbol_of}
-use Rattle.bnc.specs.Report.{symbols_of}
+use Rattle.irc_support.specs.Written.{symbols_of}
 use Rattle.bnc.proofs.MemberLemmas.{ranks_all, rank_not_held, rank_passed}
 use Rattle.bnc.proofs.report.push_symbols.Goals.{then-has+in-Some+in_ok-push, then-has+in_default}
 use Rattle.bnc.proofs.report.push_symbols.Goals.{else-has}

@@ -1,6 +1,6 @@
 use Rattle.std.proofs.Common.{◌≡◌, ◌++◌, ◌<◌}
 use Rattle.net_view.specs.Ranks.{has_rank, ranks_that}
-use Rattle.bnc.specs.Report.{symbols_of}
+use Rattle.irc_support.specs.Written.{symbols_of}
 use Rattle.bnc.proofs.MemberLemmas.{ranks_before}
 use Rattle.bnc.proofs.report.push_symbols.Given as goal
 

@@ -2,7 +2,8 @@ use Rattle.std.proofs.Common.{◌≡◌, ◌≤◌, sym, ap, ◌∙◌, subst, a
 use Rattle.std.specs.Prelude.{IsTrue, option_map}
 use Rattle.std.specs.Result.{IfOk}
 use Rattle.irc_line.specs.Writing.{is_writable, line_of_parts}
-use Rattle.client_caps.specs.Images.{names_with_highest, with_param}
+use Rattle.irc_support.specs.Written.{names_with_highest}
+use Rattle.client_caps.specs.Images.{with_param}
 use Rattle.client_caps.proofs.HighestNames.{highest_in, put_at_3}
 use Rattle.client_caps.proofs.images.listed.Goals as goal
 

@@ -1,7 +1,7 @@
 use Rattle.std.proofs.Common.{[], ◌∷◌, ◌++◌, sym, ap, ◌∙◌, append-nil, codes}
 use Rattle.std.specs.List.{flat_map}
 use Rattle.irc_line.specs.Writing.{written}
-use Rattle.welcome.specs.Burst.{from_bouncer}
+use Rattle.client_caps.specs.Answers.{from_bouncer}
 use Rattle.welcome.proofs.Said.{greeting_to, said_next}
 use Rattle.welcome.proofs.greeting.push_greeting.Goals as goal
 

@@ -5,8 +5,10 @@ use Rattle.irc_line.specs.Writing.{written}
 use Rattle.irc_support.specs.Text.{Text}
 use Rattle.net_view.specs.Readers.{members_shown}
 use Rattle.net_view.proofs.Tests.{no_true}
-use Rattle.client_caps.specs.Images.{symbols_of, ranks_shown}
-use Rattle.welcome.specs.Burst.{from_bouncer, member_word}
+use Rattle.client_caps.specs.Answers.{from_bouncer}
+use Rattle.irc_support.specs.Written.{symbols_of}
+use Rattle.client_caps.specs.Images.{ranks_shown}
+use Rattle.welcome.specs.Burst.{member_word}
 use Rattle.welcome.specs.Lent.{members_at}
 use Rattle.welcome.specs.Filling.{name_row}
 use Rattle.welcome.specs.Rows.{is_short}

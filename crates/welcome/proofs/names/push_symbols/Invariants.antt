@@ -1,5 +1,5 @@
 use Rattle.std.proofs.Common.{◌≡◌, ◌++◌}
-use Rattle.client_caps.specs.Images.{symbols_of}
+use Rattle.irc_support.specs.Written.{symbols_of}
 use Rattle.welcome.proofs.names.push_symbols.Given as goal
 
 abbrev pub invariant-loop-rank : goal.invariant-loop-rank

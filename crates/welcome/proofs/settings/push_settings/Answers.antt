@@ -9,7 +9,7 @@ use Rattle.irc_line.specs.Writing.{written}
 use Rattle.irc_support.specs.Text.{Text}
 use Rattle.net_view.proofs.Tests.{no_true}
 use Rattle.welcome.specs.Rows.{is_token_row, rows_of}
-use Rattle.welcome.specs.Burst.{token_text}
+use Rattle.irc_support.specs.Written.{token_text}
 use Rattle.welcome.proofs.Filled.{fill, fill-next, is_open, put}
 use Rattle.welcome.proofs.TokenRows.{IsTaking, settings_row, take_on, taking_ends, taking_put, texts_between, tokens_said}
 use Rattle.welcome.proofs.settings.push_settings.Goals.{then-not-has_token_room+in_ok-push_tokens, else-not-has_token_room, then-start-place, else-start-place}

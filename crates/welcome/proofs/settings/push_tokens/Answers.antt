@@ -2,7 +2,7 @@ use Rattle.std.proofs.Common.{◌≡◌, false, [], ◌∷◌, ◌++◌, length,
 use Rattle.std.specs.Prelude.{nat_eq, if◌then◌else◌}
 use Rattle.std.proofs.lemmas.List.{map-append, take_all}
 use Rattle.irc_line.specs.Writing.{written}
-use Rattle.welcome.specs.Burst.{from_bouncer}
+use Rattle.client_caps.specs.Answers.{from_bouncer}
 use Rattle.welcome.proofs.settings.push_tokens.Goals as goal
 
 pub returns : goal.returns

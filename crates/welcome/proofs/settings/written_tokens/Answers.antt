@@ -2,7 +2,7 @@ use Rattle.std.proofs.Common.{Some, None, [], ◌∷◌, ◌++◌, map, take, sy
 use Rattle.std.specs.Option.{option_map}
 use Rattle.std.proofs.lemmas.List.{map-append}
 use Rattle.irc_support.specs.Tokens.{Token}
-use Rattle.welcome.specs.Burst.{token_text}
+use Rattle.irc_support.specs.Written.{token_text}
 use Rattle.welcome.proofs.TokenRows.{texts_next}
 use Rattle.welcome.proofs.settings.written_tokens.Goals.{in-Some+in_ok-text+in_ok-push, in_default}
 use Rattle.welcome.proofs.settings.written_tokens.Goals as goal

@@ -1,5 +1,5 @@
 use Rattle.std.proofs.Common.{◌≡◌, map, take}
-use Rattle.welcome.specs.Burst.{token_text}
+use Rattle.irc_support.specs.Written.{token_text}
 use Rattle.welcome.proofs.settings.written_tokens.Given as goal
 
 abbrev pub invariant-loop-place : goal.invariant-loop-place
