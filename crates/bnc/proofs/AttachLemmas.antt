@@ -7,9 +7,9 @@ use Rattle.std.proofs.lemmas.List.Elements.{filter_map-append}
 use Rattle.std.proofs.lemmas.Option.{same_Some}
 use Rattle.circular_buffer.specs.Buffer.{keep_last}
 use Rattle.irc_line.specs.Line.{Parts}
-use Rattle.irc_line.specs.Tags.{has_form, time_form, time_of, time_value, value_behind}
+use Rattle.irc_line.specs.Tags.{has_form, time_form, time_of, time_value, value_behind, is_tag_byte}
 use Rattle.net_view.specs.Arrival.{Arrival}
-use Rattle.history.specs.Entry.{EntryParts, is_tag_byte}
+use Rattle.history.specs.Entry.{EntryParts}
 use Rattle.client_caps.proofs.ImageWritten.{formed}
 use Rattle.bnc.specs.Attach.{last_messages, message_in}
 

@@ -1,14 +1,9 @@
 -- When a line came, as a tag has it (IRCv3 server-time: the time of ISO 8601, in UTC, with
 -- milliseconds).
-use Rattle.std.specs.Prelude.{ℕ, zero, suc, ◌+◌, ◌/◌, ◌%◌, pos, nat_lt, min, Bool, ◌&&◌, not}
+use Rattle.std.specs.Prelude.{ℕ, zero, suc, ◌+◌, ◌/◌, ◌%◌, pos, nat_lt, min}
 use Rattle.std.specs.Prelude.{if◌then◌else◌, [], ◌∷◌, ◌++◌, codes}
 use Rattle.jiff_core.specs.Calendar.{days_in_month}
-use Rattle.irc_line.specs.Line.{is_line_byte, is_space}
 use Rattle.irc_support.specs.Text.{Text}
-
--- what a tag's value is made of
-abbrev pub is_tag_byte : ℕ → Bool
-is_tag_byte b = is_line_byte b && not (is_space b)
 
 -- ---- the calendar
 

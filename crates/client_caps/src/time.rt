@@ -2,8 +2,8 @@
 
 ghost use Rattle.std.specs.Prelude.{◌≡◌, ◌≤◌, ◌+◌, ◌%◌, ◌++◌, true, IsTrue, codes, unwrap_or};
 ghost use Rattle.std.specs.List.{list_all};
-ghost use Rattle.irc_line.specs.Tags.{has_form, time_form, time_of};
-ghost use Rattle.client_caps.specs.Moment.{date_of, day_text, hour_text, is_tag_byte};
+ghost use Rattle.irc_line.specs.Tags.{has_form, time_form, time_of, is_tag_byte};
+ghost use Rattle.client_caps.specs.Moment.{date_of, day_text, hour_text};
 ghost use Rattle.client_caps.specs.Moment.{last_digits, time_text_of};
 
 use crate::moment::Moment;

@@ -8,7 +8,7 @@ ghost use Rattle.std.specs.Option.{option_map_or, option_to_list};
 ghost use Rattle.std.specs.List.{AllByRecursion, list_all};
 ghost use Rattle.irc_line.specs.Writing.{untagged_line};
 ghost use Rattle.net_view.specs.Arrival.{arrival_of};
-ghost use Rattle.client_caps.specs.Moment.{is_tag_byte};
+ghost use Rattle.irc_line.specs.Tags.{is_tag_byte};
 ghost use Rattle.hub_ends.specs.Came.{came};
 ghost use Rattle.hub_core.specs.Given.{all_sets_but, given_but, packet_for};
 ghost use Rattle.hub_core.specs.Insides.{outlet_of, state_of, states_of};

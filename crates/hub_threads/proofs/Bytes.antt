@@ -10,7 +10,8 @@ use Rattle.irc_line.specs.Lines.{counted}
 use Rattle.hub_threads.specs.declared.queued.Queued.{Queued}
 use Rattle.hub_threads.specs.declared.writing.WriteFault.{WriteFault}
 use Rattle.hub_threads.specs.Queues.{packets_in, is_nil}
-use Rattle.hub_threads.specs.Writes.{bytes_of, all_bytes, IsWritten}
+use Rattle.irc_line.specs.Writing.{bytes_of}
+use Rattle.hub_threads.specs.Writes.{all_bytes, IsWritten}
 
 pub appends_then : (a b c : Option (List ℕ)) (xs ys : List ℕ) → Appends a b xs → Appends b c ys → Appends a c (xs ++ ys)
 appends_then None b c xs ys p q = tt

@@ -4,16 +4,13 @@ use Rattle.std.specs.List.{flat_map}
 use Rattle.std.specs.Io.KnownBytes.{Appends}
 use Rattle.irc_line.specs.Line.{Parts}
 use Rattle.irc_line.specs.Lines.{counted}
-use Rattle.irc_line.specs.Writing.{written}
+use Rattle.irc_line.specs.Writing.{bytes_of}
 use Rattle.hub_threads.specs.declared.queued.Queued.{Queued}
 use Rattle.hub_threads.specs.declared.writing.WriteFault.{WriteFault}
 use Rattle.hub_threads.specs.Queues.{packets_in, ended_by, is_nil}
 
--- the written form of a packet: its lines, each with CR LF (RFC 2812, section 2.3)
-abbrev pub bytes_of : List Parts → List ℕ
-bytes_of packet = flat_map written packet
-
--- the written form of packets, one behind the other
+-- the written form of packets, one behind the other: their lines, each with CR LF (RFC 2812,
+-- section 2.3)
 abbrev pub all_bytes : List (List Parts) → List ℕ
 all_bytes packets = flat_map bytes_of packets
 

@@ -2,7 +2,8 @@
 
 ghost use Rattle.std.specs.Prelude.{ℕ, ◌≡◌, ◌++◌, List, MatchOption, length, take};
 ghost use Rattle.std.specs.Io.KnownBytes.{Appends};
-ghost use Rattle.hub_threads.specs.Writes.{IsWritten, bytes_of};
+ghost use Rattle.irc_line.specs.Writing.{bytes_of};
+ghost use Rattle.hub_threads.specs.Writes.{IsWritten};
 
 use crate::batch::{flush_batch, put_in_batch, waits};
 use crate::gate::Gate;

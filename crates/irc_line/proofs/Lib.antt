@@ -10,3 +10,7 @@ pub mod Limit
 pub mod ReadOn
 pub mod Streams
 pub mod WrittenStream
+pub mod LinesTaken
+pub mod PiecesTaken
+pub mod Outcomes
+pub mod Sent

@@ -1,11 +1,15 @@
 -- The time tag of a line (IRCv3 message-tags: tags are separated by `;`, a value stands behind `=`;
 -- IRCv3 server-time: `@time=YYYY-MM-DDThh:mm:ss.sssZ`).
 use Rattle.std.specs.Prelude.{ℕ, Bool, true, false, ◌&&◌, ◌==◌, nat_eq, List, [], ◌∷◌, Option, Some}
-use Rattle.std.specs.Prelude.{None, length, drop, find, codes, if◌then◌else◌}
+use Rattle.std.specs.Prelude.{None, not, length, drop, find, codes, if◌then◌else◌}
 use Rattle.std.specs.Option.{option_and_then, option_map}
 use Rattle.std.specs.List.{slice_split, starts_with}
 use Rattle.std.specs.Char.{is_ascii_digit}
-use Rattle.irc_line.specs.Line.{Parts}
+use Rattle.irc_line.specs.Line.{Parts, is_line_byte, is_space}
+
+-- what a tag's value is made of: no space, nor what no line holds
+abbrev pub is_tag_byte : ℕ → Bool
+is_tag_byte b = is_line_byte b && not (is_space b)
 
 abbrev pub tags_in : List ℕ → List (List ℕ)
 tags_in tags = slice_split (λ b. b == 59) tags

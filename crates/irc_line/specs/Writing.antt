@@ -28,6 +28,10 @@ text_of line =
 abbrev pub written : Parts → List ℕ
 written line = text_of line ++ (13 ∷ 10 ∷ [])
 
+-- lines one behind the other
+abbrev pub bytes_of : List Parts → List ℕ
+bytes_of lines = flat_map written lines
+
 -- neither NUL nor CR nor LF
 abbrev pub is_clean : List ℕ → Bool
 is_clean text = list_all is_line_byte text

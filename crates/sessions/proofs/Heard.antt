@@ -14,7 +14,7 @@ use Rattle.sessions.specs.Leaving.{LeavesBy, WasHeard, WasTaken, WereSaid, has_q
 use Rattle.sessions.specs.declared.attending.Leave.{Leave}
 use Rattle.sessions.specs.declared.attending.Leave.TheVariants as leave
 use Rattle.sessions.proofs.LookedBack.{any_append, any_more}
-use Rattle.sessions.proofs.Sent.{parted}
+use Rattle.irc_line.proofs.LinesTaken.{parted}
 
 -- ---- lines
 

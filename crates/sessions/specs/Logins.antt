@@ -6,7 +6,7 @@ use Rattle.irc_line.specs.Line.{Parts}
 use Rattle.irc_line.specs.Lines.{Pending, fed, is_too_long, lines_of, start}
 use Rattle.irc_line.specs.declared.splitter.FeedError.{FeedError}
 use Rattle.irc_line.specs.declared.splitter.FeedError.TheVariants as feed
-use Rattle.hub_threads.specs.Writes.{bytes_of}
+use Rattle.irc_line.specs.Writing.{bytes_of}
 use Rattle.sessions.specs.Answers.{Answer, answer_to, claims, closes, has_ended, sends}
 use Rattle.sessions.specs.Claims.{parts_of}
 use Rattle.sessions.specs.Progress.{Progress}

@@ -5,7 +5,7 @@ ghost use Rattle.std.specs.Prelude.{IfErr, IfNone, IfOk, IfSome, OnOk, drop, len
 ghost use Rattle.std.specs.Io.KnownBytes.{Appends, Consumes};
 ghost use Rattle.irc_line.specs.Line.{Parts};
 ghost use Rattle.irc_line.specs.Lines.{fed, lines_of, start};
-ghost use Rattle.hub_threads.specs.Writes.{bytes_of};
+ghost use Rattle.irc_line.specs.Writing.{bytes_of};
 ghost use Rattle.sessions.specs.Answers.{answer_to, has_ended, is_end};
 ghost use Rattle.sessions.specs.Logins.{IsCauseOf, IsEndAt, IsEndOf, IsReading, IsSendCause};
 ghost use Rattle.sessions.specs.Logins.{LogsIn, lines_in, sent_for};

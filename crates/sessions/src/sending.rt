@@ -2,8 +2,7 @@
 
 ghost use Rattle.std.specs.Prelude.{◌≡◌, IfErr, OnOk};
 ghost use Rattle.std.specs.Io.KnownBytes.{Appends};
-ghost use Rattle.irc_line.specs.Writing.{written};
-ghost use Rattle.hub_threads.specs.Writes.{bytes_of};
+ghost use Rattle.irc_line.specs.Writing.{written, bytes_of};
 ghost use Rattle.sessions.specs.Admission.{refusal_line};
 ghost use Rattle.sessions.specs.Answers.{password_incorrect};
 ghost use Rattle.sessions.specs.Logins.{IsSendCause};

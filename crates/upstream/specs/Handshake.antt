@@ -33,10 +33,6 @@ sent_for network before (line ∷ lines) =
 abbrev pub all_sent : NetworkSettings → List Parts → List Parts
 all_sent network lines = first_lines network ++ sent_for network [] lines
 
--- their bytes
-abbrev pub bytes_of : List Parts → List ℕ
-bytes_of lines = flat_map written lines
-
 -- the welcome stands behind these lines, before the others
 pub record IsWelcomed (network : NetworkSettings) (lines before : List Parts) (welcome : Parts)
     (after : List Parts) : Type 0 where

@@ -9,7 +9,8 @@ ghost use Rattle.bnc_config.specs.Settings.{NetworkSettings};
 ghost use Rattle.upstream.specs.Registration.{answer_to, first_lines, has_ended};
 ghost use Rattle.upstream.specs.Handshake.{IsCauseOf, IsEndedBy, IsLinesCause, IsSendCause};
 ghost use Rattle.upstream.specs.Handshake.{IsStepCause, IsWelcomeAt, IsWelcomed};
-ghost use Rattle.upstream.specs.Handshake.{IsReading, all_sent, bytes_of, lines_in, sent_for};
+ghost use Rattle.irc_line.specs.Writing.{bytes_of};
+ghost use Rattle.upstream.specs.Handshake.{IsReading, all_sent, lines_in, sent_for};
 ghost use Rattle.upstream.specs.Taken.{HasTaken};
 
 use crate::OutOfMemory;

@@ -7,7 +7,9 @@ use Rattle.hub_threads.proofs.ReadLemmas.{consumes_more, consumes_nil, front_rea
 use Rattle.hub_threads.proofs.ReadLemmas.{keeps_is_nothing, zero_is_nothing}
 use Rattle.sessions.specs.Logins.{IsCauseOf}
 use Rattle.sessions.proofs.Read.{then_nothing}
-use Rattle.sessions.proofs.Sent.{behind, place_parts, place_taken, refused_by, sent_for_more}
+use Rattle.irc_line.proofs.Outcomes.{refused_by}
+use Rattle.irc_line.proofs.LinesTaken.{behind, place_parts, place_taken}
+use Rattle.sessions.proofs.Sent.{sent_for_more}
 use Rattle.sessions.proofs.arrival.log_in.Goals.{in-Ok+in_ok-end-in-Ok+in_default}
 use Rattle.sessions.proofs.arrival.log_in.Goals.{in-Err+else-ne}
 use Rattle.sessions.proofs.arrival.log_in.Goals as goal

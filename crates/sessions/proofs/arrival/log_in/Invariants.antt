@@ -1,7 +1,7 @@
 use Rattle.std.proofs.Common.{◌≡◌, ℕ, List, [], vec_len}
 use Rattle.std.specs.Io.KnownBytes.{Appends, Consumes}
 use Rattle.irc_line.specs.Lines.{lines_of}
-use Rattle.hub_threads.specs.Writes.{bytes_of}
+use Rattle.irc_line.specs.Writing.{bytes_of}
 use Rattle.sessions.specs.Logins.{IsReading, sent_for}
 use Rattle.sessions.proofs.arrival.log_in.Given as goal
 

@@ -1,7 +1,7 @@
 use Rattle.std.proofs.Common.{ap, subst, sym}
 use Rattle.hub_threads.proofs.Bytes.{appends_none}
 use Rattle.std.specs.Io.KnownBytes.{Appends}
-use Rattle.hub_threads.specs.Writes.{bytes_of}
+use Rattle.irc_line.specs.Writing.{bytes_of}
 use Rattle.sessions.specs.Answers.{answer_to, claims, closes, is_end, sends}
 use Rattle.sessions.specs.Claims.{parts_of}
 use Rattle.sessions.proofs.Sent.{sent_by}

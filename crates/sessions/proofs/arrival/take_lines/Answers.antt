@@ -1,7 +1,8 @@
 use Rattle.std.proofs.Common.{◌≡◌, ◌+◌, ◌++◌, sym, subst, take, arith}
 use Rattle.std.proofs.lemmas.List.{take_all}
 use Rattle.sessions.specs.Taken.{HasTaken}
-use Rattle.sessions.proofs.Sent.{behind, from_place, sent_step, still_going, up_to}
+use Rattle.irc_line.proofs.LinesTaken.{behind, from_place, up_to}
+use Rattle.sessions.proofs.Sent.{sent_step, still_going}
 use Rattle.sessions.proofs.arrival.take_lines.Goals as goal
 
 pub returns-in-Some-clause-some : goal.returns-in-Some-clause-some

@@ -1,7 +1,7 @@
 use Rattle.std.proofs.Common.{◌≡◌, ◌++◌, false, List, take}
 use Rattle.std.specs.Io.KnownBytes.{Appends}
 use Rattle.irc_line.specs.Line.{Parts}
-use Rattle.hub_threads.specs.Writes.{bytes_of}
+use Rattle.irc_line.specs.Writing.{bytes_of}
 use Rattle.sessions.specs.Answers.{has_ended}
 use Rattle.sessions.specs.Logins.{sent_for}
 use Rattle.sessions.specs.Taken.{HasTaken}

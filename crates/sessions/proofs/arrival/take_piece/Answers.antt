@@ -2,8 +2,10 @@ use Rattle.std.proofs.Common.{◌∙◌, ◌++◌, sym, ap, subst}
 use Rattle.irc_line.specs.Lines.{lines_of}
 use Rattle.sessions.specs.Logins.{IsCauseOf, IsSendCause, piece_fault}
 use Rattle.sessions.specs.Taken.{HasTaken}
-use Rattle.sessions.proofs.Sent.{err_more, fed_more, lines_cause, lines_more, ok_none, ok_some}
-use Rattle.sessions.proofs.Sent.{on_ok, piece_cause, refused_by, short_more}
+use Rattle.irc_line.proofs.PiecesTaken.{fed_more, lines_more, short_more}
+use Rattle.irc_line.proofs.Outcomes.{err_more, ok_none, ok_some, on_ok, refused_by}
+use Rattle.sessions.proofs.Sent.{lines_cause}
+use Rattle.sessions.proofs.Sent.{piece_cause}
 use Rattle.sessions.proofs.arrival.take_piece.Goals as goal
 
 pub returns-in_err-feed-clause-err : goal.returns-in_err-feed-clause-err

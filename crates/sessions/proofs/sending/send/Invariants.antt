@@ -1,5 +1,5 @@
 use Rattle.std.proofs.Common.{◌≡◌, take}
-use Rattle.hub_threads.specs.Writes.{bytes_of}
+use Rattle.irc_line.specs.Writing.{bytes_of}
 use Rattle.sessions.proofs.sending.send.Given as goal
 
 abbrev pub invariant-loop-line : goal.invariant-loop-line

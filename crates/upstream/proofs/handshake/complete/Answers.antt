@@ -5,8 +5,10 @@ use Rattle.irc_line.specs.Lines.{lines_of}
 use Rattle.upstream.specs.Handshake.{IsCauseOf}
 use Rattle.upstream.proofs.ReadLemmas.{consumes_end, consumes_kept, consumes_more, consumes_nil}
 use Rattle.upstream.proofs.ReadLemmas.{piece_is}
-use Rattle.upstream.proofs.SentLemmas.{appends_nothing, behind, place_parts, place_taken}
-use Rattle.upstream.proofs.SentLemmas.{refused_by, sent_for_more}
+use Rattle.irc_line.proofs.Outcomes.{refused_by}
+use Rattle.irc_line.proofs.LinesTaken.{behind, place_parts, place_taken}
+use Rattle.irc_line.proofs.Sent.{appends_nothing}
+use Rattle.upstream.proofs.SentLemmas.{sent_for_more}
 use Rattle.upstream.proofs.handshake.complete.Goals.{in-Ok+in_ok-place-in-Ok+in_default}
 use Rattle.upstream.proofs.handshake.complete.Goals.{in-Err+else-ne}
 use Rattle.upstream.proofs.handshake.complete.Goals as goal

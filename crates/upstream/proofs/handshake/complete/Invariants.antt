@@ -2,7 +2,8 @@ use Rattle.std.proofs.Common.{◌≡◌, ℕ, List, [], vec_len}
 use Rattle.std.specs.Io.KnownBytes.{Appends, Consumes}
 use Rattle.irc_line.specs.Lines.{lines_of}
 use Rattle.bnc_config.specs.Settings.{NetworkSettings}
-use Rattle.upstream.specs.Handshake.{IsReading, bytes_of, sent_for}
+use Rattle.irc_line.specs.Writing.{bytes_of}
+use Rattle.upstream.specs.Handshake.{IsReading, sent_for}
 use Rattle.upstream.specs.Taken.{HasTaken}
 use Rattle.upstream.proofs.handshake.complete.Given as goal
 

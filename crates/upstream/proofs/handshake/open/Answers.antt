@@ -1,6 +1,6 @@
 use Rattle.std.proofs.Common.{◌∙◌, subst}
 use Rattle.std.specs.Io.KnownBytes.{Appends}
-use Rattle.upstream.specs.Handshake.{bytes_of}
+use Rattle.irc_line.specs.Writing.{bytes_of}
 use Rattle.upstream.proofs.handshake.open.Goals as goal
 
 pub returns-clause-sent : goal.returns-clause-sent

@@ -1,5 +1,6 @@
 use Rattle.std.proofs.Common.{◌++◌, ◌∷◌, []}
-use Rattle.upstream.proofs.SentLemmas.{all_sent_is, ok_more}
+use Rattle.irc_line.proofs.Outcomes.{ok_more}
+use Rattle.upstream.proofs.SentLemmas.{all_sent_is}
 use Rattle.upstream.proofs.handshake.register.Goals as goal
 
 pub returns-clause-ok : goal.returns-clause-ok

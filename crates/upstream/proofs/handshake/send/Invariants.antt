@@ -1,5 +1,5 @@
 use Rattle.std.proofs.Common.{◌≡◌, take}
-use Rattle.upstream.specs.Handshake.{bytes_of}
+use Rattle.irc_line.specs.Writing.{bytes_of}
 use Rattle.upstream.proofs.handshake.send.Given as goal
 
 abbrev pub invariant-loop-line : goal.invariant-loop-line

@@ -2,8 +2,10 @@ use Rattle.std.proofs.Common.{◌≡◌, ◌+◌, ◌++◌, sym, subst, take, dr
 use Rattle.std.proofs.lemmas.List.{take_all}
 use Rattle.upstream.specs.Handshake.{IsLinesCause}
 use Rattle.upstream.specs.Taken.{HasTaken}
-use Rattle.upstream.proofs.SentLemmas.{behind, from_place, lines_cause, parted, refused_by}
-use Rattle.upstream.proofs.SentLemmas.{sent_step, still_going, up_to}
+use Rattle.irc_line.proofs.Outcomes.{refused_by}
+use Rattle.irc_line.proofs.LinesTaken.{behind, from_place, parted, up_to}
+use Rattle.upstream.proofs.SentLemmas.{lines_cause}
+use Rattle.upstream.proofs.SentLemmas.{sent_step, still_going}
 use Rattle.upstream.proofs.handshake.take_lines.Goals as goal
 
 pub returns-in_err-take_line-clause-err : goal.returns-in_err-take_line-clause-err

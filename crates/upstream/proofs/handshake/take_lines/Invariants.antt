@@ -2,7 +2,8 @@ use Rattle.std.proofs.Common.{◌≡◌, ◌++◌, false, List, take}
 use Rattle.std.specs.Io.KnownBytes.{Appends}
 use Rattle.irc_line.specs.Line.{Parts}
 use Rattle.bnc_config.specs.Settings.{NetworkSettings}
-use Rattle.upstream.specs.Handshake.{bytes_of, sent_for}
+use Rattle.irc_line.specs.Writing.{bytes_of}
+use Rattle.upstream.specs.Handshake.{sent_for}
 use Rattle.upstream.specs.Registration.{has_ended}
 use Rattle.upstream.specs.Taken.{HasTaken}
 use Rattle.upstream.proofs.handshake.take_lines.Given as goal

@@ -2,9 +2,10 @@ use Rattle.std.proofs.Common.{◌∙◌, ◌++◌, sym, ap, subst}
 use Rattle.irc_line.specs.Lines.{lines_of}
 use Rattle.upstream.specs.Handshake.{IsCauseOf, IsLinesCause, piece_fault}
 use Rattle.upstream.specs.Taken.{HasTaken}
-use Rattle.upstream.proofs.SentLemmas.{all_lines_cause, err_more, fed_more, lines_more, ok_none}
-use Rattle.upstream.proofs.SentLemmas.{ok_some, on_ok}
-use Rattle.upstream.proofs.SentLemmas.{piece_cause, refused_by, short_more}
+use Rattle.irc_line.proofs.PiecesTaken.{fed_more, lines_more, short_more}
+use Rattle.irc_line.proofs.Outcomes.{err_more, ok_none, ok_some, on_ok, refused_by}
+use Rattle.upstream.proofs.SentLemmas.{all_lines_cause}
+use Rattle.upstream.proofs.SentLemmas.{piece_cause}
 use Rattle.upstream.proofs.handshake.take_piece.Goals as goal
 
 pub returns-in_err-feed-clause-err : goal.returns-in_err-feed-clause-err
