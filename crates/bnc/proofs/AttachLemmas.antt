@@ -1,5 +1,7 @@
 -- The messages of a transcript that is read line by line.
-use Rattle.std.proofs.Common.{◌≡◌, ℕ, zero, suc, ◌+◌, ◌-◌, ◌≤◌, arith, append-nil, length-append, length-drop, codes, true, false, cond, List, [], ◌∷◌, ◌++◌, Option, Some, None, refl, sym, ap, ◌∙◌}
+use Rattle.std.proofs.Common.{◌≡◌, ℕ, zero, suc, ◌+◌, ◌-◌, ◌≤◌, arith, append-nil, length-append}
+use Rattle.std.proofs.Common.{length-drop, codes, true, false, cond, List, [], ◌∷◌, ◌++◌, Option}
+use Rattle.std.proofs.Common.{Some, None, refl, sym, ap, ◌∙◌}
 use Rattle.std.specs.Prelude.{drop, length}
 use Rattle.std.specs.List.{cons_option, filter_map, list_all}
 use Rattle.std.specs.Option.{option_and_then}
@@ -10,7 +12,7 @@ use Rattle.irc_line.specs.Line.{Parts}
 use Rattle.irc_line.specs.Tags.{has_form, time_form, time_of, time_value, value_behind, is_tag_byte}
 use Rattle.net_view.specs.Arrival.{Arrival}
 use Rattle.history.specs.Entry.{EntryParts}
-use Rattle.client_caps.proofs.ImageWritten.{formed}
+use Rattle.client_caps.proofs.PartsWritten.{formed}
 use Rattle.bnc.specs.Attach.{last_messages, message_in}
 
 -- the time of a line is made of what a tag's value is made of

@@ -16,7 +16,8 @@ use Rattle.net_view.proofs.Tests.{and_parts}
 use Rattle.net_view.proofs.PartsSound.{Each}
 use Rattle.client_caps.specs.Caps.{Caps}
 use Rattle.client_caps.specs.Answers.{named, names_held}
-use Rattle.client_caps.proofs.ImageWritten.{split_written, nick_written, joined_clean}
+use Rattle.client_caps.proofs.PartsWritten.{split_written}
+use Rattle.client_caps.proofs.ImageWritten.{nick_written, joined_clean}
 
 -- each parameter of a line is clean
 params_clean : (params : List Text) → are_params params ≡ true

@@ -1,5 +1,6 @@
 -- The words of a 353, each with the highest of its symbols, as its parameter 3.
-use Rattle.std.specs.Prelude.{◌≡◌, ◌≤◌, ◌<◌, true, List, [], ◌∷◌, length, map, slice_get, unwrap_or, codes, if◌then◌else◌}
+use Rattle.std.specs.Prelude.{◌≡◌, ◌≤◌, ◌<◌, true, List, [], ◌∷◌, length, map, slice_get, unwrap_or}
+use Rattle.std.specs.Prelude.{codes, if◌then◌else◌}
 use Rattle.std.specs.List.{join_with_byte}
 use Rattle.std.proofs.Common.{refl, ap, ◌∙◌, arith}
 use Rattle.irc_line.specs.Line.{Parts, has_command}

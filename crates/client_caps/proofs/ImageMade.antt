@@ -1,8 +1,10 @@
 -- What the image of a line is made of, and the part lines one by one.
-use Rattle.std.specs.Prelude.{◌≡◌, ◌≤◌, ℕ, zero, suc, ◌+◌, true, false, List, [], ◌∷◌, ◌++◌, length, map, take, slice_get, codes}
+use Rattle.std.specs.Prelude.{◌≡◌, ◌≤◌, ℕ, zero, suc, ◌+◌, true, false, List, [], ◌∷◌, ◌++◌, length}
+use Rattle.std.specs.Prelude.{map, take, slice_get, codes}
 use Rattle.std.specs.Option.{option_map, option_to_list, unwrap_or}
 use Rattle.std.specs.FinMap as fin
-use Rattle.std.proofs.Common.{Option, Some, None, refl, sym, ap, subst, ◌∙◌, arith, inl, inr, append-nil}
+use Rattle.std.proofs.Common.{Option, Some, None, refl, sym, ap, subst, ◌∙◌, arith, inl, inr}
+use Rattle.std.proofs.Common.{append-nil}
 use Rattle.std.proofs.lemmas.List.{take_all, take_more}
 use Rattle.std.proofs.lemmas.Option.{none-some, same_Some, slice_get_cases}
 use Rattle.irc_line.specs.Line.{Parts}
@@ -18,7 +20,8 @@ use Rattle.net_view.proofs.WrittenViews.{views_are_clean}
 use Rattle.client_caps.specs.Caps.{Caps}
 use Rattle.irc_line.specs.Tags.{time_of}
 use Rattle.client_caps.specs.Images.{image_of, image_params, is_passed_on, part_lines_of, time_tags}
-use Rattle.client_caps.proofs.ImageWritten.{IsTagText, split_written, params_written, parts_written, tags_written}
+use Rattle.client_caps.proofs.PartsWritten.{IsTagText, split_written, tags_written}
+use Rattle.client_caps.proofs.ImageWritten.{params_written, parts_written}
 
 -- ---- the image
 

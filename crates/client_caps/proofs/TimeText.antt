@@ -12,7 +12,7 @@ use Rattle.std.proofs.lemmas.Option.{same_Some}
 use Rattle.irc_support.specs.Text.{Text}
 use Rattle.net_view.proofs.Tests.{and_parts}
 use Rattle.client_caps.specs.Moment.{Date, date_of, day_text, hour_text, last_moment, time_text_of}
-use Rattle.client_caps.proofs.ImageWritten.{IsTagText, formed}
+use Rattle.client_caps.proofs.PartsWritten.{IsTagText, formed}
 
 digit : (n : ℕ) → is_ascii_digit (48 + n % 10) ≡ true
 digit n =

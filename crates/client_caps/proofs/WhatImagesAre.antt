@@ -1,5 +1,6 @@
 -- What images are, in a reader's words.
-use Rattle.std.specs.Prelude.{◌≡◌, ℕ, Bool, true, false, cond, not, ◌&&◌, nat_lt, nat_le, List, [], ◌∷◌, ◌++◌, length, slice_get, is_some, codes}
+use Rattle.std.specs.Prelude.{◌≡◌, ℕ, Bool, true, false, cond, not, ◌&&◌, nat_lt, nat_le, List, []}
+use Rattle.std.specs.Prelude.{◌∷◌, ◌++◌, length, slice_get, is_some, codes}
 use Rattle.std.specs.List.{list_any}
 use Rattle.std.specs.Option.{option_map_or, unwrap_or}
 use Rattle.std.proofs.Common.{Option, Some, None, refl, sym, ap, ◌∙◌, arith}
@@ -11,7 +12,8 @@ use Rattle.irc_support.specs.Settings.{is_channel}
 use Rattle.net_view.specs.View.{View}
 use Rattle.client_caps.specs.Caps.{Caps, all_caps}
 use Rattle.irc_support.specs.Written.{names_with_highest}
-use Rattle.client_caps.specs.Images.{account_joined, as_sent, image_of, is_bare_join, is_passed_on, link_commands, with_param}
+use Rattle.client_caps.specs.Images.{account_joined, as_sent, image_of, is_bare_join, is_passed_on}
+use Rattle.client_caps.specs.Images.{link_commands, with_param}
 use Rattle.client_caps.proofs.ImageMade.{timed, untimed}
 
 -- an image is the line as it is sent

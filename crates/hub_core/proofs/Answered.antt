@@ -16,7 +16,8 @@ use Rattle.hub_core.specs.declared.said.Said.TheVariants as said
 use Rattle.hub_core.specs.States.{SessionState, HubState, view_now}
 use Rattle.hub_core.specs.Given.{Full, Sends, with_outlet}
 use Rattle.hub_core.specs.Running.{Fits, EachFits}
-use Rattle.hub_core.specs.Saying.{Around, Answered, Responds, Says, SaysBy, answer_packet, meaning, with_sessions}
+use Rattle.hub_core.specs.Saying.{Around, Answered, Responds, Says, SaysBy, answer_packet, meaning}
+use Rattle.hub_core.specs.Saying.{with_sessions}
 use Rattle.hub_core.proofs.Running.{fits_at, fits_without}
 use Rattle.hub_core.proofs.Unread.{fits_unread, lines_in}
 

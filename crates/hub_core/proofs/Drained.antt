@@ -1,6 +1,6 @@
 -- Packets were taken out of an outlet in memory.
-use Rattle.std.proofs.Common.{◌≡◌, ◌∙◌, ◌+◌, ◌-◌, ◌≤◌, ◌<◌, ℕ, suc, List, [], ◌∷◌, ◌++◌, sym, ap, arith}
-use Rattle.std.proofs.Common.{min, cond, is_some, subst, map, take, drop, set, get_or}
+use Rattle.std.proofs.Common.{◌≡◌, ◌∙◌, ◌+◌, ◌-◌, ◌≤◌, ◌<◌, ℕ, suc, List, [], ◌∷◌, ◌++◌, sym, ap}
+use Rattle.std.proofs.Common.{arith, min, cond, is_some, subst, map, take, drop, set, get_or}
 use Rattle.std.proofs.Common.{length, length-take-le, take-append-drop}
 use Rattle.std.proofs.lemmas.List.{map-append}
 use Rattle.std.proofs.Math.Seq.{drop-cons, set-append_seam}

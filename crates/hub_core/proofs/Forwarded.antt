@@ -1,6 +1,6 @@
 -- A line that goes to the network.
-use Rattle.std.proofs.Common.{◌≡◌, ◌∙◌, ◌∷◌, [], ℕ, List, Bool, true, false, None, Some, refl, sym, ap}
-use Rattle.std.proofs.Common.{subst, inl, Option, ◌≤◌}
+use Rattle.std.proofs.Common.{◌≡◌, ◌∙◌, ◌∷◌, [], ℕ, List, Bool, true, false, None, Some, refl, sym}
+use Rattle.std.proofs.Common.{ap, subst, inl, Option, ◌≤◌}
 use Rattle.std.specs.Prelude.{Result, Ok, Err, IfOk, IfErr}
 use Rattle.std.specs.Prelude.{if◌then◌else◌}
 use Rattle.irc_line.specs.Line.{Parts}

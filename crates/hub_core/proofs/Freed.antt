@@ -1,7 +1,7 @@
 -- One walk over all sessions, which learns how much room there is.
-use Rattle.std.proofs.Common.{◌≡◌, ◌<◌, ◌≤◌, ◌+◌, ℕ, zero, suc, List, [], ◌∷◌, ◌++◌, refl, sym, ap, ◌∙◌, arith}
-use Rattle.std.proofs.Common.{Bool, true, false, map, filter, length, get_or, set, take, drop, subst}
-use Rattle.std.proofs.Common.{take-append-drop, length-set}
+use Rattle.std.proofs.Common.{◌≡◌, ◌<◌, ◌≤◌, ◌+◌, ℕ, zero, suc, List, [], ◌∷◌, ◌++◌, refl, sym, ap}
+use Rattle.std.proofs.Common.{◌∙◌, arith, Bool, true, false, map, filter, length, get_or, set, take}
+use Rattle.std.proofs.Common.{drop, subst, take-append-drop, length-set}
 use Rattle.std.proofs.lemmas.List.{map-append}
 use Rattle.std.proofs.lemmas.List.Elements.{filter-append}
 use Rattle.std.proofs.Math.Seq.{drop-cons}
@@ -31,7 +31,8 @@ freed_not alone (s ∷ ss) =
 
 freed_front : (alone : Bool) (ss ts back : List SessionState) → AreFreed alone ss ts
     → AreFreed alone (ss ++ back) (ts ++ back)
-freed_front alone [] ts back e = subst (λ l. AreFreed alone back (l ++ back)) (sym e) (freed_not alone back)
+freed_front alone [] ts back e =
+    subst (λ l. AreFreed alone back (l ++ back)) (sym e) (freed_not alone back)
 freed_front alone (s ∷ ss) ts back all =
     (all.0, all.1 ++ back, all.2, all.3, ap (λ l. l ++ back) all.4, freed_front alone ss all.1 back all.5)
 

@@ -1,6 +1,6 @@
 -- What is kept are messages.
-use Rattle.std.proofs.Common.{◌≡◌, ℕ, zero, suc, List, [], ◌∷◌, Option, None, Some, true, false, refl}
-use Rattle.std.proofs.Common.{map, drop, filter, cond, unwrap_or, rules}
+use Rattle.std.proofs.Common.{◌≡◌, ℕ, zero, suc, List, [], ◌∷◌, Option, None, Some, true, false}
+use Rattle.std.proofs.Common.{refl, map, drop, filter, cond, unwrap_or, rules}
 use Rattle.std.specs.Prelude.{IsTrue, IfSome, if◌then◌else◌}
 use Rattle.std.specs.Option.{option_and_then, option_map, option_map_or}
 use Rattle.std.specs.List.{AllByRecursion}
@@ -9,7 +9,8 @@ use Rattle.irc_line.specs.Line.{Parts}
 use Rattle.irc_line.specs.Tags.{time_of}
 use Rattle.net_view.specs.Arrival.{Received, Lost}
 use Rattle.client_caps.specs.Moment.{time_text_of}
-use Rattle.history.specs.Entry.{EntryParts, entry_parts, is_message_command, message_of, target_and_text}
+use Rattle.history.specs.Entry.{EntryParts, entry_parts, is_message_command, message_of}
+use Rattle.history.specs.Entry.{target_and_text}
 use Rattle.history.specs.Messages.{Messages, missed_of, is_missed, with_message}
 use Rattle.hub_ends.specs.Came.{Came}
 use Rattle.hub_core.specs.Pumping.{entry_for, with_entry}

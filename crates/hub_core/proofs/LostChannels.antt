@@ -1,7 +1,7 @@
 -- The channels of a view, and the key among a channel's modes.
-use Rattle.std.proofs.Common.{◌≡◌, ◌∙◌, ◌+◌, ◌<◌, ◌≤◌, ℕ, zero, suc, List, [], ◌∷◌, ◌++◌, refl, sym, ap, arith}
-use Rattle.std.proofs.Common.{Option, None, Some, Bool, true, false, length, map, take, subst, cond}
-use Rattle.std.proofs.Common.{append-nil, option_to_list}
+use Rattle.std.proofs.Common.{◌≡◌, ◌∙◌, ◌+◌, ◌<◌, ◌≤◌, ℕ, zero, suc, List, [], ◌∷◌, ◌++◌, refl, sym}
+use Rattle.std.proofs.Common.{ap, arith, Option, None, Some, Bool, true, false, length, map, take}
+use Rattle.std.proofs.Common.{subst, cond, append-nil, option_to_list}
 use Rattle.std.specs.Prelude.{drop}
 use Rattle.std.specs.List.{slice_get}
 use Rattle.std.specs.Option.{option_and_then, option_map, option_map_or}

@@ -1,9 +1,10 @@
 -- Each message that came from the network, and each that was sent there, has its number.
-use Rattle.std.proofs.Common.{◌≡◌, ◌∙◌, ◌+◌, ◌<◌, ◌^◌, ℕ, List, [], ◌∷◌, ◌++◌, Option, None, Some, Bool}
-use Rattle.std.proofs.Common.{true, false, refl, sym, ap, subst, length, length-append, append-nil}
-use Rattle.std.proofs.Common.{option_to_list, arith, rules, nat_lt, inl, inr}
+use Rattle.std.proofs.Common.{◌≡◌, ◌∙◌, ◌+◌, ◌<◌, ◌^◌, ℕ, List, [], ◌∷◌, ◌++◌, Option, None, Some}
+use Rattle.std.proofs.Common.{Bool, true, false, refl, sym, ap, subst, length, length-append}
+use Rattle.std.proofs.Common.{append-nil, option_to_list, arith, rules, nat_lt, inl, inr}
 use Rattle.std.proofs.SliceLists.{all_by_recursion_push}
-use Rattle.std.proofs.lemmas.List.Elements.{Contains-append_left, Contains-append_right, Contains-append_cases, filter_map-append}
+use Rattle.std.proofs.lemmas.List.Elements.{Contains-append_left, Contains-append_right}
+use Rattle.std.proofs.lemmas.List.Elements.{Contains-append_cases, filter_map-append}
 use Rattle.std.specs.Prelude.{IfSome, IsSome, IsTrue, if◌then◌else◌, codes}
 use Rattle.std.specs.List.{AllByRecursion, Contains, filter_map}
 use Rattle.std.specs.Option.{option_map, option_map_or}
@@ -30,20 +31,23 @@ pub record Adds (o : Option (List Text)) (all more : List (List Text)) : Type 0 
   pub kept : (c : List Text) → Contains all c → Contains more c
   pub here : IfSome o (Contains more)
 
-filter_one : {X Y : Type 0} (f : X → Option Y) (x : X) → filter_map f (x ∷ []) ≡ option_to_list (f x)
+filter_one : {X Y : Type 0} (f : X → Option Y) (x : X)
+    → filter_map f (x ∷ []) ≡ option_to_list (f x)
 filter_one f x = go (f x) refl where
   go : (o : _) → f x ≡ o → filter_map f (x ∷ []) ≡ option_to_list o
   go o e = search rules
 
 pub filter_more : {X Y : Type 0} (f : X → Option Y) (xs : List X) (x : X)
     → filter_map f (xs ++ x ∷ []) ≡ filter_map f xs ++ option_to_list (f x)
-filter_more f xs x = filter_map-append f xs (x ∷ []) ∙ ap (λ l. filter_map f xs ++ l) (filter_one f x)
+filter_more f xs x =
+    filter_map-append f xs (x ∷ []) ∙ ap (λ l. filter_map f xs ++ l) (filter_one f x)
 
 one_here : {X : Type 0} (xs ys : List X) (o : Option X) → IfSome o (Contains (option_to_list o))
 one_here xs ys None = tt
 one_here xs ys (Some c) = (0, search rules, refl)
 
-in_front : (a b : List (List Text)) (o : Option (List Text)) → IfSome o (Contains (option_to_list o))
+in_front : (a b : List (List Text)) (o : Option (List Text))
+    → IfSome o (Contains (option_to_list o))
     → IfSome o (Contains ((a ++ option_to_list o) ++ b))
 in_front a b None h = tt
 in_front a b (Some c) h =
@@ -91,7 +95,8 @@ adds_said a b o =
 
 -- ---- numbers
 
-pub numbered_start : (capacity first : ℕ) → first < 2 ^ 64 → AreNumbered [] first (no_messages capacity first)
+pub numbered_start : (capacity first : ℕ) → first < 2 ^ 64
+    → AreNumbered [] first (no_messages capacity first)
 numbered_start capacity first small = record { messages = tt; origins = tt; numbers = search rules }
 
 all_map : {X : Type 0} (P Q : X → Type 0) → ((x : X) → P x → Q x) → (xs : List X)

@@ -1,7 +1,8 @@
 -- The running fact goes on.
-use Rattle.std.proofs.Common.{◌≡◌, ◌+◌, ◌-◌, ◌<◌, ◌^◌, ℕ, List, [], ◌∷◌, ◌++◌, refl, sym, ap, ◌∙◌, arith}
-use Rattle.std.proofs.Common.{Option, None, Some, Bool, false, map, length, take, subst, inl, inr}
-use Rattle.std.proofs.Common.{append-nil, reverse, length-append, option_to_list, cond, is_some}
+use Rattle.std.proofs.Common.{◌≡◌, ◌+◌, ◌-◌, ◌<◌, ◌^◌, ℕ, List, [], ◌∷◌, ◌++◌, refl, sym, ap, ◌∙◌}
+use Rattle.std.proofs.Common.{arith, Option, None, Some, Bool, false, map, length, take, subst, inl}
+use Rattle.std.proofs.Common.{inr, append-nil, reverse, length-append, option_to_list, cond}
+use Rattle.std.proofs.Common.{is_some}
 use Rattle.std.proofs.lemmas.List.{map-append, reverse-append, take_all, take-append-le}
 use Rattle.std.proofs.lemmas.Grind.{flat_map-append}
 use Rattle.std.specs.FinMap.{empty, entries, len-empty, len-entries}
@@ -27,12 +28,14 @@ use Rattle.std.proofs.Common.{unwrap_or}
 use Rattle.std.specs.Option.{option_or, option_map_or}
 use Rattle.net_view.specs.LookBack.{last_in}
 use Rattle.hub_core.specs.Online.{is_online, says_online}
-use Rattle.hub_core.specs.LostChannels.{Joining, before_loss, channels_of_view, lost_by, lost_channels}
+use Rattle.hub_core.specs.LostChannels.{Joining, before_loss, channels_of_view, lost_by}
+use Rattle.hub_core.specs.LostChannels.{lost_channels}
 use Rattle.hub_core.proofs.Prepared.{map_length}
 use Rattle.hub_core.specs.Running.{Fits, EachFits, IsRunning, AreNumbered, lines_sent}
 use Rattle.hub_core.specs.Running.{content, content_heard, content_said, messages_of}
 use Rattle.hub_core.proofs.Kept.{entry_is_message, missed_are_messages}
-use Rattle.hub_core.proofs.Numbers.{filter_more, adds_heard, adds_said, numbered_start, numbered_step}
+use Rattle.hub_core.proofs.Numbers.{filter_more, adds_heard, adds_said, numbered_start}
+use Rattle.hub_core.proofs.Numbers.{numbered_step}
 use Rattle.std.proofs.Common.{not}
 use Rattle.hub_core.specs.declared.attach.AttachError.{AttachError}
 use Rattle.hub_core.specs.States.{view_now}

@@ -1,6 +1,6 @@
 -- What was made for sets of capabilities.
-use Rattle.std.proofs.Common.{◌≡◌, ◌+◌, ℕ, List, [], ◌∷◌, ◌++◌, refl, sym, ap, ◌∙◌, arith}
-use Rattle.std.proofs.Common.{Option, None, Some, Bool, true, false, map, length, get_or, subst, rules}
+use Rattle.std.proofs.Common.{◌≡◌, ◌+◌, ℕ, List, [], ◌∷◌, ◌++◌, refl, sym, ap, ◌∙◌, arith, Option}
+use Rattle.std.proofs.Common.{None, Some, Bool, true, false, map, length, get_or, subst, rules}
 use Rattle.std.proofs.Common.{cond, ◌&&◌, ◌||◌, not, nat_lt, suc}
 use Rattle.std.proofs.lemmas.Grind.{common_steps}
 use Rattle.std.proofs.Math.Bool.{beq}

@@ -1,6 +1,6 @@
 -- A network that is online has taken us in: we have a nick there.
-use Rattle.std.proofs.Common.{◌≡◌, ◌∙◌, ◌∷◌, ◌++◌, [], List, Option, None, Some, Bool, true, false, refl, sym, ap}
-use Rattle.std.proofs.Common.{subst, reverse, cond, ◌&&◌}
+use Rattle.std.proofs.Common.{◌≡◌, ◌∙◌, ◌∷◌, ◌++◌, [], List, Option, None, Some, Bool, true, false}
+use Rattle.std.proofs.Common.{refl, sym, ap, subst, reverse, cond, ◌&&◌}
 use Rattle.std.proofs.lemmas.List.{reverse-append, reverse-reverse}
 use Rattle.std.specs.Prelude.{IsSome, codes, slice_get, if◌then◌else◌}
 use Rattle.std.specs.Option.{option_and_then, option_map_or}
@@ -60,7 +60,8 @@ owned_line v line old false e before now =
 owned_step : (v : View) (x : Arrival) (old : Bool) → (old ≡ true → IsSome v.own)
     → option_map_or (λ said. said) (says_online x) old ≡ true → IsSome (after v x).own
 unfolding after
-owned_step v (Received line) old before now = owned_line v line old (is_welcome line) refl before now
+owned_step v (Received line) old before now =
+    owned_line v line old (is_welcome line) refl before now
 owned_step v Lost old before now = cc
 
 owned_back : (older : List Arrival) → is_online (reverse older) ≡ true

@@ -1,6 +1,7 @@
 -- What sessions are sent of what others say, and of answers, tells them nothing of the network.
-use Rattle.std.proofs.Common.{◌≡◌, ◌∙◌, ◌++◌, ◌∷◌, [], ℕ, List, Option, None, Some, Bool, true, false, refl, sym, ap}
-use Rattle.std.proofs.Common.{subst, append-nil, option_to_list, inl, inr, cond, ◌&&◌, ◌||◌, Bor}
+use Rattle.std.proofs.Common.{◌≡◌, ◌∙◌, ◌++◌, ◌∷◌, [], ℕ, List, Option, None, Some, Bool, true}
+use Rattle.std.proofs.Common.{false, refl, sym, ap, subst, append-nil, option_to_list, inl, inr}
+use Rattle.std.proofs.Common.{cond, ◌&&◌, ◌||◌, Bor}
 use Rattle.std.specs.Prelude.{IfSome, codes}
 use Rattle.std.specs.List.{AllByRecursion}
 use Rattle.std.specs.Option.{option_map}
@@ -26,7 +27,8 @@ use Rattle.welcome.proofs.PlaybackTold.{IsUnread, unread_lines}
 use Rattle.std.specs.Prelude.{if◌then◌else◌}
 use Rattle.hub_core.specs.States.{OutletState, SessionState, HubState}
 use Rattle.hub_core.specs.Saying.{from_us, own_message}
-use Rattle.hub_core.specs.Given.{Delivered, Sends, given_but, is_left_out, packet_for, packet_of, with_outlet}
+use Rattle.hub_core.specs.Given.{Delivered, Sends, given_but, is_left_out, packet_for, packet_of}
+use Rattle.hub_core.specs.Given.{with_outlet}
 use Rattle.hub_core.specs.Running.{Fits, EachFits, lines_sent}
 use Rattle.hub_core.proofs.Running.{sent_is}
 

@@ -1,6 +1,6 @@
 -- What a hub is asked for between its steps: an outlet, a sign of life, who is nearly full.
-use Rattle.std.specs.Prelude.{◌≡◌, ◌⊎◌, ◌≤◌, ◌/◌, ℕ, List, [], ◌∷◌, Option, None, Some, Bool, true, false}
-use Rattle.std.specs.Prelude.{Result, Ok, Err, codes, filter, map, max, nat_lt}
+use Rattle.std.specs.Prelude.{◌≡◌, ◌⊎◌, ◌≤◌, ◌/◌, ℕ, List, [], ◌∷◌, Option, None, Some, Bool, true}
+use Rattle.std.specs.Prelude.{false, Result, Ok, Err, codes, filter, map, max, nat_lt}
 use Rattle.irc_line.specs.Line.{Parts}
 use Rattle.irc_line.specs.Writing.{untagged_line}
 use Rattle.hub_core.specs.Attaching.{Lacks}

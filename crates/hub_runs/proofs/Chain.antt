@@ -1,7 +1,7 @@
 -- What a list of events keeps.
-use Rattle.std.proofs.Common.{◌≡◌, ◌∙◌, ℕ, List, [], ◌∷◌, ◌++◌, refl, sym, ap, arith, subst, inl, inr}
-use Rattle.std.proofs.Common.{Option, None, Some, true, length, append-nil, append_assoc}
-use Rattle.std.proofs.Common.{cond, is_some}
+use Rattle.std.proofs.Common.{◌≡◌, ◌∙◌, ℕ, List, [], ◌∷◌, ◌++◌, refl, sym, ap, arith, subst, inl}
+use Rattle.std.proofs.Common.{inr, Option, None, Some, true, length, append-nil, append_assoc, cond}
+use Rattle.std.proofs.Common.{is_some}
 use Rattle.std.specs.Prelude.{Ok, Err, Vec}
 use Rattle.std.specs.declared.alloc.Global.{Global}
 use Rattle.std.proofs.Math.Seq.{append_snoc}

@@ -1,6 +1,6 @@
 -- What each session was sent, once one thing more has happened.
-use Rattle.std.proofs.Common.{◌≡◌, ◌∙◌, ◌+◌, ◌<◌, ◌==◌, ℕ, List, [], ◌∷◌, ◌++◌, refl, sym, ap, arith}
-use Rattle.std.proofs.Common.{Option, None, Some, Bool, true, false, subst, inl, inr, cond}
+use Rattle.std.proofs.Common.{◌≡◌, ◌∙◌, ◌+◌, ◌<◌, ◌==◌, ℕ, List, [], ◌∷◌, ◌++◌, refl, sym, ap}
+use Rattle.std.proofs.Common.{arith, Option, None, Some, Bool, true, false, subst, inl, inr, cond}
 use Rattle.std.proofs.Common.{append-nil, option_to_list}
 use Rattle.std.proofs.lemmas.Bool.Decides.{nat_tests}
 use Rattle.std.specs.List.{AllByRecursion}

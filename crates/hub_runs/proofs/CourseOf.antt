@@ -1,6 +1,7 @@
 -- A hub is as what happened says, after a list of events and where a run stops.
-use Rattle.std.proofs.Common.{◌≡◌, ◌∙◌, ◌<◌, ◌==◌, ◌^◌, ℕ, List, [], ◌∷◌, ◌++◌, refl, sym, ap, arith, subst, inl, inr}
-use Rattle.std.proofs.Common.{Option, None, Some, Bool, true, false, cond, reverse}
+use Rattle.std.proofs.Common.{◌≡◌, ◌∙◌, ◌<◌, ◌==◌, ◌^◌, ℕ, List, [], ◌∷◌, ◌++◌, refl, sym, ap}
+use Rattle.std.proofs.Common.{arith, subst, inl, inr, Option, None, Some, Bool, true, false, cond}
+use Rattle.std.proofs.Common.{reverse}
 use Rattle.std.specs.Prelude.{Result, Ok, Err}
 use Rattle.std.specs.List.{AllByRecursion}
 use Rattle.std.specs.FinMap.{get-empty}
@@ -33,9 +34,8 @@ use Rattle.hub_runs.specs.Course.{given_to, rest_behind, view_then, with_event, 
 use Rattle.hub_runs.specs.Worlds.{AllHappen, Happens, RefusesAmong, RefusesItem, Stops, WorldState}
 use Rattle.hub_runs.specs.Worlds.{beginning}
 use Rattle.hub_runs.proofs.Course.{each_quiet, plain_asked}
-use Rattle.hub_runs.proofs.Following.{Followed, asked, cut, drained_at, drained_up, joined, kept_still, left}
-use Rattle.hub_runs.proofs.Following.{now_seen}
-use Rattle.hub_runs.proofs.Following.{spoke, took, took_all}
+use Rattle.hub_runs.proofs.Following.{Followed, asked, cut, drained_at, drained_up, joined}
+use Rattle.hub_runs.proofs.Following.{kept_still, left, now_seen, spoke, took, took_all}
 use Rattle.hub_runs.proofs.Upward.{ups_quiet}
 
 module _ (capacity first up : ℕ) where
@@ -211,7 +211,8 @@ stops_at : (start : HubState) (ds : List Deed) (w : WorldState) (e : Event) (why
     (taken : List Came) (new : HubState)
     → Followed start.history.capacity start.first start.upstream.capacity ds w.hub
     → Stops e why w taken new → Follows start (with_items ds taken) new
-stops_at start ds w e stop.TooLong taken new f k = nothing_more start ds w.hub taken new f k.1.0 k.1.1
+stops_at start ds w e stop.TooLong taken new f k =
+    nothing_more start ds w.hub taken new f k.1.0 k.1.1
 stops_at start ds w e stop.Spent taken new f k = among start ds w.hub _ taken _ new f k.1
 stops_at start ds w e stop.Memory taken new f k =
     elim k.1 [

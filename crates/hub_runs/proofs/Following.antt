@@ -1,7 +1,7 @@
 -- A hub over ends in memory is as what happened says: each step keeps that.
-use Rattle.std.proofs.Common.{◌≡◌, ◌∙◌, ◌+◌, ◌<◌, ◌==◌, ◌^◌, ℕ, List, [], ◌∷◌, ◌++◌, refl, sym, ap, arith}
-use Rattle.std.proofs.Common.{Option, None, Some, Bool, true, false, subst, inl, inr, cond, is_some, nat_lt}
-use Rattle.std.proofs.Common.{append-nil, reverse, option_to_list}
+use Rattle.std.proofs.Common.{◌≡◌, ◌∙◌, ◌+◌, ◌<◌, ◌==◌, ◌^◌, ℕ, List, [], ◌∷◌, ◌++◌, refl, sym, ap}
+use Rattle.std.proofs.Common.{arith, Option, None, Some, Bool, true, false, subst, inl, inr, cond}
+use Rattle.std.proofs.Common.{is_some, nat_lt, append-nil, reverse, option_to_list}
 use Rattle.std.proofs.lemmas.Bool.Decides.{eqb_tells}
 use Rattle.std.proofs.lemmas.List.{map-append, reverse-append}
 use Rattle.std.specs.Prelude.{IfSome, IsSome, Result, Ok, Err, if◌then◌else◌}
@@ -26,12 +26,12 @@ use Rattle.hub_core.specs.Attaching.{Attaches, Detaches, Lacks, last_number, mar
 use Rattle.hub_core.specs.Attaching.{with_name}
 use Rattle.hub_core.specs.InMemory.{DrainsAt, DrainsSession, DrainsUpstream}
 use Rattle.hub_core.specs.Pumping.{Puts, entry_for, pong_for, with_entry}
-use Rattle.hub_core.specs.Saying.{Answers, Around, Cuts, Forwards, entry_said, from_us, given_others}
-use Rattle.hub_core.specs.Saying.{meaning, own_message, sent_up, with_sessions}
-use Rattle.hub_runs.specs.Course.{Deed, Took, Spoke, Asked, Joined, Left, Drained}
-use Rattle.hub_runs.specs.Course.{IsSent, answer_by, given_to, heard_back, joined_as, kept_then, mark_left, mark_then}
-use Rattle.hub_runs.specs.Course.{message_said, messages, missed_then, packets, upward, view_then}
-use Rattle.hub_runs.specs.Course.{waiting, with_items}
+use Rattle.hub_core.specs.Saying.{Answers, Around, Cuts, Forwards, entry_said, from_us}
+use Rattle.hub_core.specs.Saying.{given_others, meaning, own_message, sent_up, with_sessions}
+use Rattle.hub_runs.specs.Course.{Deed, Took, Spoke, Asked, Joined, Left, Drained, IsSent}
+use Rattle.hub_runs.specs.Course.{answer_by, given_to, heard_back, joined_as, kept_then, mark_left}
+use Rattle.hub_runs.specs.Course.{mark_then, message_said, messages, missed_then, packets, upward}
+use Rattle.hub_runs.specs.Course.{view_then, waiting, with_items}
 use Rattle.hub_runs.specs.Worlds.{TakesAll, TakesIn, new_outlet}
 use Rattle.hub_runs.proofs.Course as course
 use Rattle.hub_runs.proofs.Course.{Apart, Plain, apart_back, apart_delivered, apart_more, apart_put}

@@ -1,6 +1,6 @@
 -- Messages and marks, once one thing more has happened.
-use Rattle.std.proofs.Common.{◌≡◌, ◌∙◌, ℕ, List, [], ◌∷◌, ◌++◌, refl, sym, ap, Option, None, Some, Bool, true, false}
-use Rattle.std.proofs.Common.{subst, append-nil, option_to_list, cond, is_some}
+use Rattle.std.proofs.Common.{◌≡◌, ◌∙◌, ℕ, List, [], ◌∷◌, ◌++◌, refl, sym, ap, Option, None, Some}
+use Rattle.std.proofs.Common.{Bool, true, false, subst, append-nil, option_to_list, cond, is_some}
 use Rattle.std.specs.Prelude.{IfSome, IsSome, if◌then◌else◌}
 use Rattle.std.specs.Cmp.Lexicographic.{nat_list_cmp_total}
 use Rattle.std.specs.FinMap.{contains_key, get, get-insert, insert}
@@ -78,7 +78,8 @@ admitted_there marks n =
     (λ lacks. ap is_some (got marks n n None)
     ∙ ap (λ b. is_some (cond b (Some None) (get marks n))) (same_key n))
 
-pub admitted_mark : (marks : NameMarks) (n q : Text) → mark_of q (admitted n marks) ≡ mark_of q marks
+pub admitted_mark : (marks : NameMarks) (n q : Text)
+    → mark_of q (admitted n marks) ≡ mark_of q marks
 admitted_mark marks n q =
     either_way (contains_key marks n) (λ m. mark_of q m ≡ mark_of q marks) marks
     (insert marks n None) (λ there. refl)

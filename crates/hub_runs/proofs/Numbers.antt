@@ -1,6 +1,6 @@
 -- The numbers of sessions.
-use Rattle.std.proofs.Common.{◌≡◌, ◌⊎◌, ◌∙◌, ◌+◌, ◌^◌, ℕ, List, [], ◌∷◌, refl, sym, ap, inl, inr, subst}
-use Rattle.std.proofs.Common.{Option, None, Some, true, false, length, nat_lt}
+use Rattle.std.proofs.Common.{◌≡◌, ◌⊎◌, ◌∙◌, ◌+◌, ◌^◌, ℕ, List, [], ◌∷◌, refl, sym, ap, inl, inr}
+use Rattle.std.proofs.Common.{subst, Option, None, Some, true, false, length, nat_lt}
 use Rattle.std.specs.Prelude.{Result, Ok, Err, if◌then◌else◌}
 use Rattle.std.specs.List.{range_with_len}
 use Rattle.irc_line.specs.Line.{Parts}

@@ -6,7 +6,8 @@ use Rattle.hub_core.specs.States.{HubState}
 use Rattle.hub_core.specs.declared.hub.HubError.{HubError}
 use Rattle.hub_core.specs.declared.hub.HubError.TheVariants as fault
 use Rattle.hub_runs.specs.declared.event.Event.{Event}
-use Rattle.hub_runs.specs.Worlds.{RefusesAmong, RefusesItem, Stops, WorldState, is_over, items_of, stop_of}
+use Rattle.hub_runs.specs.Worlds.{RefusesAmong, RefusesItem, Stops, WorldState, is_over, items_of}
+use Rattle.hub_runs.specs.Worlds.{stop_of}
 use Rattle.std.specs.Prelude.{false}
 
 -- one item was refused

@@ -1,6 +1,7 @@
 -- What each step of a hub over ends in memory keeps.
 use Rattle.std.proofs.Common.{◌≡◌, ◌∙◌, ℕ, List, [], ◌∷◌, ◌++◌, refl, sym, ap, subst, inl, inr}
-use Rattle.std.proofs.Common.{Option, None, Some, Bool, true, false, cond, is_some, append-nil, append_assoc}
+use Rattle.std.proofs.Common.{Option, None, Some, Bool, true, false, cond, is_some, append-nil}
+use Rattle.std.proofs.Common.{append_assoc}
 use Rattle.std.specs.Prelude.{IfSome, IsTrue, Result, Ok, Err, if◌then◌else◌}
 use Rattle.std.specs.List.{AllByRecursion}
 use Rattle.std.specs.Option.{option_map}
@@ -31,8 +32,9 @@ use Rattle.hub_core.specs.Given.{Delivered, packet_for}
 use Rattle.hub_core.specs.InMemory.{DrainsAt, DrainsSession, DrainsUpstream}
 use Rattle.hub_core.specs.Pumping.{Comes, entry_for, with_entry}
 use Rattle.hub_core.specs.Attaching.{Detaches}
-use Rattle.hub_core.specs.Saying.{Answers, Around, Cuts, Forwards, Says, SaysBy, Stays, answer_packet}
-use Rattle.hub_core.specs.Saying.{entry_said, from_us, given_others, meaning, own_message}
+use Rattle.hub_core.specs.Saying.{Answers, Around, Cuts, Forwards, Says, SaysBy, Stays}
+use Rattle.hub_core.specs.Saying.{answer_packet, entry_said, from_us, given_others, meaning}
+use Rattle.hub_core.specs.Saying.{own_message}
 use Rattle.hub_core.specs.Running.{AreMessages}
 use Rattle.hub_core.proofs.Kept.{entry_is_message, messages_stay}
 use Rattle.hub_core.proofs.Running.{less_none}

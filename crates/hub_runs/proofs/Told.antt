@@ -1,7 +1,7 @@
 -- What a session knows goes on.
-use Rattle.std.proofs.Common.{◌≡◌, ◌∙◌, ◌+◌, ◌≤◌, List, [], ◌∷◌, ◌++◌, refl, sym, ap, arith, subst, inl, inr}
-use Rattle.std.proofs.Common.{length, Option, None, Some, Bool, append-nil, length-append, append_assoc}
-use Rattle.std.proofs.Common.{option_to_list}
+use Rattle.std.proofs.Common.{◌≡◌, ◌∙◌, ◌+◌, ◌≤◌, List, [], ◌∷◌, ◌++◌, refl, sym, ap, arith, subst}
+use Rattle.std.proofs.Common.{inl, inr, length, Option, None, Some, Bool, append-nil, length-append}
+use Rattle.std.proofs.Common.{append_assoc, option_to_list}
 use Rattle.std.specs.Prelude.{Ok}
 use Rattle.std.specs.List.{AllByRecursion}
 use Rattle.std.proofs.lemmas.List.{map-append}

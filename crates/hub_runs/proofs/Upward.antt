@@ -1,7 +1,7 @@
 -- What the network was sent, once one thing more has happened.
-use Rattle.std.proofs.Common.{◌≡◌, ◌∙◌, ◌+◌, ◌-◌, ◌<◌, ◌≤◌, ℕ, List, [], ◌∷◌, ◌++◌, refl, sym, ap, arith}
-use Rattle.std.proofs.Common.{Option, None, Some, Bool, true, false, subst, inl, inr, length, min, nat_lt}
-use Rattle.std.proofs.Common.{append-nil, option_to_list, cond, is_some}
+use Rattle.std.proofs.Common.{◌≡◌, ◌∙◌, ◌+◌, ◌-◌, ◌<◌, ◌≤◌, ℕ, List, [], ◌∷◌, ◌++◌, refl, sym, ap}
+use Rattle.std.proofs.Common.{arith, Option, None, Some, Bool, true, false, subst, inl, inr, length}
+use Rattle.std.proofs.Common.{min, nat_lt, append-nil, option_to_list, cond, is_some}
 use Rattle.std.proofs.Math.Nat.{min-le_right}
 use Rattle.std.proofs.lemmas.Bool.Decides.{nat_tests}
 use Rattle.std.specs.Prelude.{if◌then◌else◌}

@@ -17,12 +17,15 @@ use Rattle.net_view.specs.Modes.{says_mode}
 use Rattle.net_view.specs.Members.{says_member, says_rank}
 use Rattle.net_view.specs.Arrival.{Arrival}
 use Rattle.net_view.specs.View.{Channel, Person, View, view_of}
-use Rattle.net_view.specs.Step.{mode_after, member_after, channel_from, channel_after, channels_after, person_after, people_after, had_rank, is_seen, old_member, member_from, person_from}
+use Rattle.net_view.specs.Step.{mode_after, member_after, channel_from, channel_after}
+use Rattle.net_view.specs.Step.{channels_after, person_after, people_after, had_rank, is_seen}
+use Rattle.net_view.specs.Step.{old_member, member_from, person_from}
 use Rattle.net_view.proofs.Keys.{bytes_exact, is_same}
 use Rattle.net_view.proofs.FormSound.{view_ranked}
 use Rattle.net_view.proofs.SoundStep.{view_sound}
 use Rattle.net_view.specs.Changes.{told_person}
-use Rattle.net_view.proofs.AfterMaps.{get-channels_after, get-modes_after, get-members_after, get-people_after, seen_in, seen_somewhere}
+use Rattle.net_view.proofs.AfterMaps.{get-channels_after, get-modes_after, get-members_after}
+use Rattle.net_view.proofs.AfterMaps.{get-people_after, seen_in, seen_somewhere}
 use Rattle.net_view.proofs.Tests.{both_or_neither}
 
 pub channel_is : (us : Text → Bool) (t : Told) (c : Text) (old : Option Channel) (is : Channel) →

@@ -11,7 +11,8 @@ use Rattle.net_view.specs.Transcript.{is_us, settings_after}
 use Rattle.net_view.specs.View.{Person, View}
 use Rattle.net_view.specs.Step.{standing_of, after_told, channels_after, people_after}
 use Rattle.net_view.specs.Changes.{told_person, with_account, with_away, on_person, readied}
-use Rattle.net_view.proofs.AfterAlike.{HasSets, IsKnowing, all_channels_stay, all_persons_stay, one_person, no_person}
+use Rattle.net_view.proofs.AfterAlike.{HasSets, IsKnowing, all_channels_stay, all_persons_stay}
+use Rattle.net_view.proofs.AfterAlike.{one_person, no_person}
 
 module _ (v : View) (sets : HasSets v) (known : IsKnowing v) where
   abbrev us : Text → Bool

@@ -13,11 +13,13 @@ use Rattle.net_view.specs.Presence.{says_on, begins}
 use Rattle.net_view.specs.Members.{says_member, says_rank}
 use Rattle.net_view.specs.Table.{same_arms}
 use Rattle.net_view.specs.View.{Channel, Person, View}
-use Rattle.net_view.specs.Step.{standing_of, after_told, old_member, member_after, had_rank, channel_from, channel_after, channels_after, is_seen, people_after}
+use Rattle.net_view.specs.Step.{standing_of, after_told, old_member, member_after, had_rank}
+use Rattle.net_view.specs.Step.{channel_from, channel_after, channels_after, is_seen, people_after}
 use Rattle.net_view.proofs.Tests.{both_or_neither}
 use Rattle.net_view.proofs.Keys.{is_same, same_refl}
 use Rattle.net_view.proofs.AfterMaps.{seen_in, seen_somewhere}
-use Rattle.net_view.proofs.AfterAlike.{channel_is, channels_are, people_are, AreSets, member_stays, person_stays, HasSets, IsKnowing}
+use Rattle.net_view.proofs.AfterAlike.{channel_is, channels_are, people_are, AreSets, member_stays}
+use Rattle.net_view.proofs.AfterAlike.{person_stays, HasSets, IsKnowing}
 use Rattle.net_view.specs.Changes.{with_member, told_person, joined_to, joined_view, readied}
 use Rattle.net_view.specs.Transcript.{is_us}
 

@@ -14,7 +14,9 @@ use Rattle.net_view.specs.Members.{says_member, says_rank}
 use Rattle.net_view.specs.Named.{channels_in, letters_in, people_in}
 use Rattle.net_view.specs.Table.{table_gets}
 use Rattle.net_view.specs.View.{Channel, Person}
-use Rattle.net_view.specs.Step.{old_member, had_rank, mode_after, member_after, channel_from, channel_after, channels_after, is_seen, everyone, person_from, person_after, people_after}
+use Rattle.net_view.specs.Step.{old_member, had_rank, mode_after, member_after, channel_from}
+use Rattle.net_view.specs.Step.{channel_after, channels_after, is_seen, everyone, person_from}
+use Rattle.net_view.specs.Step.{person_after, people_after}
 use Rattle.net_view.proofs.Tests.{absent, is_some_when}
 use Rattle.net_view.proofs.Keys.{bytes_exact, not_kept, met_at, some_key}
 use Rattle.net_view.proofs.ChannelStep.{channel_after_none, mode_after_none, member_after_none}

@@ -18,7 +18,9 @@ use Rattle.net_view.specs.Step.{standing_of, had_rank, after_told, people_after,
 use Rattle.net_view.specs.Changes.{with_topic, on_channel}
 use Rattle.net_view.proofs.Tests.{is_some_map}
 use Rattle.net_view.proofs.Keys.{same_refl}
-use Rattle.net_view.proofs.AfterAlike.{HasSets, IsKnowing, IsQuiet, channel_is, member_stays, one_channel, no_channel, same_seen, kept_members, all_persons_stay}
+use Rattle.net_view.proofs.AfterAlike.{HasSets, IsKnowing, IsQuiet, channel_is, member_stays}
+use Rattle.net_view.proofs.AfterAlike.{one_channel, no_channel, same_seen, kept_members}
+use Rattle.net_view.proofs.AfterAlike.{all_persons_stay}
 
 -- a channel that we are on, with these modes and members
 abbrev pub with_maps : Channel → fin.FinMap nat_cmp (Option Text) → fin.FinMap bytes_cmp (List ℕ)

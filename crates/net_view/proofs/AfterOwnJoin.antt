@@ -13,12 +13,14 @@ use Rattle.net_view.specs.Transcript.{is_us}
 use Rattle.net_view.specs.Presence.{begins}
 use Rattle.net_view.specs.Members.{said_of_member, said_of_rank}
 use Rattle.net_view.specs.View.{Channel, Person, View}
-use Rattle.net_view.specs.Step.{standing_of, old_member, had_rank, channel_from, channel_after, after_told, people_after, is_seen}
+use Rattle.net_view.specs.Step.{standing_of, old_member, had_rank, channel_from, channel_after}
+use Rattle.net_view.specs.Step.{after_told, people_after, is_seen}
 use Rattle.net_view.specs.Changes.{fresh_channel, told_person}
 use Rattle.net_view.proofs.Tests.{cond_and_false}
 use Rattle.net_view.proofs.Keys.{bytes_exact, is_same, same_refl}
 use Rattle.net_view.proofs.AfterMaps.{seen_in, seen_somewhere}
-use Rattle.net_view.proofs.AfterAlike.{HasSets, IsKnowing, IsQuiet, channel_is, people_are, person_stays, put_channel}
+use Rattle.net_view.proofs.AfterAlike.{HasSets, IsKnowing, IsQuiet, channel_is, people_are}
+use Rattle.net_view.proofs.AfterAlike.{person_stays, put_channel}
 
 no_ranks : ranks_that (λ rank. false) ≡ []
 unfolding ranks_that rank_count

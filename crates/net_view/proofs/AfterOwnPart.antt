@@ -9,11 +9,13 @@ use Rattle.irc_support.specs.Ranks.{ranks_that}
 use Rattle.net_view.specs.Names.{same, bytes_cmp}
 use Rattle.net_view.specs.Told.{Told, Parted}
 use Rattle.net_view.specs.View.{Channel, Person, View}
-use Rattle.net_view.specs.Step.{standing_of, after_told, old_member, had_rank, channel_from, channel_after, channels_after, is_seen, people_after}
+use Rattle.net_view.specs.Step.{standing_of, after_told, old_member, had_rank, channel_from}
+use Rattle.net_view.specs.Step.{channel_after, channels_after, is_seen, people_after}
 use Rattle.net_view.proofs.Keys.{bytes_exact}
 use Rattle.net_view.proofs.AfterMaps.{seen_in, seen_somewhere}
 use Rattle.net_view.specs.Changes.{told_person}
-use Rattle.net_view.proofs.AfterAlike.{channel_is, channels_are, people_are, AreSets, member_stays, person_stays, HasSets, IsKnowing}
+use Rattle.net_view.proofs.AfterAlike.{channel_is, channels_are, people_are, AreSets, member_stays}
+use Rattle.net_view.proofs.AfterAlike.{person_stays, HasSets, IsKnowing}
 use Rattle.net_view.specs.Transcript.{is_us}
 
 module _ (us : Text → Bool) (channel who : Text) (ours : us who ≡ true) where

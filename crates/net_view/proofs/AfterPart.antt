@@ -11,13 +11,15 @@ use Rattle.net_view.specs.Told.{Told, Parted, Kicked}
 use Rattle.net_view.specs.Presence.{says_on}
 use Rattle.net_view.specs.Table.{same_arms}
 use Rattle.net_view.specs.View.{Channel, Person, View}
-use Rattle.net_view.specs.Step.{standing_of, after_told, old_member, member_after, had_rank, channel_from, channel_after, channels_after, is_seen, people_after}
+use Rattle.net_view.specs.Step.{standing_of, after_told, old_member, member_after, had_rank}
+use Rattle.net_view.specs.Step.{channel_from, channel_after, channels_after, is_seen, people_after}
 use Rattle.net_view.proofs.Tests.{both_or_neither}
 use Rattle.net_view.proofs.Keys.{is_same}
 use Rattle.net_view.proofs.AfterMaps.{seen_in, seen_somewhere}
 use Rattle.net_view.specs.Changes.{without_member, told_person, parted_from, parted_to, parted_view}
 use Rattle.net_view.specs.Transcript.{is_us}
-use Rattle.net_view.proofs.AfterAlike.{channel_is, channels_are, people_are, AreSets, member_stays, person_stays, HasSets, IsKnowing, removed_none, put_again}
+use Rattle.net_view.proofs.AfterAlike.{channel_is, channels_are, people_are, AreSets, member_stays}
+use Rattle.net_view.proofs.AfterAlike.{person_stays, HasSets, IsKnowing, removed_none, put_again}
 
 cond_some : {A : Type 0} (b : Bool) (x y : A) → Some (cond b x y) ≡ cond b (Some x) (Some y)
 cond_some true x y = refl

@@ -13,12 +13,14 @@ use Rattle.net_view.specs.Transcript.{is_us}
 use Rattle.net_view.specs.Members.{lists, rank_in_listing}
 use Rattle.net_view.specs.LookBack.{last_in}
 use Rattle.net_view.specs.View.{Channel, Person, View}
-use Rattle.net_view.specs.Step.{standing_of, old_member, had_rank, after_told, people_after, is_seen}
+use Rattle.net_view.specs.Step.{standing_of, old_member, had_rank, after_told, people_after}
+use Rattle.net_view.specs.Step.{is_seen}
 use Rattle.net_view.specs.Changes.{told_person, with_ranks}
 use Rattle.net_view.proofs.Tests.{both_or_neither}
 use Rattle.net_view.proofs.Keys.{is_same, same_refl}
 use Rattle.net_view.proofs.AfterMaps.{seen_in, seen_somewhere}
-use Rattle.net_view.proofs.AfterAlike.{HasSets, IsKnowing, IsQuiet, channel_is, people_are, member_stays, person_stays, one_channel, no_channel}
+use Rattle.net_view.proofs.AfterAlike.{HasSets, IsKnowing, IsQuiet, channel_is, people_are}
+use Rattle.net_view.proofs.AfterAlike.{member_stays, person_stays, one_channel, no_channel}
 
 module _ (v : View) (sets : HasSets v) (known : IsKnowing v) (c : Text) (l : Listing) where
   abbrev us : Text → Bool

@@ -10,11 +10,13 @@ use Rattle.net_view.specs.Told.{Quits}
 use Rattle.net_view.specs.Transcript.{is_us}
 use Rattle.net_view.specs.Table.{same_arms}
 use Rattle.net_view.specs.View.{Channel, Person, View}
-use Rattle.net_view.specs.Step.{standing_of, old_member, member_from, member_after, channel_from, channel_after, after_told, channels_after, people_after, is_seen}
+use Rattle.net_view.specs.Step.{standing_of, old_member, member_from, member_after, channel_from}
+use Rattle.net_view.specs.Step.{channel_after, after_told, channels_after, people_after, is_seen}
 use Rattle.net_view.specs.Changes.{without_member}
 use Rattle.net_view.proofs.Tests.{no_true, both_or_neither}
 use Rattle.net_view.proofs.AfterMaps.{seen_in, seen_somewhere}
-use Rattle.net_view.proofs.AfterAlike.{HasSets, IsKnowing, AreSets, channel_is, channels_are, people_are, member_stays, person_stays}
+use Rattle.net_view.proofs.AfterAlike.{HasSets, IsKnowing, AreSets, channel_is, channels_are}
+use Rattle.net_view.proofs.AfterAlike.{people_are, member_stays, person_stays}
 
 module _ (v : View) (sets : HasSets v) (known : IsKnowing v) (who : Text)
     (other : is_us (standing_of v) who ≡ false) where

@@ -1,5 +1,6 @@
 -- A channel of a sound view is sound after one more item.
-use Rattle.std.specs.Prelude.{◌≡◌, ℕ, ◌<◌, Bool, true, false, cond, not, ◌&&◌, nat_eq, List, IfSome, is_some, ◌⊎◌}
+use Rattle.std.specs.Prelude.{◌≡◌, ℕ, ◌<◌, Bool, true, false, cond, not, ◌&&◌, nat_eq, List, IfSome}
+use Rattle.std.specs.Prelude.{is_some, ◌⊎◌}
 use Rattle.std.specs.Option.{option_map, unwrap_or}
 use Rattle.std.specs.Ordering.{nat_cmp, eq_by_cmp}
 use Rattle.std.specs.FinMap as fin
@@ -12,7 +13,8 @@ use Rattle.irc_support.specs.Ranks.{ranks_that, has_rank}
 use Rattle.irc_support.specs.ChanModes.{kind_of}
 use Rattle.irc_support.specs.Settings.{key_by, is_channel}
 use Rattle.net_view.specs.Names.{same}
-use Rattle.net_view.specs.Told.{Told, LetterChange, ModeChange, Listing, Welcomed, Supports, Settles, Joined, Changed, Listed, Titled, Present}
+use Rattle.net_view.specs.Told.{Told, LetterChange, ModeChange, Listing, Welcomed, Supports}
+use Rattle.net_view.specs.Told.{Settles, Joined, Changed, Listed, Titled, Present}
 use Rattle.net_view.specs.Transcript.{Standing, is_us, ready_after, settings_after}
 use Rattle.net_view.specs.LookBack.{last_in}
 use Rattle.net_view.specs.Presence.{begins, ends, says_on, anew_or}

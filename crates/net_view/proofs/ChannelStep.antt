@@ -1,5 +1,6 @@
 -- The channels after one more item, from those before it.
-use Rattle.std.specs.Prelude.{◌≡◌, ℕ, Bool, true, false, cond, not, ◌&&◌, ◌||◌, List, [], ◌∷◌, ◌++◌, is_some, ◌⊎◌}
+use Rattle.std.specs.Prelude.{◌≡◌, ℕ, Bool, true, false, cond, not, ◌&&◌, ◌||◌, List, [], ◌∷◌, ◌++◌}
+use Rattle.std.specs.Prelude.{is_some, ◌⊎◌}
 use Rattle.std.specs.List.{list_any}
 use Rattle.std.specs.Option.{option_or, option_and_then, option_map, option_map_or, unwrap_or}
 use Rattle.std.specs.Ordering.{nat_cmp, eq_by_cmp}
@@ -16,16 +17,20 @@ use Rattle.net_view.specs.LookBack.{last, last_in, last_of, name_before}
 use Rattle.net_view.specs.Presence.{begins, ends, says_on, name_on}
 use Rattle.net_view.specs.Topic.{says_topic, topic_of}
 use Rattle.net_view.specs.Modes.{says_mode, mode_of}
-use Rattle.net_view.specs.Members.{lists, joins_as, said_of_member, says_member, says_rank, said_of_rank, rank_in_listing, rank_decided}
+use Rattle.net_view.specs.Members.{lists, joins_as, said_of_member, says_member, says_rank}
+use Rattle.net_view.specs.Members.{said_of_rank, rank_in_listing, rank_decided}
 use Rattle.net_view.specs.Named.{named, letters_in, people_in, channels_in}
 use Rattle.net_view.specs.Table.{table, same_tables}
 use Rattle.net_view.specs.View.{Channel, member_of, channel_named, channel_of, channels_of}
-use Rattle.net_view.specs.Step.{old_mode, old_member, mode_after, had_rank, member_after, channel_from, channel_after, channels_after}
+use Rattle.net_view.specs.Step.{old_mode, old_member, mode_after, had_rank, member_after}
+use Rattle.net_view.specs.Step.{channel_from, channel_after, channels_after}
 use Rattle.net_view.proofs.Tests.{absent, no_true, unwrap_or_or, when}
 use Rattle.net_view.proofs.Keys.{bytes_exact, not_kept}
 use Rattle.net_view.proofs.RankSets.{ranks_alike, has-ranks}
-use Rattle.net_view.proofs.Covers.{on_none, says_mode_none, covers_mode, says_member_none, name_stays}
-use Rattle.net_view.proofs.Channels.{members_get, modes_get, member_of_none, channels_get, channel_none}
+use Rattle.net_view.proofs.Covers.{on_none, says_mode_none, covers_mode, says_member_none}
+use Rattle.net_view.proofs.Covers.{name_stays}
+use Rattle.net_view.proofs.Channels.{members_get, modes_get, member_of_none, channels_get}
+use Rattle.net_view.proofs.Channels.{channel_none}
 
 -- what held fast or was decided anew
 kept : {A : Type 0} (b : Bool) (fresh : A) (said : Option A) (u v : A) → (b ≡ true) ⊎ (u ≡ v)

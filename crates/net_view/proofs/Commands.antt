@@ -11,9 +11,14 @@ use Rattle.irc_support.specs.Tokens.{Token}
 use Rattle.net_view.proofs.Tests.{or_false}
 use Rattle.net_view.specs.Told.{Told, Silent, Settles, Supports}
 use Rattle.net_view.specs.Arrival.{Received}
-use Rattle.net_view.specs.StateCommands.{command_text, state_commands, state_command, is_state_command, other_commands}
+use Rattle.net_view.specs.StateCommands.{command_text, state_commands, state_command}
+use Rattle.net_view.specs.StateCommands.{is_state_command, other_commands}
 use Rattle.net_view.specs.declared.state_command.StateCommand.{StateCommand}
-use Rattle.net_view.specs.StateLines.{StateLine, state_lines, told_by, is_of, is_state_line, told, told_by_welcome, told_by_join, told_by_part, told_by_kick, told_by_quit, told_by_nick, told_by_mode, told_by_mode_reply, told_by_topic, told_by_topic_reply, told_by_no_topic, told_by_names, told_by_account, told_by_away}
+use Rattle.net_view.specs.StateLines.{StateLine, state_lines, told_by, is_of, is_state_line, told}
+use Rattle.net_view.specs.StateLines.{told_by_welcome, told_by_join, told_by_part, told_by_kick}
+use Rattle.net_view.specs.StateLines.{told_by_quit, told_by_nick, told_by_mode, told_by_mode_reply}
+use Rattle.net_view.specs.StateLines.{told_by_topic, told_by_topic_reply, told_by_no_topic}
+use Rattle.net_view.specs.StateLines.{told_by_names, told_by_account, told_by_away}
 
 -- a line of a command has each other exactly where the two are one but for the case of letters
 pub has_command-named : (line : Parts) (name : Text) → has_command line name ≡ true → (other : Text)

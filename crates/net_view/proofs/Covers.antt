@@ -1,12 +1,14 @@
 -- What no item names has no answer: the tables of a view ask at all keys that have one.
-use Rattle.std.specs.Prelude.{◌≡◌, ℕ, Bool, true, false, cond, not, ◌&&◌, ◌||◌, List, [], ◌∷◌, map, is_some, ◌⊎◌}
+use Rattle.std.specs.Prelude.{◌≡◌, ℕ, Bool, true, false, cond, not, ◌&&◌, ◌||◌, List, [], ◌∷◌, map}
+use Rattle.std.specs.Prelude.{is_some, ◌⊎◌}
 use Rattle.std.specs.List.{list_any}
 use Rattle.std.specs.Option.{option_or, option_and_then, option_map, unwrap_or}
 use Rattle.std.specs.Ordering.{nat_cmp, eq_by_cmp}
 use Rattle.std.proofs.Common.{Option, Some, None, refl, sym, ap, ◌∙◌, subst, inl, inr, ⊎_elim}
 use Rattle.irc_support.specs.Text.{Text}
 use Rattle.net_view.specs.Names.{same}
-use Rattle.net_view.specs.Told.{Told, ModeChange, Listing, Welcomed, Joined, Parted, Kicked, Quits, Renamed, Changed, Listed, Present, Disconnected}
+use Rattle.net_view.specs.Told.{Told, ModeChange, Listing, Welcomed, Joined, Parted, Kicked, Quits}
+use Rattle.net_view.specs.Told.{Renamed, Changed, Listed, Present, Disconnected}
 use Rattle.net_view.specs.Transcript.{Reading, ours}
 use Rattle.net_view.specs.LookBack.{last, last_in, last_of, name_before}
 use Rattle.net_view.specs.Presence.{begins, ends, says_on, name_on, anew_or}

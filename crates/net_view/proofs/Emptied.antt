@@ -14,7 +14,8 @@ use Rattle.net_view.specs.Presence.{begins, ends}
 use Rattle.net_view.specs.Named.{channels_in}
 use Rattle.net_view.specs.Table.{table, same_tables}
 use Rattle.net_view.specs.View.{lost_view, Channel, Person, View, view_of}
-use Rattle.net_view.specs.Step.{standing_of, after_told, channel_from, channel_after, channels_after, members_at, person_after, people_after, after}
+use Rattle.net_view.specs.Step.{standing_of, after_told, channel_from, channel_after}
+use Rattle.net_view.specs.Step.{channels_after, members_at, person_after, people_after, after}
 use Rattle.net_view.proofs.Keys.{bytes_exact}
 use Rattle.net_view.proofs.StepLaw.{view_step}
 

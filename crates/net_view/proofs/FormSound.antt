@@ -1,6 +1,7 @@
 -- What every view is like, so that what is written of it is read back: tokens, letters of modes,
 -- ranks.
-use Rattle.std.specs.Prelude.{◌≡◌, ℕ, Bool, true, false, cond, ◌||◌, List, [], ◌∷◌, map, drop, slice_get, IfSome, reverse, codes}
+use Rattle.std.specs.Prelude.{◌≡◌, ℕ, Bool, true, false, cond, ◌||◌, List, [], ◌∷◌, map, drop}
+use Rattle.std.specs.Prelude.{slice_get, IfSome, reverse, codes}
 use Rattle.std.specs.List.{list_any, filter_map, cons_option}
 use Rattle.std.specs.Option.{option_map, option_and_then, unwrap_or}
 use Rattle.std.specs.Ordering.{nat_cmp, eq_by_cmp}
@@ -20,8 +21,10 @@ use Rattle.irc_support.proofs.TokensRead.{tokens_set}
 use Rattle.irc_support.proofs.RankSets.{ranks_that-has_rank}
 use Rattle.net_view.specs.Names.{bytes_cmp, Name, nameable}
 use Rattle.net_view.specs.Arrival.{Arrival, Received, Lost}
-use Rattle.net_view.specs.Told.{Told, ModeChange, Silent, Settles, Welcomed, Supports, Parted, Kicked, Quits, Renamed, HasAccount, IsAway}
-use Rattle.net_view.specs.StateLines.{state_lines, told, with, actor, unless_empty, account_said, setting_by, mode_change}
+use Rattle.net_view.specs.Told.{Told, ModeChange, Silent, Settles, Welcomed, Supports, Parted}
+use Rattle.net_view.specs.Told.{Kicked, Quits, Renamed, HasAccount, IsAway}
+use Rattle.net_view.specs.StateLines.{state_lines, told, with, actor, unless_empty, account_said}
+use Rattle.net_view.specs.StateLines.{setting_by, mode_change}
 use Rattle.net_view.specs.Transcript.{Standing, standing, settings_after, readings_of, settings_of}
 use Rattle.net_view.specs.Modes.{mode_of}
 use Rattle.net_view.specs.Members.{is_member, rank_decided}

@@ -1,6 +1,7 @@
 -- The entries of a finite map by place, in any order of keys: what is the least above a key, again
 -- and again.
-use Rattle.std.specs.Prelude.{◌≡◌, ℕ, zero, suc, ◌+◌, ◌<◌, ◌≤◌, Bool, true, false, cond, ◌&&◌, T, List, [], ◌∷◌, length, is_some, slice_get}
+use Rattle.std.specs.Prelude.{◌≡◌, ℕ, zero, suc, ◌+◌, ◌<◌, ◌≤◌, Bool, true, false, cond, ◌&&◌, T}
+use Rattle.std.specs.Prelude.{List, [], ◌∷◌, length, is_some, slice_get}
 use Rattle.std.specs.Option.{option_map, IfSome, MatchOption}
 use Rattle.std.specs.declared.cmp.Ordering.{Ordering}
 use Rattle.std.specs.declared.cmp.Ordering.TheVariants.{Less, Equal, Greater}

@@ -1,6 +1,7 @@
 -- A command of the state lines is known by its length, its first byte and its last one; and what a
 -- line of none of them, or of just one, has for its command.
-use Rattle.std.specs.Prelude.{◌≡◌, ◌≢◌, ℕ, ◌≤◌, Bool, true, false, cond, ◌||◌, List, [], ◌∷◌, length, get_or}
+use Rattle.std.specs.Prelude.{◌≡◌, ◌≢◌, ℕ, ◌≤◌, Bool, true, false, cond, ◌||◌, List, [], ◌∷◌}
+use Rattle.std.specs.Prelude.{length, get_or}
 use Rattle.std.specs.List.{find, list_any}
 use Rattle.std.specs.Option.{option_map, unwrap_or}
 use Rattle.std.specs.Char.{to_ascii_lowercase}
@@ -17,7 +18,12 @@ use Rattle.net_view.specs.Tells.{meant}
 use Rattle.net_view.specs.declared.state_line.Telling.{Telling}
 use Rattle.net_view.specs.StateCommands.{command_text, state_commands, state_command}
 use Rattle.net_view.specs.declared.state_command.StateCommand.{StateCommand}
-use Rattle.net_view.specs.declared.state_command.StateCommand.TheVariants.{Welcome, Isupport, EndOfMotd, NoMotd, Join, Part, Kick, Quit, Nick, Mode, ModeReply, Topic, TopicReply, NoTopic, Names, Account, Away}
+use Rattle.net_view.specs.declared.state_command.StateCommand.TheVariants.{Welcome, Isupport}
+use Rattle.net_view.specs.declared.state_command.StateCommand.TheVariants.{EndOfMotd, NoMotd, Join}
+use Rattle.net_view.specs.declared.state_command.StateCommand.TheVariants.{Part, Kick, Quit, Nick}
+use Rattle.net_view.specs.declared.state_command.StateCommand.TheVariants.{Mode, ModeReply, Topic}
+use Rattle.net_view.specs.declared.state_command.StateCommand.TheVariants.{TopicReply, NoTopic}
+use Rattle.net_view.specs.declared.state_command.StateCommand.TheVariants.{Names, Account, Away}
 
 -- two texts that differ in the case of letters alone
 folded : (a b : Text) → str_eq_ignore_ascii_case a b ≡ true

@@ -9,7 +9,8 @@ use Rattle.irc_support.specs.ChanModes.{kind_of}
 use Rattle.irc_support.specs.Settings.{mapping_of, is_channel}
 use Rattle.irc_support.specs.ModeChanges.{changes}
 use Rattle.irc_support.specs.NamesReply.{words}
-use Rattle.net_view.specs.Told.{Silent, Welcomed, Supports, Settles, Joined, Parted, Kicked, Quits, Renamed, Changed, Listed, Titled, Present, HasAccount, IsAway}
+use Rattle.net_view.specs.Told.{Silent, Welcomed, Supports, Settles, Joined, Parted, Kicked, Quits}
+use Rattle.net_view.specs.Told.{Renamed, Changed, Listed, Titled, Present, HasAccount, IsAway}
 use Rattle.net_view.specs.Arrival.{Received}
 use Rattle.net_view.specs.StateLines.{state_lines, told}
 

@@ -16,7 +16,8 @@ use Rattle.net_view.specs.LookBack.{name_traced}
 use Rattle.net_view.specs.Presence.{name_on}
 use Rattle.net_view.specs.Modes.{mode_of}
 use Rattle.net_view.specs.StateLines.{state_lines, told}
-use Rattle.net_view.proofs.Transcripts.{heard, read, read_after, member, members, welcome, joined, with_bob}
+use Rattle.net_view.proofs.Transcripts.{heard, read, read_after, member, members, welcome, joined}
+use Rattle.net_view.proofs.Transcripts.{with_bob}
 
 -- ranks go along with a NICK, and a MODE finds them under the new one
 abbrev ranks_go_along : List Reading

@@ -15,7 +15,8 @@ use Rattle.net_view.specs.Presence.{says_on}
 use Rattle.net_view.specs.Members.{says_member}
 use Rattle.net_view.specs.Facts.{says_spelling}
 use Rattle.net_view.specs.View.{Channel, Person, View}
-use Rattle.net_view.specs.Step.{standing_of, old_mode, old_member, had_rank, channel_from, channel_after, channels_after, is_seen, known_after}
+use Rattle.net_view.specs.Step.{standing_of, old_mode, old_member, had_rank, channel_from}
+use Rattle.net_view.specs.Step.{channel_after, channels_after, is_seen, known_after}
 use Rattle.net_view.specs.Readers.{known_at}
 use Rattle.net_view.specs.Sound.{rank_limit, IsSpelling, IsFilled, IsKept, IsSoundChannel, IsSound}
 use Rattle.net_view.proofs.Tests.{no_true}

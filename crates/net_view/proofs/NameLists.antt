@@ -1,5 +1,6 @@
 -- A name list tells what its parts tell one after the other.
-use Rattle.std.specs.Prelude.{◌≡◌, ℕ, Bool, true, false, cond, ◌&&◌, ◌||◌, List, [], ◌∷◌, ◌++◌, is_some}
+use Rattle.std.specs.Prelude.{◌≡◌, ℕ, Bool, true, false, cond, ◌&&◌, ◌||◌, List, [], ◌∷◌, ◌++◌}
+use Rattle.std.specs.Prelude.{is_some}
 use Rattle.std.specs.Option.{option_or, option_and_then, option_map, unwrap_or}
 use Rattle.std.specs.Cmp.{nat_cmp_total}
 use Rattle.std.specs.Cmp.Lexicographic.{nat_list_cmp_total}
@@ -16,12 +17,16 @@ use Rattle.net_view.specs.LookBack.{last_in}
 use Rattle.net_view.specs.Members.{lists, rank_in_listing}
 use Rattle.net_view.specs.Facts.{spelled_in}
 use Rattle.net_view.specs.View.{Channel, Person, View, view_of}
-use Rattle.net_view.specs.Step.{standing_of, old_member, had_rank, member_after, channel_from, channel_after, channels_after, is_seen, person_from, people_after, after_told, after}
+use Rattle.net_view.specs.Step.{standing_of, old_member, had_rank, member_after, channel_from}
+use Rattle.net_view.specs.Step.{channel_after, channels_after, is_seen, person_from, people_after}
+use Rattle.net_view.specs.Step.{after_told, after}
 use Rattle.net_view.specs.Sound.{IsSound}
 use Rattle.net_view.proofs.Tests.{no_true, unwrap_or_or, any_append, none_of_is_some}
 use Rattle.net_view.proofs.Keys.{bytes_exact, same_refl}
 use Rattle.net_view.proofs.RankSets.{has-ranks, ranks_alike}
-use Rattle.net_view.proofs.AfterMaps.{get-channels_after, get-modes_after, get-members_after, contains-members_after, get-people_after, seen_in, seen_somewhere}
+use Rattle.net_view.proofs.AfterMaps.{get-channels_after, get-modes_after, get-members_after}
+use Rattle.net_view.proofs.AfterMaps.{contains-members_after, get-people_after, seen_in}
+use Rattle.net_view.proofs.AfterMaps.{seen_somewhere}
 use Rattle.net_view.proofs.StepLaw.{view_step}
 use Rattle.net_view.proofs.SoundStep.{view_sound}
 

@@ -14,15 +14,20 @@ use Rattle.net_view.specs.LookBack.{name_before}
 use Rattle.net_view.specs.Presence.{says_on}
 use Rattle.net_view.specs.Members.{says_member, says_rank}
 use Rattle.net_view.specs.View.{Channel, Person, View}
-use Rattle.net_view.specs.Step.{standing_of, old_member, had_rank, channel_from, channels_after, is_seen, person_from, after_told}
+use Rattle.net_view.specs.Step.{standing_of, old_member, had_rank, channel_from, channels_after}
+use Rattle.net_view.specs.Step.{is_seen, person_from, after_told}
 use Rattle.net_view.specs.Readers.{known_at}
 use Rattle.net_view.specs.Sound.{IsSpelling, IsFilled, IsKept, IsSoundChannel, IsSound}
-use Rattle.net_view.proofs.AfterMaps.{get-channels_after, get-modes_after, get-members_after, contains-members_after, get-people_after, seen_in}
+use Rattle.net_view.proofs.AfterMaps.{get-channels_after, get-modes_after, get-members_after}
+use Rattle.net_view.proofs.AfterMaps.{contains-members_after, get-people_after, seen_in}
 use Rattle.net_view.proofs.PartsSound.{IsSoundTold}
 use Rattle.net_view.proofs.Holds.{for_some, if_some, of_test}
-use Rattle.net_view.proofs.ChannelSound.{begun_or_kept, begun_name, settings_kept, ready_kept, settings_begun, ready_begun, topic_sound, modes_sound, ranks_sound}
+use Rattle.net_view.proofs.ChannelSound.{begun_or_kept, begun_name, settings_kept, ready_kept}
+use Rattle.net_view.proofs.ChannelSound.{settings_begun, ready_begun, topic_sound, modes_sound}
+use Rattle.net_view.proofs.ChannelSound.{ranks_sound}
 use Rattle.net_view.proofs.OwnSound.{we_stay, we_begin}
-use Rattle.net_view.proofs.MembersSpelled.{mapped, some_and, there_is, old_topic, old_modes, RanksWithin, old_ranks, seen_is_spelled}
+use Rattle.net_view.proofs.MembersSpelled.{mapped, some_and, there_is, old_topic, old_modes}
+use Rattle.net_view.proofs.MembersSpelled.{RanksWithin, old_ranks, seen_is_spelled}
 
 -- ---- a channel after the item
 

@@ -1,5 +1,6 @@
 -- We stay a member of the channels that we are on, under whatever nick.
-use Rattle.std.specs.Prelude.{◌≡◌, Bool, true, false, cond, not, ◌&&◌, ◌||◌, IfSome, IsSomeAnd, is_some}
+use Rattle.std.specs.Prelude.{◌≡◌, Bool, true, false, cond, not, ◌&&◌, ◌||◌, IfSome, IsSomeAnd}
+use Rattle.std.specs.Prelude.{is_some}
 use Rattle.std.specs.Option.{option_and_then, unwrap_or}
 use Rattle.std.specs.FinMap as fin
 use Rattle.std.proofs.Common.{Option, Some, None, refl, sym, ap, ◌∙◌, subst, List}
@@ -9,7 +10,8 @@ use Rattle.irc_support.specs.Text.{Text}
 use Rattle.irc_support.specs.Tokens.{Token}
 use Rattle.irc_support.specs.Settings.{key_by}
 use Rattle.net_view.specs.Names.{same, Name}
-use Rattle.net_view.specs.Told.{Told, Welcomed, Joined, Parted, Kicked, Quits, Renamed, Present, Disconnected}
+use Rattle.net_view.specs.Told.{Told, Welcomed, Joined, Parted, Kicked, Quits, Renamed, Present}
+use Rattle.net_view.specs.Told.{Disconnected}
 use Rattle.net_view.specs.Transcript.{Standing, is_us, own_after}
 use Rattle.net_view.specs.LookBack.{name_before}
 use Rattle.net_view.specs.Presence.{begins, ends}

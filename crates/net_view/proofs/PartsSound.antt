@@ -1,5 +1,6 @@
 -- What the parts of a line give is well formed.
-use Rattle.std.specs.Prelude.{◌≡◌, ℕ, ◌<◌, Bool, true, false, cond, ◌&&◌, ◌||◌, ◌==◌, IfSome, List, [], ◌∷◌, length, ⊤}
+use Rattle.std.specs.Prelude.{◌≡◌, ℕ, ◌<◌, Bool, true, false, cond, ◌&&◌, ◌||◌, ◌==◌, IfSome, List}
+use Rattle.std.specs.Prelude.{[], ◌∷◌, length, ⊤}
 use Rattle.std.specs.List.{AllByRecursion, filter_map, cons_option, range_with_len}
 use Rattle.std.specs.Option.{option_and_then, option_map, option_map_or, unwrap_or}
 use Rattle.std.proofs.Common.{Option, Some, None, refl, sym, ap, ◌∙◌, subst, codes}
@@ -19,8 +20,10 @@ use Rattle.irc_support.specs.declared.kind.Kind.{Kind}
 use Rattle.irc_support.specs.declared.kind.Kind.TheVariants.{Prefix, A, B, C, D, Unknown}
 use Rattle.irc_support.proofs.RankPlaces.{ranking_of-is}
 use Rattle.net_view.specs.Names.{same, Name, name_of, nameable}
-use Rattle.net_view.specs.Told.{Told, LetterChange, ModeChange, Listing, Welcomed, Joined, Renamed, Changed, Listed, Titled, Present, HasAccount, IsAway}
-use Rattle.net_view.specs.StateLines.{actor_nick, actor, unless_empty, account_said, letter_change, word_param, setting_by, mode_change, listing}
+use Rattle.net_view.specs.Told.{Told, LetterChange, ModeChange, Listing, Welcomed, Joined, Renamed}
+use Rattle.net_view.specs.Told.{Changed, Listed, Titled, Present, HasAccount, IsAway}
+use Rattle.net_view.specs.StateLines.{actor_nick, actor, unless_empty, account_said, letter_change}
+use Rattle.net_view.specs.StateLines.{word_param, setting_by, mode_change, listing}
 use Rattle.net_view.specs.Sound.{rank_limit, IsFilled, IsAccount, IsKept}
 use Rattle.net_view.proofs.Tests.{no_true}
 use Rattle.net_view.proofs.Keys.{same_refl}

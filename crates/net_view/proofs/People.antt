@@ -15,9 +15,11 @@ use Rattle.net_view.specs.Members.{says_member, is_member, rank_decided}
 use Rattle.net_view.specs.Named.{named, people_in, channels_in}
 use Rattle.net_view.specs.Facts.{Says, in_sight, known, says_spelling, says_account, says_away}
 use Rattle.net_view.specs.Table.{table_gets}
-use Rattle.net_view.specs.View.{Channel, Person, channel_named, channel_of, channels_of, known_of, person_of, people_of}
+use Rattle.net_view.specs.View.{Channel, Person, channel_named, channel_of, channels_of, known_of}
+use Rattle.net_view.specs.View.{person_of, people_of}
 use Rattle.net_view.specs.Step.{old_member, is_seen, members_at}
-use Rattle.net_view.proofs.Tests.{absent, any_false, both_or_neither, not_false, false_true, is_some_when, is_some_map, and_false}
+use Rattle.net_view.proofs.Tests.{absent, any_false, both_or_neither, not_false, false_true}
+use Rattle.net_view.proofs.Tests.{is_some_when, is_some_map, and_false}
 use Rattle.net_view.proofs.Keys.{bytes_exact, any_moved}
 use Rattle.net_view.proofs.Covers.{covers_on, covers_member}
 use Rattle.net_view.proofs.Channels.{members_get, channels_get}

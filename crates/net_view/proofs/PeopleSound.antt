@@ -1,12 +1,14 @@
 -- What is known of a person is sound after one more item, and each member is spelled.
-use Rattle.std.specs.Prelude.{◌≡◌, Bool, true, false, cond, not, ◌&&◌, ◌||◌, IfSome, IsSomeAnd, is_some, List, [], ◌∷◌}
+use Rattle.std.specs.Prelude.{◌≡◌, Bool, true, false, cond, not, ◌&&◌, ◌||◌, IfSome, IsSomeAnd}
+use Rattle.std.specs.Prelude.{is_some, List, [], ◌∷◌}
 use Rattle.std.specs.Option.{option_or, option_map, unwrap_or}
 use Rattle.std.proofs.Common.{Option, Some, None, refl, sym, ap, ◌∙◌}
 use Rattle.std.proofs.lemmas.Option.{same_Some}
 use Rattle.irc_support.specs.Text.{Text}
 use Rattle.irc_support.specs.Tokens.{Token}
 use Rattle.net_view.specs.Names.{same, Name}
-use Rattle.net_view.specs.Told.{Told, Listing, Welcomed, Joined, Parted, Kicked, Quits, Renamed, Present, HasAccount, IsAway, Disconnected}
+use Rattle.net_view.specs.Told.{Told, Listing, Welcomed, Joined, Parted, Kicked, Quits, Renamed}
+use Rattle.net_view.specs.Told.{Present, HasAccount, IsAway, Disconnected}
 use Rattle.net_view.specs.LookBack.{last_in, counts, name_before}
 use Rattle.net_view.specs.Presence.{begins}
 use Rattle.net_view.specs.Members.{lists, joins_as, said_of_member, says_member}

@@ -15,7 +15,8 @@ use Rattle.net_view.specs.View.{Person, channels_of, person_of, people_of}
 use Rattle.net_view.specs.Step.{person_from, known_after, person_after, people_after}
 use Rattle.net_view.proofs.Tests.{when}
 use Rattle.net_view.proofs.Keys.{bytes_exact}
-use Rattle.net_view.proofs.People.{contains-channels, sight_seen, sight_none, person_none, people_get, seen_none, spelling_field, account_field, away_field}
+use Rattle.net_view.proofs.People.{contains-channels, sight_seen, sight_none, person_none}
+use Rattle.net_view.proofs.People.{people_get, seen_none, spelling_field, account_field, away_field}
 
 known_step : (says : Says) (field : Person
     → Option Text) (x : Reading) (older : List Reading) (n : Text) →

@@ -1,5 +1,6 @@
 -- What the lines of each command can tell.
-use Rattle.std.specs.Prelude.{◌≡◌, ℕ, suc, Bool, true, false, cond, IfSome, List, [], ◌∷◌, drop, slice_get}
+use Rattle.std.specs.Prelude.{◌≡◌, ℕ, suc, Bool, true, false, cond, IfSome, List, [], ◌∷◌, drop}
+use Rattle.std.specs.Prelude.{slice_get}
 use Rattle.std.specs.Option.{option_and_then, option_map, unwrap_or}
 use Rattle.std.proofs.Common.{Option, Some, None, codes, refl, ap, ◌∙◌, subst}
 use Rattle.irc_line.specs.Line.{Parts, has_command}
@@ -10,9 +11,14 @@ use Rattle.irc_support.specs.Settings.{is_channel, key_by}
 use Rattle.irc_support.specs.ModeChanges.{changes}
 use Rattle.irc_support.specs.Line.{changes_in}
 use Rattle.net_view.specs.Names.{Name, name_of, nameable}
-use Rattle.net_view.specs.Told.{Told, Silent, Welcomed, Supports, Settles, Joined, Parted, Kicked, Quits, Renamed, Titled, HasAccount, IsAway}
+use Rattle.net_view.specs.Told.{Told, Silent, Welcomed, Supports, Settles, Joined, Parted, Kicked}
+use Rattle.net_view.specs.Told.{Quits, Renamed, Titled, HasAccount, IsAway}
 use Rattle.net_view.specs.Arrival.{Received}
-use Rattle.net_view.specs.StateLines.{StateLine, state_lines, told, told_by, with, actor, account_said, told_by_welcome, told_by_join, told_by_part, told_by_kick, told_by_quit, told_by_nick, told_by_mode, told_by_mode_reply, told_by_topic_at, told_by_no_topic, told_by_names, told_by_account, told_by_away, unless_empty}
+use Rattle.net_view.specs.StateLines.{StateLine, state_lines, told, told_by, with, actor}
+use Rattle.net_view.specs.StateLines.{account_said, told_by_welcome, told_by_join, told_by_part}
+use Rattle.net_view.specs.StateLines.{told_by_kick, told_by_quit, told_by_nick, told_by_mode}
+use Rattle.net_view.specs.StateLines.{told_by_mode_reply, told_by_topic_at, told_by_no_topic}
+use Rattle.net_view.specs.StateLines.{told_by_names, told_by_account, told_by_away, unless_empty}
 use Rattle.net_view.proofs.Holds.{of_next, of_test}
 use Rattle.net_view.proofs.Commands.{has_command-named, told-unread}
 

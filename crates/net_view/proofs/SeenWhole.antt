@@ -11,7 +11,8 @@ use Rattle.net_view.specs.Arrival.{Arrival}
 use Rattle.net_view.specs.Transcript.{readings_of}
 use Rattle.net_view.specs.Table.{table}
 use Rattle.net_view.specs.View.{Channel, Person, view_of}
-use Rattle.net_view.specs.Seen.{all_caps, kept_person, kept_by, Shown, thinned_ranks, thinned_channel, thinned_channels, was_shown, seen_since}
+use Rattle.net_view.specs.Seen.{all_caps, kept_person, kept_by, Shown, thinned_ranks}
+use Rattle.net_view.specs.Seen.{thinned_channel, thinned_channels, was_shown, seen_since}
 use Rattle.net_view.proofs.Keys.{bytes_exact}
 use Rattle.net_view.proofs.FormSound.{view_ranked}
 use Rattle.net_view.proofs.Thinned.{get-thinned_channels, get-thinned_members, get-kept}

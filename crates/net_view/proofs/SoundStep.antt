@@ -1,5 +1,6 @@
 -- Every network view is sound, by induction on the transcript.
-use Rattle.std.specs.Prelude.{◌≡◌, Bool, true, false, cond, IfSome, IsSomeAnd, is_some, List, [], ◌∷◌, ◌++◌, reverse}
+use Rattle.std.specs.Prelude.{◌≡◌, Bool, true, false, cond, IfSome, IsSomeAnd, is_some, List, []}
+use Rattle.std.specs.Prelude.{◌∷◌, ◌++◌, reverse}
 use Rattle.std.specs.Option.{ForSome, option_and_then, option_map, unwrap_or}
 use Rattle.std.specs.List.{list_any}
 use Rattle.std.specs.Cmp.Lexicographic.{nat_list_cmp_total}
@@ -19,7 +20,9 @@ use Rattle.net_view.specs.Facts.{says_spelling, says_account, says_away}
 use Rattle.net_view.specs.Named.{channels_in}
 use Rattle.net_view.specs.Table.{table, same_tables}
 use Rattle.net_view.specs.View.{Channel, Person, View, empty_view, view_back, view_of}
-use Rattle.net_view.specs.Step.{standing_of, old_member, channel_from, channel_after, channels_after, is_seen, known_after, person_from, people_after, after_told, after}
+use Rattle.net_view.specs.Step.{standing_of, old_member, channel_from, channel_after}
+use Rattle.net_view.specs.Step.{channels_after, is_seen, known_after, person_from, people_after}
+use Rattle.net_view.specs.Step.{after_told, after}
 use Rattle.net_view.specs.Sound.{IsSpelling, IsFilled, IsAccount, IsSoundPerson, IsSound}
 use Rattle.net_view.proofs.Tests.{no_true, is_some_when}
 use Rattle.net_view.proofs.Keys.{bytes_exact}

@@ -9,11 +9,13 @@ use Rattle.net_view.specs.Told.{Silent}
 use Rattle.net_view.specs.Arrival.{Arrival, Received, Lost}
 use Rattle.net_view.specs.StateLines.{told, is_state_item}
 use Rattle.net_view.proofs.Commands.{told-unread}
-use Rattle.net_view.specs.Transcript.{Standing, standing, standing_after, Reading, readings_of, ours}
+use Rattle.net_view.specs.Transcript.{Standing, standing, standing_after, Reading, readings_of}
+use Rattle.net_view.specs.Transcript.{ours}
 use Rattle.net_view.specs.Named.{named, people_in}
 use Rattle.net_view.specs.Facts.{in_sight, known, says_spelling, says_account, says_away}
 use Rattle.net_view.specs.Table.{table}
-use Rattle.net_view.specs.View.{Person, View, channels_of, person_of, people_of, view_back, view_of, empty_view}
+use Rattle.net_view.specs.View.{Person, View, channels_of, person_of, people_of, view_back, view_of}
+use Rattle.net_view.specs.View.{empty_view}
 use Rattle.net_view.specs.Step.{people_after, after}
 use Rattle.net_view.proofs.Tests.{no_true}
 use Rattle.net_view.proofs.ChannelStep.{channels_step}

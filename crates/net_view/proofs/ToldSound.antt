@@ -1,5 +1,6 @@
 -- What each line tells is well formed, whichever lines the views read.
-use Rattle.std.specs.Prelude.{ℕ, suc, ◌<◌, Bool, true, false, cond, IfSome, List, [], ◌∷◌, slice_get, drop, map}
+use Rattle.std.specs.Prelude.{ℕ, suc, ◌<◌, Bool, true, false, cond, IfSome, List, [], ◌∷◌}
+use Rattle.std.specs.Prelude.{slice_get, drop, map}
 use Rattle.std.specs.List.{filter_map, cons_option}
 use Rattle.std.specs.Option.{option_map, unwrap_or}
 use Rattle.std.proofs.Common.{Option, Some, None, refl, codes}
@@ -11,11 +12,20 @@ use Rattle.irc_support.specs.Settings.{key_by, is_channel}
 use Rattle.irc_support.specs.ModeChanges.{ChangeParts, changes}
 use Rattle.irc_support.specs.NamesReply.{words, word_of, words_between}
 use Rattle.net_view.specs.Names.{Name, name_of, nameable}
-use Rattle.net_view.specs.Told.{Told, LetterChange, Silent, Welcomed, Settles, Joined, Parted, Kicked, Quits, Renamed, HasAccount, IsAway}
+use Rattle.net_view.specs.Told.{Told, LetterChange, Silent, Welcomed, Settles, Joined, Parted}
+use Rattle.net_view.specs.Told.{Kicked, Quits, Renamed, HasAccount, IsAway}
 use Rattle.net_view.specs.Arrival.{Arrival, Received, Lost}
-use Rattle.net_view.specs.StateLines.{told_by_welcome, told_by_join, told_by_part, told_by_kick, told_by_quit, told_by_nick, told_by_mode, told_by_mode_reply, told_by_topic_at, told_by_no_topic, told_by_names, told_by_account, told_by_away, with, actor, or_silent, unless_empty, account_said, letter_change, mode_change, listing, state_lines, told}
+use Rattle.net_view.specs.StateLines.{told_by_welcome, told_by_join, told_by_part, told_by_kick}
+use Rattle.net_view.specs.StateLines.{told_by_quit, told_by_nick, told_by_mode, told_by_mode_reply}
+use Rattle.net_view.specs.StateLines.{told_by_topic_at, told_by_no_topic, told_by_names}
+use Rattle.net_view.specs.StateLines.{told_by_account, told_by_away, with, actor, or_silent}
+use Rattle.net_view.specs.StateLines.{unless_empty, account_said, letter_change, mode_change}
+use Rattle.net_view.specs.StateLines.{listing, state_lines, told}
 use Rattle.net_view.specs.Sound.{rank_limit, IsFilled, IsAccount}
-use Rattle.net_view.proofs.PartsSound.{IsSoundName, IsSoundListing, Each, IsSoundMode, IsSoundTold, each_found, then_sound, map_sound, or_sound, when_sound, nameable_sound, actor_sound, filled_sound, account_sound, mode_sound, letter_sound, listing_sound}
+use Rattle.net_view.proofs.PartsSound.{IsSoundName, IsSoundListing, Each, IsSoundMode, IsSoundTold}
+use Rattle.net_view.proofs.PartsSound.{each_found, then_sound, map_sound, or_sound, when_sound}
+use Rattle.net_view.proofs.PartsSound.{nameable_sound, actor_sound, filled_sound, account_sound}
+use Rattle.net_view.proofs.PartsSound.{mode_sound, letter_sound, listing_sound}
 
 -- ---- lines
 

@@ -26,7 +26,8 @@ abbrev pub read_after : List Text → List Text → List Reading
 read_after before lines = newest lines (read (before ++ lines))
 
 -- the ranks, spelling, account and away text of a member
-abbrev pub member : List Reading → Text → Text → Option (List ℕ × Option Text × Option Text × Option Text)
+abbrev pub member : List Reading → Text → Text
+    → Option (List ℕ × Option Text × Option Text × Option Text)
 member rs c n = if is_member rs c n then Some (ranks_that (rank_decided rs c n), spelling_of rs n, account_of rs n, away_of rs n) else None
 
 -- whom of these a channel has

@@ -1,5 +1,6 @@
 -- What being ready and what a name is worth.
-use Rattle.std.specs.Prelude.{◌≡◌, ◌≢◌, Bool, true, false, cond, not, ◌||◌, is_some, List, [], ◌∷◌, ◌++◌, reverse}
+use Rattle.std.specs.Prelude.{◌≡◌, ◌≢◌, Bool, true, false, cond, not, ◌||◌, is_some, List, [], ◌∷◌}
+use Rattle.std.specs.Prelude.{◌++◌, reverse}
 use Rattle.std.specs.Option.{option_and_then, unwrap_or}
 use Rattle.std.specs.FinMap as fin
 use Rattle.std.proofs.Common.{Option, Some, None, refl, sym, ap, ◌∙◌}
@@ -9,7 +10,8 @@ use Rattle.net_view.specs.Names.{same, Name}
 use Rattle.net_view.specs.Told.{Told, Welcomed, Supports, Settles, Joined, Quits, Renamed}
 use Rattle.net_view.specs.Arrival.{Arrival}
 use Rattle.net_view.specs.StateLines.{told}
-use Rattle.net_view.specs.Transcript.{Standing, is_us, ready_after, settings_after, standing_after, readings_of}
+use Rattle.net_view.specs.Transcript.{Standing, is_us, ready_after, settings_after, standing_after}
+use Rattle.net_view.specs.Transcript.{readings_of}
 use Rattle.net_view.specs.LookBack.{last, counts, name_before, name_traced}
 use Rattle.net_view.specs.Presence.{says_on, name_on}
 use Rattle.net_view.specs.Found.{IsSaidLast}

@@ -1,6 +1,8 @@
 -- How many names kept lines bring up.
-use Rattle.std.specs.Prelude.{◌≡◌, ℕ, suc, ◌+◌, ◌^◌, ◌<◌, ◌≤◌, List, [], ◌∷◌, ◌++◌, true, map, length, Bool, false, cond}
-use Rattle.std.proofs.Common.{Option, Some, None, Result, Ok, Err, refl, sym, ap, ◌∙◌, arith, length-append, subst}
+use Rattle.std.specs.Prelude.{◌≡◌, ℕ, suc, ◌+◌, ◌^◌, ◌<◌, ◌≤◌, List, [], ◌∷◌, ◌++◌, true, map}
+use Rattle.std.specs.Prelude.{length, Bool, false, cond}
+use Rattle.std.proofs.Common.{Option, Some, None, Result, Ok, Err, refl, sym, ap, ◌∙◌, arith}
+use Rattle.std.proofs.Common.{length-append, subst}
 use Rattle.std.specs.Option.{SomeIff, ok_or}
 use Rattle.tape_view.specs.declared.places.Table.{Table}
 use Rattle.tape_view.specs.declared.places.Table.TheVariants.{Channels, Members}

@@ -1,5 +1,6 @@
 -- The letters of a channel's modes by place: those that are on, found among what the lines list.
-use Rattle.std.specs.Prelude.{◌≡◌, ℕ, Bool, true, false, cond, not, List, is_some, ◌+◌, ◌≤◌, ◌||◌, [], ◌∷◌, map}
+use Rattle.std.specs.Prelude.{◌≡◌, ℕ, Bool, true, false, cond, not, List, is_some, ◌+◌, ◌≤◌, ◌||◌}
+use Rattle.std.specs.Prelude.{[], ◌∷◌, map}
 use Rattle.std.specs.List.{list_any, cons_option, filter_map}
 use Rattle.std.specs.Option.{unwrap_or, option_map, option_or}
 use Rattle.std.specs.Ordering.{nat_cmp, eq_by_cmp}

@@ -1,5 +1,6 @@
 -- What the words of a name list say of one person, and how many there are.
-use Rattle.std.specs.Prelude.{◌≡◌, ℕ, suc, Bool, true, false, cond, ◌&&◌, ◌||◌, List, [], ◌∷◌, map, length, is_some}
+use Rattle.std.specs.Prelude.{◌≡◌, ℕ, suc, Bool, true, false, cond, ◌&&◌, ◌||◌, List, [], ◌∷◌, map}
+use Rattle.std.specs.Prelude.{length, is_some}
 use Rattle.std.specs.List.{cons_option, filter_map, list_any}
 use Rattle.std.specs.Option.{option_and_then, option_map, option_or}
 use Rattle.std.proofs.Common.{Option, Some, None, refl, ap, ◌∙◌, sym}

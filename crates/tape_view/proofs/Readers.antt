@@ -1,5 +1,6 @@
 -- What a view shows at a place, by the key that stands there on the tape.
-use Rattle.std.specs.Prelude.{◌≡◌, ℕ, Bool, true, false, cond, IsSomeAnd, List, length, is_some, slice_get}
+use Rattle.std.specs.Prelude.{◌≡◌, ℕ, Bool, true, false, cond, IsSomeAnd, List, length, is_some}
+use Rattle.std.specs.Prelude.{slice_get}
 use Rattle.std.specs.Option.{option_and_then, option_map, option_map_or, unwrap_or}
 use Rattle.std.specs.FinMap as fin
 use Rattle.std.specs.Cmp.{nat_cmp_total}
@@ -14,8 +15,10 @@ use Rattle.net_view.specs.Presence.{is_on, name_on}
 use Rattle.net_view.specs.Members.{is_member, rank_decided}
 use Rattle.net_view.specs.Modes.{mode_of}
 use Rattle.net_view.specs.Facts.{spelling_of, account_of, away_of}
-use Rattle.net_view.specs.View.{Channel, Person, channel_named, channel_of, channels_of, members_of, modes_of, view_back}
-use Rattle.net_view.specs.Readers.{MemberParts, channel_shown, known_at, member_parts, member_shown, members_shown, mode_shown}
+use Rattle.net_view.specs.View.{Channel, Person, channel_named, channel_of, channels_of, members_of}
+use Rattle.net_view.specs.View.{modes_of, view_back}
+use Rattle.net_view.specs.Readers.{MemberParts, channel_shown, known_at, member_parts, member_shown}
+use Rattle.net_view.specs.Readers.{members_shown, mode_shown}
 use Rattle.net_view.specs.Sound.{IsSpelling}
 use Rattle.net_view.proofs.Tests.{no_true}
 use Rattle.net_view.proofs.Keys.{bytes_exact}

@@ -1,6 +1,8 @@
 -- The last of some kept lines, and those before it.
-use Rattle.std.specs.Prelude.{◌≡◌, ◌+◌, ◌-◌, ◌<◌, ◌≤◌, Bool, true, false, cond, List, [], ◌∷◌, ◌++◌, take, length, get_or, is_some, not, ◌&&◌, ℕ, zero, suc, set}
-use Rattle.std.proofs.Common.{◌⊎◌, inl, inr, Option, Some, None, Bor, refl, sym, ap, ◌∙◌, arith, subst}
+use Rattle.std.specs.Prelude.{◌≡◌, ◌+◌, ◌-◌, ◌<◌, ◌≤◌, Bool, true, false, cond, List, [], ◌∷◌, ◌++◌}
+use Rattle.std.specs.Prelude.{take, length, get_or, is_some, not, ◌&&◌, ℕ, zero, suc, set}
+use Rattle.std.proofs.Common.{◌⊎◌, inl, inr, Option, Some, None, Bor, refl, sym, ap, ◌∙◌, arith}
+use Rattle.std.proofs.Common.{subst}
 use Rattle.std.proofs.lemmas.List.{reverse-append, take_more, take_all}
 use Rattle.irc_line.specs.Line.{Parts}
 use Rattle.irc_support.specs.Text.{Text}
@@ -12,7 +14,9 @@ use Rattle.net_view.specs.Told.{Told, Welcomed, Supports, Renamed}
 use Rattle.net_view.specs.Arrival.{Arrival, Received}
 use Rattle.net_view.specs.StateCommands.{state_command}
 use Rattle.net_view.specs.StateLines.{told}
-use Rattle.net_view.specs.Transcript.{Standing, standing, standing_after, settings_after, settings_of, ready_after, is_ready, own_after, own_nick, is_us, Reading, readings_of, ours}
+use Rattle.net_view.specs.Transcript.{Standing, standing, standing_after, settings_after}
+use Rattle.net_view.specs.Transcript.{settings_of, ready_after, is_ready, own_after, own_nick}
+use Rattle.net_view.specs.Transcript.{is_us, Reading, readings_of, ours}
 use Rattle.net_view.specs.Presence.{name_on, is_on}
 use Rattle.net_view.specs.Tells.{meant}
 use Rattle.net_view.specs.View.{channel_named}
@@ -22,7 +26,8 @@ use Rattle.net_view.proofs.SoundStep.{sound_back}
 use Rattle.net_view.proofs.Tests.{no_true}
 use Rattle.std.specs.Option.{option_map, option_or}
 use Rattle.tape_view.specs.Marks.{own_said, IsMarked}
-use Rattle.tape_view.specs.Kept.{with_lost, played_back, tape_of, AreMarked, IsMarkedLine, IsMarkedTape, IsReadable}
+use Rattle.tape_view.specs.Kept.{with_lost, played_back, tape_of, AreMarked, IsMarkedLine}
+use Rattle.tape_view.specs.Kept.{IsMarkedTape, IsReadable}
 use Rattle.tape_view.specs.Tape.{Heard, IsLast}
 
 pub tape_push : {A : Type 0} (front : List (Kept A)) (k : Kept A)

@@ -1,6 +1,7 @@
 -- A tape after one more item.
 use Rattle.irc_support.specs.Tokens.{Token, set_tokens}
-use Rattle.std.specs.Prelude.{◌≡◌, ◌&&◌, is_some, ℕ, ◌+◌, ◌<◌, ◌^◌, suc, Bool, true, false, List, [], ◌∷◌, ◌++◌, length, set, get_or, reverse, ◌≤◌}
+use Rattle.std.specs.Prelude.{◌≡◌, ◌&&◌, is_some, ℕ, ◌+◌, ◌<◌, ◌^◌, suc, Bool, true, false, List}
+use Rattle.std.specs.Prelude.{[], ◌∷◌, ◌++◌, length, set, get_or, reverse, ◌≤◌}
 use Rattle.std.proofs.Common.{Option, Bor, codes, cond, not, refl, sym, ap, ◌∙◌, arith, subst, Some}
 use Rattle.std.proofs.lemmas.List.{reverse-append, reverse-reverse, get_or_default}
 use Rattle.irc_line.specs.Line.{Parts, has_command}
@@ -16,7 +17,8 @@ use Rattle.net_view.specs.declared.state_line.Telling.TheVariants as telling
 use Rattle.irc_support.specs.Line as line
 use Rattle.net_view.proofs.Commands.{told_of_isupport}
 use Rattle.net_view.proofs.ReadCommands.{supports_said}
-use Rattle.net_view.specs.Transcript.{Standing, standing, own_nick, is_us, is_ready, ready_after, settings_of, settings_after}
+use Rattle.net_view.specs.Transcript.{Standing, standing, own_nick, is_us, is_ready, ready_after}
+use Rattle.net_view.specs.Transcript.{settings_of, settings_after}
 use Rattle.net_view.specs.Tells.{meant}
 use Rattle.tape_view.specs.Marks.{us_of, IsMarked}
 use Rattle.tape_view.specs.Kept.{with_lost, tape_of, AreMarked, IsMarkedLine, IsMarkedTape}

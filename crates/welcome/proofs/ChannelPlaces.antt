@@ -1,5 +1,6 @@
 -- The channels, place by place.
-use Rattle.std.proofs.Common.{◌≡◌, ℕ, ◌+◌, List, [], ◌∷◌, ◌++◌, Option, Some, None, refl, sym, ap, ◌∙◌, arith, map, take, append_assoc, append-nil}
+use Rattle.std.proofs.Common.{◌≡◌, ℕ, ◌+◌, List, [], ◌∷◌, ◌++◌, Option, Some, None, refl, sym, ap}
+use Rattle.std.proofs.Common.{◌∙◌, arith, map, take, append_assoc, append-nil}
 use Rattle.std.specs.Prelude.{option_to_list}
 use Rattle.std.specs.List.{flat_map, slice_get}
 use Rattle.std.specs.Option.{option_map, option_map_or}
@@ -15,7 +16,8 @@ use Rattle.net_view.specs.Readers.{channel_shown, channels_shown}
 use Rattle.net_view.specs.declared.channel.Channel as lend
 use Rattle.client_caps.specs.declared.caps.Caps.{Caps}
 use Rattle.welcome.specs.Rows.{is_short, rows_of}
-use Rattle.welcome.specs.Burst.{channel_lines, join_line, member_word, mode_lines, names_end, topic_lines}
+use Rattle.welcome.specs.Burst.{channel_lines, join_line, member_word, mode_lines, names_end}
+use Rattle.welcome.specs.Burst.{topic_lines}
 use Rattle.welcome.specs.Filling.{name_row}
 use Rattle.welcome.specs.Lent.{lent, members_at, modes_at}
 use Rattle.welcome.proofs.Places.{take_next}

@@ -1,5 +1,7 @@
 -- Written lines, cut off one by one.
-use Rattle.std.specs.Prelude.{◌≡◌, ℕ, zero, suc, ◌+◌, ◌<◌, true, false, not, cond, ◌==◌, IsTrue, List, [], ◌∷◌, ◌++◌, length, take, drop, nat_lt, Option, Some, None, slice_get}
+use Rattle.std.specs.Prelude.{◌≡◌, ℕ, zero, suc, ◌+◌, ◌<◌, true, false, not, cond, ◌==◌, IsTrue}
+use Rattle.std.specs.Prelude.{List, [], ◌∷◌, ◌++◌, length, take, drop, nat_lt, Option, Some, None}
+use Rattle.std.specs.Prelude.{slice_get}
 use Rattle.std.specs.List.{AllByRecursion, before_first, flat_map, position_or_len}
 use Rattle.std.specs.Option.{option_map}
 use Rattle.irc_support.specs.Text.{cut_at}

@@ -1,5 +1,6 @@
 -- Rows are full.
-use Rattle.std.specs.Prelude.{◌≡◌, ◌<◌, suc, IsTrue, Bool, true, false, cond, ◌||◌, ◌==◌, List, [], ◌∷◌, ◌++◌, length}
+use Rattle.std.specs.Prelude.{◌≡◌, ◌<◌, suc, IsTrue, Bool, true, false, cond, ◌||◌, ◌==◌, List, []}
+use Rattle.std.specs.Prelude.{◌∷◌, ◌++◌, length}
 use Rattle.std.specs.List.{AllByRecursion}
 use Rattle.std.proofs.Common.{refl, arith}
 use Rattle.irc_support.specs.Text.{Text}

@@ -1,5 +1,6 @@
 -- The members of a channel, place by place.
-use Rattle.std.proofs.Common.{◌≡◌, ℕ, ◌+◌, Bool, List, [], ◌∷◌, ◌++◌, Option, Some, None, refl, ap, ◌∙◌, map, take, length, append-nil, arith}
+use Rattle.std.proofs.Common.{◌≡◌, ℕ, ◌+◌, Bool, List, [], ◌∷◌, ◌++◌, Option, Some, None, refl, ap}
+use Rattle.std.proofs.Common.{◌∙◌, map, take, length, append-nil, arith}
 use Rattle.std.specs.Prelude.{option_to_list}
 use Rattle.std.specs.List.{slice_get}
 use Rattle.std.specs.Option.{option_and_then, option_map, option_map_or}
@@ -7,7 +8,8 @@ use Rattle.std.specs.FinMap.{entries}
 use Rattle.std.proofs.lemmas.List.{map-append, take_all}
 use Rattle.irc_support.specs.Text.{Text}
 use Rattle.net_view.specs.View.{Channel, View}
-use Rattle.net_view.specs.Readers.{MemberParts, channel_shown, member_parts, member_shown, members_shown}
+use Rattle.net_view.specs.Readers.{MemberParts, channel_shown, member_parts, member_shown}
+use Rattle.net_view.specs.Readers.{members_shown}
 use Rattle.irc_support.specs.Written.{symbols_of}
 use Rattle.client_caps.specs.Images.{ranks_shown}
 use Rattle.welcome.specs.Burst.{member_word}

@@ -1,5 +1,6 @@
 -- The persons of the channels, place by place.
-use Rattle.std.proofs.Common.{◌≡◌, ℕ, ◌+◌, List, [], ◌∷◌, ◌++◌, Option, Some, None, refl, ap, ◌∙◌, map, take, length, append-nil, arith}
+use Rattle.std.proofs.Common.{◌≡◌, ℕ, ◌+◌, List, [], ◌∷◌, ◌++◌, Option, Some, None, refl, ap, ◌∙◌}
+use Rattle.std.proofs.Common.{map, take, length, append-nil, arith}
 use Rattle.std.specs.Prelude.{option_to_list}
 use Rattle.std.specs.List.{flat_map, slice_get}
 use Rattle.std.specs.Option.{option_map, option_map_or}
@@ -8,7 +9,8 @@ use Rattle.std.proofs.lemmas.List.{map-append, take_all}
 use Rattle.std.proofs.lemmas.Grind.{flat_map-append}
 use Rattle.irc_support.specs.Text.{Text}
 use Rattle.net_view.specs.View.{Channel, Person, View}
-use Rattle.net_view.specs.Readers.{MemberParts, channels_shown, member_parts, member_shown, members_shown}
+use Rattle.net_view.specs.Readers.{MemberParts, channels_shown, member_parts, member_shown}
+use Rattle.net_view.specs.Readers.{members_shown}
 use Rattle.welcome.specs.Lent.{members_at, person_shown, persons_at, persons_on_channels}
 use Rattle.welcome.proofs.Places.{take_next}
 use Rattle.welcome.proofs.MemberPlaces.{member_here, members_count}

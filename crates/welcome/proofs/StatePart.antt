@@ -1,5 +1,6 @@
 -- The state part as bytes.
-use Rattle.std.proofs.Common.{◌≡◌, ℕ, Bool, true, false, not, List, [], ◌∷◌, ◌++◌, length, map, refl, sym, ap, subst, ◌∙◌, append_assoc}
+use Rattle.std.proofs.Common.{◌≡◌, ℕ, Bool, true, false, not, List, [], ◌∷◌, ◌++◌, length, map}
+use Rattle.std.proofs.Common.{refl, sym, ap, subst, ◌∙◌, append_assoc}
 use Rattle.std.specs.List.{flat_map}
 use Rattle.std.specs.FinMap as fin
 use Rattle.irc_line.specs.Line.{Parts}
@@ -12,7 +13,8 @@ use Rattle.net_view.specs.Written.{AreWritten}
 use Rattle.client_caps.specs.declared.caps.Caps.{Caps}
 use Rattle.welcome.specs.Packets.{AreLines, IsPacket}
 use Rattle.welcome.specs.declared.persons.Person as lend
-use Rattle.welcome.specs.Burst.{channel_lines, greeting_of, no_motd, person_lines, settings_lines, state_part_of}
+use Rattle.welcome.specs.Burst.{channel_lines, greeting_of, no_motd, person_lines, settings_lines}
+use Rattle.welcome.specs.Burst.{state_part_of}
 use Rattle.welcome.specs.Filling.{network_lines}
 use Rattle.welcome.specs.Lent.{person_lent}
 use Rattle.welcome.proofs.PacketBytes.{is_packet, lines_back}

@@ -1,10 +1,12 @@
 -- The rows of tokens, place by place.
-use Rattle.std.proofs.Common.{◌≡◌, ℕ, ◌+◌, ◌-◌, ◌≤◌, Bool, true, false, cond, List, [], ◌∷◌, ◌++◌, Option, Some, refl, sym, ap, subst, ◌∙◌}
-use Rattle.std.proofs.Common.{arith, map, take, drop, length, append_assoc, length-append}
+use Rattle.std.proofs.Common.{◌≡◌, ℕ, ◌+◌, ◌-◌, ◌≤◌, Bool, true, false, cond, List, [], ◌∷◌, ◌++◌}
+use Rattle.std.proofs.Common.{Option, Some, refl, sym, ap, subst, ◌∙◌, arith, map, take, drop}
+use Rattle.std.proofs.Common.{length, append_assoc, length-append}
 use Rattle.std.specs.Prelude.{codes, slice_range, nat_le, nat_lt, nat_eq, ◌&&◌, option_to_list}
 use Rattle.std.specs.List.{flat_map, join_with_byte, slice_get}
 use Rattle.std.proofs.lemmas.Bool.Decides.{nat_tests}
-use Rattle.std.proofs.lemmas.List.{map-append, take_all, length-drop, length-take-le, drop-append-le, take-map, drop-map, drop-take}
+use Rattle.std.proofs.lemmas.List.{map-append, take_all, length-drop, length-take-le}
+use Rattle.std.proofs.lemmas.List.{drop-append-le, take-map, drop-map, drop-take}
 use Rattle.irc_line.specs.Line.{Parts}
 use Rattle.irc_line.specs.Writing.{written}
 use Rattle.irc_support.specs.Text.{Text}
@@ -13,7 +15,8 @@ use Rattle.welcome.specs.Rows.{is_token_row, rows_of}
 use Rattle.irc_support.specs.Written.{token_text}
 use Rattle.client_caps.specs.Answers.{from_bouncer}
 use Rattle.welcome.proofs.Places.{take_next}
-use Rattle.welcome.proofs.Filled.{Filled, closed_said, fill, full_open, goes_on, is_open, join_on, line_on, put, room, rows_filled}
+use Rattle.welcome.proofs.Filled.{Filled, closed_said, fill, full_open, goes_on, is_open, join_on}
+use Rattle.welcome.proofs.Filled.{line_on, put, room, rows_filled}
 
 -- the tokens before the next place
 pub texts_next : (settings : List Token) (i : ℕ) (o : Option Token) → o ≡ slice_get settings i

@@ -1,4 +1,5 @@
-use Rattle.client_caps.proofs.WhatImagesAre.{untagged, tagged, same_source, same_command, same_params, joined_params, is_sent}
+use Rattle.client_caps.proofs.WhatImagesAre.{untagged, tagged, same_source, same_command}
+use Rattle.client_caps.proofs.WhatImagesAre.{same_params, joined_params, is_sent}
 use Rattle.client_caps.proofs.what_images_are.Goals as goal
 
 pub returns-clause-untagged : goal.returns-clause-untagged

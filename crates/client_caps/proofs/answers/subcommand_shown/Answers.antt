@@ -1,6 +1,6 @@
 use Rattle.std.proofs.Common.{sym, ◌∙◌}
 use Rattle.client_caps.proofs.AnswerTexts.{param_is_clean}
-use Rattle.client_caps.proofs.ImageWritten.{same_words}
+use Rattle.client_caps.proofs.PartsWritten.{same_words}
 use Rattle.client_caps.proofs.answers.subcommand_shown.Goals as goal
 
 pub returns-in-Some-clause-word : goal.returns-in-Some-clause-word

@@ -7,12 +7,23 @@ use Rattle.net_view.specs.Tells.{meant}
 use Rattle.net_view.specs.StateCommands.{command_text, state_command}
 use Rattle.net_view.specs.declared.state_line.Telling.{Telling}
 use Rattle.net_view.specs.declared.state_command.StateCommand.{StateCommand}
-use Rattle.net_view.specs.declared.state_command.StateCommand.TheVariants.{Welcome, Isupport, EndOfMotd, NoMotd, Join, Part, Kick, Quit, Nick, Mode, ModeReply, Topic, TopicReply, NoTopic, Names, Account, Away}
-use Rattle.net_view.proofs.Commands.{told_of_welcome, told_of_isupport, told_of_end_of_motd, told_of_no_motd, told_of_join, told_of_part, told_of_kick, told_of_quit, told_of_nick, told_of_mode, told_of_mode_reply, told_of_topic, told_of_topic_reply, told_of_no_topic, told_of_names, told_of_account, told_of_away}
-use Rattle.net_view.proofs.Commands.{has_found}
+use Rattle.net_view.specs.declared.state_command.StateCommand.TheVariants.{Welcome, Isupport}
+use Rattle.net_view.specs.declared.state_command.StateCommand.TheVariants.{EndOfMotd, NoMotd, Join}
+use Rattle.net_view.specs.declared.state_command.StateCommand.TheVariants.{Part, Kick, Quit, Nick}
+use Rattle.net_view.specs.declared.state_command.StateCommand.TheVariants.{Mode, ModeReply, Topic}
+use Rattle.net_view.specs.declared.state_command.StateCommand.TheVariants.{TopicReply, NoTopic}
+use Rattle.net_view.specs.declared.state_command.StateCommand.TheVariants.{Names, Account, Away}
+use Rattle.net_view.proofs.Commands.{told_of_welcome, told_of_isupport, told_of_end_of_motd}
+use Rattle.net_view.proofs.Commands.{told_of_no_motd, told_of_join, told_of_part, told_of_kick}
+use Rattle.net_view.proofs.Commands.{told_of_quit, told_of_nick, told_of_mode, told_of_mode_reply}
+use Rattle.net_view.proofs.Commands.{told_of_topic, told_of_topic_reply, told_of_no_topic}
+use Rattle.net_view.proofs.Commands.{told_of_names, told_of_account, told_of_away, has_found}
 use Rattle.net_view.proofs.LikelyCommand.{meant_or}
 use Rattle.net_view.proofs.state_line.told_as.Goals as goal
-use Rattle.net_view.proofs.state_line.told_as.Goals.{in-Welcome, in-Isupport, in-EndOfMotd, in-Part, in-Kick, in-Quit, in-Nick, in-Mode, in-ModeReply, in-Topic, in-TopicReply, in-NoTopic, in-Names, in-Account, in-Away}
+use Rattle.net_view.proofs.state_line.told_as.Goals.{in-Welcome, in-Isupport, in-EndOfMotd, in-Part}
+use Rattle.net_view.proofs.state_line.told_as.Goals.{in-Kick, in-Quit, in-Nick, in-Mode}
+use Rattle.net_view.proofs.state_line.told_as.Goals.{in-ModeReply, in-Topic, in-TopicReply}
+use Rattle.net_view.proofs.state_line.told_as.Goals.{in-NoTopic, in-Names, in-Account, in-Away}
 
 -- a line of a command that was read has it
 has : (line : Parts) (command it : StateCommand) → state_command line ≡ Some command → command ≡ it

@@ -1,4 +1,5 @@
-use Rattle.std.proofs.Common.{Bool, ◌≡◌, ◌+◌, true, false, cond, List, [], ◌∷◌, ◌++◌, length, sym, ap, subst, ◌∙◌, arith, codes, map}
+use Rattle.std.proofs.Common.{Bool, ◌≡◌, ◌+◌, true, false, cond, List, [], ◌∷◌, ◌++◌, length, sym}
+use Rattle.std.proofs.Common.{ap, subst, ◌∙◌, arith, codes, map}
 use Rattle.std.specs.Prelude.{nat_le, unwrap_or}
 use Rattle.std.specs.List.{join_with_byte}
 use Rattle.irc_line.specs.Writing.{written}
@@ -14,7 +15,9 @@ use Rattle.welcome.specs.Filling.{name_row}
 use Rattle.welcome.specs.Rows.{is_short}
 use Rattle.welcome.proofs.Filled.{IsFilling, fill, fill-next, filling_ends, filling_put, put}
 use Rattle.welcome.proofs.MemberPlaces.{none_there, word_there, words_all, words_before}
-use Rattle.welcome.proofs.names.push_names.Goals.{in-Some+in_ok-push_member+in_ok-push_word, then-not-has_room+in_ok-push_row, else-not-has_room, in_default}
+use Rattle.welcome.proofs.names.push_names.Goals.{in-Some+in_ok-push_member+in_ok-push_word}
+use Rattle.welcome.proofs.names.push_names.Goals.{then-not-has_room+in_ok-push_row}
+use Rattle.welcome.proofs.names.push_names.Goals.{else-not-has_room, in_default}
 use Rattle.welcome.proofs.names.push_names.Goals as goal
 
 -- a row as it is pushed is that of the words

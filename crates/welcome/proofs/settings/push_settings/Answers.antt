@@ -1,4 +1,5 @@
-use Rattle.std.proofs.Common.{Bool, ◌≡◌, ℕ, ◌+◌, ◌-◌, ◌≤◌, ◌<◌, true, false, cond, Some, List, [], ◌++◌, length, map, take, refl, sym, ap, subst, ◌∙◌, arith}
+use Rattle.std.proofs.Common.{Bool, ◌≡◌, ℕ, ◌+◌, ◌-◌, ◌≤◌, ◌<◌, true, false, cond, Some, List, []}
+use Rattle.std.proofs.Common.{◌++◌, length, map, take, refl, sym, ap, subst, ◌∙◌, arith}
 use Rattle.std.specs.Prelude.{nat_eq, nat_le, nat_lt, ◌&&◌, slice_get, slice_range, unwrap_or}
 use Rattle.std.specs.List.{flat_map}
 use Rattle.std.specs.Option.{option_map}
@@ -11,8 +12,11 @@ use Rattle.net_view.proofs.Tests.{no_true}
 use Rattle.welcome.specs.Rows.{is_token_row, rows_of}
 use Rattle.irc_support.specs.Written.{token_text}
 use Rattle.welcome.proofs.Filled.{fill, fill-next, is_open, put}
-use Rattle.welcome.proofs.TokenRows.{IsTaking, settings_row, take_on, taking_ends, taking_put, texts_between, tokens_said}
-use Rattle.welcome.proofs.settings.push_settings.Goals.{then-not-has_token_room+in_ok-push_tokens, else-not-has_token_room, then-start-place, else-start-place}
+use Rattle.welcome.proofs.TokenRows.{IsTaking, settings_row, take_on, taking_ends, taking_put}
+use Rattle.welcome.proofs.TokenRows.{texts_between, tokens_said}
+use Rattle.welcome.proofs.settings.push_settings.Goals.{then-not-has_token_room+in_ok-push_tokens}
+use Rattle.welcome.proofs.settings.push_settings.Goals.{else-not-has_token_room, then-start-place}
+use Rattle.welcome.proofs.settings.push_settings.Goals.{else-start-place}
 use Rattle.welcome.proofs.settings.push_settings.Goals as goal
 
 lt_true : (m n : ℕ) → m < n → nat_lt m n ≡ true

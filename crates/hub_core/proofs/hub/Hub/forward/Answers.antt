@@ -5,7 +5,8 @@ use Rattle.hub_core.specs.Given.{Delivered}
 use Rattle.hub_core.specs.Pumping.{with_entry}
 use Rattle.hub_core.specs.States.{HubState}
 use Rattle.std.specs.List.{filter_map}
-use Rattle.hub_core.specs.Saying.{Forwards, given_others, own_message, entry_said, images_said, sent_up}
+use Rattle.hub_core.specs.Saying.{Forwards, given_others, own_message, entry_said, images_said}
+use Rattle.hub_core.specs.Saying.{sent_up}
 use Rattle.hub_core.specs.Running.{content_said}
 use Rattle.hub_core.proofs.Numbers.{sent_more, unsaid}
 use Rattle.hub_core.proofs.Running.{with_sessions}
@@ -14,7 +15,8 @@ use Rattle.hub_core.specs.Upkeep.{with_upstream}
 use Rattle.hub_core.proofs.hub.Hub.forward.Goals as goal
 use Rattle.hub_core.proofs.hub.Hub.forward.Given
 
-abbrev old : (g : Given.Over) → Inside g.row.V.Denot g.row.I.Denot g.row.O.Denot g.row.V-Memory.Denot → HubState
+abbrev old : (g : Given.Over)
+    → Inside g.row.V.Denot g.row.I.Denot g.row.O.Denot g.row.V-Memory.Denot → HubState
 old g i =
     hub_of g.I.Inlet.taken g.I.Inlet.ahead g.O.Outlet.sent g.O.Outlet.closed g.O.Outlet.capacity
     g.O.Outlet.free i

@@ -11,7 +11,8 @@ use Rattle.hub_core.proofs.Running.{with_sessions}
 use Rattle.hub_core.proofs.hub.Hub.keepalive.Goals as goal
 use Rattle.hub_core.proofs.hub.Hub.keepalive.Given
 
-abbrev old : (g : Given.Over) → Inside g.row.V.Denot g.row.I.Denot g.row.O.Denot g.row.V-Memory.Denot → HubState
+abbrev old : (g : Given.Over)
+    → Inside g.row.V.Denot g.row.I.Denot g.row.O.Denot g.row.V-Memory.Denot → HubState
 old g i =
     hub_of g.I.Inlet.taken g.I.Inlet.ahead g.O.Outlet.sent g.O.Outlet.closed g.O.Outlet.capacity
     g.O.Outlet.free i

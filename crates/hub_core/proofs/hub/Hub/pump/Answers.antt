@@ -1,4 +1,5 @@
-use Rattle.std.proofs.Common.{◌≡◌, ◌∷◌, [], ◌++◌, unwrap_or, ◌∙◌, ◌+◌, refl, sym, ap, subst, length, map, None}
+use Rattle.std.proofs.Common.{◌≡◌, ◌∷◌, [], ◌++◌, unwrap_or, ◌∙◌, ◌+◌, refl, sym, ap, subst, length}
+use Rattle.std.proofs.Common.{map, None}
 use Rattle.std.specs.Option.{option_map, option_map_or}
 use Rattle.hub_core.specs.Online.{says_online}
 use Rattle.hub_core.specs.LostChannels.{joining, lost_by, lost_channels}

@@ -1,4 +1,5 @@
-use Rattle.std.proofs.Common.{◌≡◌, ◌≢◌, ◌<◌, ℕ, false, refl, sym, ap, subst, inl, length, get_or, rules}
+use Rattle.std.proofs.Common.{◌≡◌, ◌≢◌, ◌<◌, ℕ, false, refl, sym, ap, subst, inl, length, get_or}
+use Rattle.std.proofs.Common.{rules}
 use Rattle.std.specs.Prelude.{Err}
 use Rattle.net_view.specs.View.{View}
 use Rattle.hub_core.specs.declared.hub.Hub.TheInside.{Inside}

@@ -1,4 +1,5 @@
-use Rattle.std.proofs.Common.{◌≡◌, ◌∙◌, ◌∷◌, ◌++◌, [], ◌+◌, refl, sym, ap, subst, length, map, Some, ℕ, true}
+use Rattle.std.proofs.Common.{◌≡◌, ◌∙◌, ◌∷◌, ◌++◌, [], ◌+◌, refl, sym, ap, subst, length, map, Some}
+use Rattle.std.proofs.Common.{ℕ, true}
 use Rattle.hub_core.specs.Online.{is_online}
 use Rattle.irc_line.specs.Line.{Parts}
 use Rattle.net_view.specs.View.{View}
@@ -10,7 +11,8 @@ use Rattle.hub_core.specs.Insides.{hub_of, state_of, outlet_of}
 use Rattle.hub_core.specs.Given.{Delivered, packet_for, given_but}
 use Rattle.hub_core.specs.States.{HubState, SessionState, OutletState, heard, view_now}
 use Rattle.hub_core.specs.Pumping.{with_entry, counted}
-use Rattle.hub_core.specs.Saying.{Forwards, own_message, given_others, entry_said, images_said, sent_up}
+use Rattle.hub_core.specs.Saying.{Forwards, own_message, given_others, entry_said, images_said}
+use Rattle.hub_core.specs.Saying.{sent_up}
 use Rattle.std.proofs.Common.{None, unwrap_or}
 use Rattle.std.specs.Option.{option_map}
 use Rattle.std.specs.Prelude.{IsSome}

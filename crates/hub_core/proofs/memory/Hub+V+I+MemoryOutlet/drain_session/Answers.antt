@@ -1,4 +1,5 @@
-use Rattle.std.proofs.Common.{◌≡◌, ◌∙◌, ◌∷◌, ◌++◌, ◌<◌, ℕ, List, refl, sym, ap, inl, inr, subst, take, drop, map, suc, set, length, get_or}
+use Rattle.std.proofs.Common.{◌≡◌, ◌∙◌, ◌∷◌, ◌++◌, ◌<◌, ℕ, List, refl, sym, ap, inl, inr, subst}
+use Rattle.std.proofs.Common.{take, drop, map, suc, set, length, get_or}
 use Rattle.std.specs.Prelude.{Result, Ok, Err, OnErr}
 use Rattle.net_view.specs.View.{View}
 use Rattle.hub_ends.specs.Memory.{closed_of, free_of, sent_of}

@@ -3,9 +3,11 @@ use Rattle.net_view.specs.Presence.{is_on}
 use Rattle.net_view.specs.Transcript.{readings_of}
 use Rattle.tape_view.specs.Kept.{tape_of}
 use Rattle.tape_view.specs.Tape.{Heard}
-use Rattle.tape_view.proofs.TapeLast.{command_last, off_none, off_after, readable_older, is_last, last_shorter, no_lines}
+use Rattle.tape_view.proofs.TapeLast.{command_last, off_none, off_after, readable_older, is_last}
+use Rattle.tape_view.proofs.TapeLast.{last_shorter, no_lines}
 use Rattle.tape_view.proofs.tape.Tape.split_last.Goals as goal
-use Rattle.tape_view.proofs.tape.Tape.split_last.Goals.{then-last-via-then-last, then-last-via-else-last+then-not-last}
+use Rattle.tape_view.proofs.tape.Tape.split_last.Goals.{then-last-via-then-last}
+use Rattle.tape_view.proofs.tape.Tape.split_last.Goals.{then-last-via-else-last+then-not-last}
 
 pub returns-in_default-clause-none : goal.returns-in_default-clause-none
 returns-in_default-clause-none g c = λ key.
