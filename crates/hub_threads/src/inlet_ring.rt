@@ -89,20 +89,49 @@ impl InletEnd {
             (put_of self.new ≡ put_of self.old) × (slots_of self.new ≡ 0)) }
         ensures room { 0 < slots_of self.old → IsOk result }
     {
+        self.put_unrung(item, moment)?;
+        self.pump.ring();
+        Ok(())
+    }
+
+    /// The same, but the pump sleeps on: who has put all that it has wakes it.
+    pub(crate) fn put_unrung(&mut self, item: Item, moment: Moment) -> Result<(), (Item, Moment)>
+        ensures ok { OnOk result (put_of self.new ≡ put_of self.old ++ came (item, moment) ∷ []) }
+        ensures full { IfErr result (λ x. (came x ≡ came (item, moment)) ×
+            (put_of self.new ≡ put_of self.old) × (slots_of self.new ≡ 0)) }
+        ensures room { 0 < slots_of self.old → IsOk result }
+    {
         match self.producer.push((item, moment)) {
-            Ok(()) => {
-                self.pump.ring();
-                Ok(())
-            }
+            Ok(()) => Ok(()),
             Err(PushError::Full(pair)) => Err(pair),
         }
     }
+
+    /// Wakes the pump.
+    pub(crate) fn wake_pump(&self) {
+        self.pump.ring();
+    }
+
+    /// Wakes the pump, and sleeps until it has taken half of what the ring holds; not at all where
+    /// there is room already.
+    pub(crate) fn wait_for_room<R: Wait>(&mut self, rt: &R)
+        ensures { put_of self.new ≡ put_of self.old }
+    {
+        self.pump.ring();
+        self.reader.nod();
+        if self.producer.is_full() {
+            self.reader.sleep(rt, u64::MAX);
+        }
+        self.reader.rise();
+    }
 }
 
-impl InletEnd {
-    /// Sleeps until the hub has taken an item.
-    pub(crate) fn sleep<R: Wait>(&self, rt: &R) {
-        self.reader.sleep(rt, u64::MAX);
+impl RingInlet {
+    /// Whether at least half of the slots are free.
+    fn is_half_empty(&mut self) -> bool
+        ensures { taken_of self.new ≡ taken_of self.old }
+    {
+        self.consumer.slots() <= self.consumer.capacity() / 2
     }
 }
 
@@ -119,7 +148,9 @@ impl Inlet for RingInlet {
     fn next(&mut self) -> Option<(Item, Moment)> {
         match self.consumer.pop() {
             Ok(pair) => {
-                self.reader.ring();
+                if self.reader.is_drowsy() && self.is_half_empty() {
+                    self.reader.ring();
+                }
                 Some(pair)
             }
             Err(_) => None,
