@@ -1,8 +1,9 @@
 //! A network and clients for `bnc serve`, to see what a delivery and an attach cost.
 //!
-//! load NETWORK_PORT CLIENT_PORT PID SESSIONS LINES CHANNELS MEMBERS: listens for bnc at the network's
-//! port, lets it in to so many channels of so many members, attaches the sessions at the clients'
-//! port, sends the lines at full speed, and then 200 lines with 5 ms between them. PID is bnc's.
+//! load NETWORK_PORT CLIENT_PORT PID SESSIONS LINES CHANNELS MEMBERS [GAP]: listens for bnc at the
+//! network's port, lets it in to so many channels of so many members, attaches the sessions at the
+//! clients' port, sends the lines at full speed, and then 200 lines with GAP microseconds between
+//! them, 5,000 where it is left out. Then nothing happens for 10 s. PID is bnc's.
 
 use std::io::{BufRead, BufReader, Read, Write};
 use std::net::{TcpListener, TcpStream};
@@ -76,9 +77,23 @@ fn processor(pid: u64) -> f64 {
     (words[11].parse::<f64>().unwrap() + words[12].parse::<f64>().unwrap()) / 100.0
 }
 
+/// How often the threads of a process went to sleep of their own accord.
+fn sleeps(pid: u64) -> u64 {
+    let mut all = 0;
+    for thread in std::fs::read_dir(format!("/proc/{pid}/task")).unwrap() {
+        let text = std::fs::read_to_string(thread.unwrap().path().join("status")).unwrap();
+        let line = text.lines().find(|line| line.starts_with("voluntary_ctxt_switches")).unwrap();
+        all += line.split('\t').nth(1).unwrap().parse::<u64>().unwrap();
+    }
+    all
+}
+
 fn main() {
-    let words: Vec<u64> = std::env::args().skip(1).map(|word| word.parse().unwrap()).collect();
-    let [port, clients, pid, sessions, lines, channels, members] = words[..] else { panic!() };
+    let mut words: Vec<u64> = std::env::args().skip(1).map(|word| word.parse().unwrap()).collect();
+    if words.len() == 7 {
+        words.push(5_000);
+    }
+    let [port, clients, pid, sessions, lines, channels, members, gap] = words[..] else { panic!() };
     let listener = TcpListener::bind(("127.0.0.1", port as u16)).unwrap();
     let (network, _) = listener.accept().unwrap();
     network.set_nodelay(true).unwrap();
@@ -103,6 +118,7 @@ fn main() {
         network.write_all(&block).unwrap();
     }
     let mut latest = Vec::new();
+    let (mut slept, mut paced) = (0, 0.0);
     // the first late line is behind all others
     for round in 0..201 {
         let sent = Instant::now();
@@ -116,11 +132,24 @@ fn main() {
             let all = (lines * sessions) as f64;
             println!("{lines} lines to {sessions}: {seconds:.2} s, {:.0} deliveries a second, {:.2} us of processor time each", all / seconds, cost * 1e6 / all);
             latest.clear();
+            slept = sleeps(pid);
+            paced = processor(pid);
         }
-        thread::sleep(Duration::from_millis(5));
+        thread::sleep(Duration::from_micros(gap));
     }
+    let (slept, paced) = (sleeps(pid) - slept, processor(pid) - paced);
     latest.sort_by(f64::total_cmp);
-    println!("latency: p50 {:.0} us, p99 {:.0} us", latest[latest.len() / 2], latest[latest.len() * 99 / 100]);
+    let each = 200.0 * sessions as f64;
+    println!(
+        "latency: p50 {:.0} us, p99 {:.0} us; {:.1} sleeps and {:.1} us of processor time a delivery",
+        latest[latest.len() / 2],
+        latest[latest.len() * 99 / 100],
+        slept as f64 / each,
+        paced * 1e6 / each
+    );
+    let before = sleeps(pid);
+    thread::sleep(Duration::from_secs(10));
+    println!("idle: {} wake-ups in 10 s", sleeps(pid) - before);
     drop(network);
     std::process::exit(0);
 }

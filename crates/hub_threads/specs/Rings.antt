@@ -29,6 +29,13 @@ ahead_of inlet = map came (known_items inlet.consumer)
 abbrev pub AreEnds : InletEnd → RingInlet → Type 0
 AreEnds end inlet = IsPair end.producer inlet.consumer
 
+-- an end is still of each ring that it was of
+abbrev pub StaysEnd : InletEnd → InletEnd → Type 0
+StaysEnd old new = (inlet : RingInlet) → AreEnds old inlet → AreEnds new inlet
+
+abbrev pub StaysInlet : RingInlet → RingInlet → Type 0
+StaysInlet old new = (end : InletEnd) → AreEnds end old → AreEnds end new
+
 -- ---- packets, from the hub to the thread that writes
 
 abbrev pub sent_of : RingOutlet → List (List Parts)

@@ -8,7 +8,10 @@ use std::thread::Parker;
 use std::time::Duration;
 
 /// How many milliseconds a worker sleeps at most that has a finite count of turns.
-const SHORT_REST: u64 = 1;
+const SHORT_SLEEP: u64 = 1;
+
+/// How many microseconds a worker rests at most.
+const REST: u64 = 1_000;
 
 /// What one worker sleeps on, and others wake it by: a ring that comes before it sleeps keeps it
 /// awake. With a flag, which the pump of a network raises while it waits for room in an outlet, and
@@ -17,6 +20,8 @@ const SHORT_REST: u64 = 1;
 pub struct Bell {
     parker: Parker,
     raised: AtomicBool,
+    // the worker sleeps, or looks for work a last time before it does
+    drowsy: AtomicBool,
 }
 
 /// A bell, in as many hands as need be.
@@ -29,6 +34,7 @@ pub fn shared_bell(alloc: Global) -> Result<SharedBell, OutOfMemory> {
         Bell {
             parker: Parker::new(),
             raised: AtomicBool::new(false),
+            drowsy: AtomicBool::new(false),
         },
     )?)
 }
@@ -47,8 +53,29 @@ impl Bell {
             self.parker.park(rt);
         } else {
             self.parker
-                .park_timeout(rt, Duration::from_millis(SHORT_REST));
+                .park_timeout(rt, Duration::from_millis(SHORT_SLEEP));
         }
+    }
+
+    /// Rests until it is rung, at most 1 ms. A worker that rests looks for work by itself then.
+    pub(crate) fn rest<R: Wait>(&self, rt: &R) {
+        self.parker.park_timeout(rt, Duration::from_micros(REST));
+    }
+
+    /// Says that the worker is about to sleep: it looks for work once more, and whoever gives it
+    /// work from now on has to ring.
+    pub(crate) fn nod(&self) {
+        self.drowsy.store(true, Ordering::SeqCst);
+    }
+
+    /// Says that the worker is awake: it looks for work by itself before it sleeps again.
+    pub(crate) fn rise(&self) {
+        self.drowsy.store(false, Ordering::SeqCst);
+    }
+
+    /// Whether work that was given is found only by a ring.
+    pub(crate) fn is_drowsy(&self) -> bool {
+        self.drowsy.load(Ordering::SeqCst)
     }
 
     /// Raises the flag. It wakes nobody.

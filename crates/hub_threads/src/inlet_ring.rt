@@ -2,7 +2,9 @@
 
 ghost use Rattle.std.specs.Prelude.{◌≡◌, ◌∷◌, ◌++◌, ◌<◌, [], IfErr, IfOk, IsOk, List, OnOk, length};
 ghost use Rattle.hub_ends.specs.Came.{Came, came};
-ghost use Rattle.hub_threads.specs.Rings.{AreEnds, ahead_of, put_of, slots_of, taken_of};
+ghost use Rattle.std.specs.Prelude.{MatchOption};
+ghost use Rattle.hub_threads.specs.Rings.{AreEnds, StaysEnd, StaysInlet};
+ghost use Rattle.hub_threads.specs.Rings.{ahead_of, put_of, slots_of, taken_of};
 
 use crate::OutOfMemory;
 use crate::bell::{SharedBell, shared_bell};
@@ -88,21 +90,75 @@ impl InletEnd {
         ensures full { IfErr result (λ x. (came x ≡ came (item, moment)) ×
             (put_of self.new ≡ put_of self.old) × (slots_of self.new ≡ 0)) }
         ensures room { 0 < slots_of self.old → IsOk result }
+        ensures ends { StaysEnd self.old self.new }
+    {
+        self.put_unrung(item, moment)?;
+        self.pump.ring();
+        Ok(())
+    }
+
+    /// The same, but the pump sleeps on: who has put all that it has wakes it.
+    pub(crate) fn put_unrung(&mut self, item: Item, moment: Moment) -> Result<(), (Item, Moment)>
+        ensures ok { OnOk result (put_of self.new ≡ put_of self.old ++ came (item, moment) ∷ []) }
+        ensures full { IfErr result (λ x. (came x ≡ came (item, moment)) ×
+            (put_of self.new ≡ put_of self.old) × (slots_of self.new ≡ 0)) }
+        ensures room { 0 < slots_of self.old → IsOk result }
+        ensures ends { StaysEnd self.old self.new }
     {
         match self.producer.push((item, moment)) {
-            Ok(()) => {
-                self.pump.ring();
-                Ok(())
-            }
+            Ok(()) => Ok(()),
             Err(PushError::Full(pair)) => Err(pair),
         }
     }
+
+    /// Wakes the pump.
+    pub(crate) fn wake_pump(&self) {
+        self.pump.ring();
+    }
+
+    /// Wakes the pump, and sleeps until it has taken half of what the ring holds; not at all where
+    /// there is room already.
+    pub(crate) fn wait_for_room<R: Wait>(&mut self, rt: &R)
+        ensures { put_of self.new ≡ put_of self.old }
+    {
+        self.pump.ring();
+        self.reader.nod();
+        if self.producer.is_full() {
+            self.reader.sleep(rt, u64::MAX);
+        }
+        self.reader.rise();
+    }
 }
 
-impl InletEnd {
-    /// Sleeps until the hub has taken an item.
-    pub(crate) fn sleep<R: Wait>(&self, rt: &R) {
-        self.reader.sleep(rt, u64::MAX);
+impl RingInlet {
+    /// Whether at least half of the slots are free.
+    fn is_half_empty(&mut self) -> bool
+        ensures taken { taken_of self.new ≡ taken_of self.old }
+        ensures ends { StaysInlet self.old self.new }
+    {
+        let half = self.consumer.capacity() / 2;
+        self.consumer.cached_slots() <= half && self.consumer.slots() <= half
+    }
+
+    /// Takes the next item; `None` where there is none for now. It takes no lock and waits for
+    /// nobody.
+    pub fn take(&mut self) -> Option<(Item, Moment)>
+        ensures item { MatchOption result
+            ((taken_of self.new ≡ taken_of self.old) × (ahead_of self.old ≡ []) ×
+            (ahead_of self.new ≡ []))
+            (λ x. taken_of self.new ≡ taken_of self.old ++ came x ∷ []) }
+        ensures ends { StaysInlet self.old self.new }
+    {
+        match self.consumer.pop() {
+            Ok(pair) => {
+                let is_half_empty = self.is_half_empty();
+                if is_half_empty && self.reader.is_drowsy() {
+                    self.reader.ring();
+                }
+                Some(pair)
+            }
+            Err(_) => None,
+        }
     }
 }
 
@@ -117,12 +173,9 @@ impl Inlet for RingInlet {
     ghost alone = { false };
 
     fn next(&mut self) -> Option<(Item, Moment)> {
-        match self.consumer.pop() {
-            Ok(pair) => {
-                self.reader.ring();
-                Some(pair)
-            }
-            Err(_) => None,
+        match self.take() {
+            Some(pair) => Some(pair),
+            None => None,
         }
     }
 }

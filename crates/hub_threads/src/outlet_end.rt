@@ -112,7 +112,7 @@ impl OutletEnd {
         match self.consumer.pop() {
             Ok(Queued::Lines(packet)) => {
                 self.fresh = false;
-                wake(&self.pump);
+                wake(&self.pump, self.consumer.cached_slots());
                 Some(packet)
             }
             Ok(Queued::Closing { id, .. }) => {
@@ -162,15 +162,28 @@ impl OutletEnd {
 
     /// Sleeps until a packet may be there; answers how many takes gave nothing, this one among
     /// them.
-    pub(crate) fn rest<R: Wait>(&self, rt: &R, empty: u64, idle: u64) -> u64
+    pub(crate) fn sleep<R: Wait>(&mut self, rt: &R, empty: u64, idle: u64) -> u64
         requires { empty < idle }
-        ensures { result ≤ idle }
+        ensures end { self.new ≡ self.old }
+        ensures empty { result ≤ idle }
     {
-        self.writer.sleep(rt, idle);
+        self.writer.nod();
+        if self.consumer.is_empty() {
+            self.writer.sleep(rt, idle);
+        }
+        self.writer.rise();
         if idle == u64::MAX {
             return empty;
         }
         empty + 1
+    }
+
+    /// Rests after a write, so that what comes meanwhile goes in one write: at most 1 ms, and until
+    /// half of the ring waits. Not at all once the closing item was taken.
+    pub(crate) fn rest<R: Wait>(&self, rt: &R) {
+        if self.closed.is_none() {
+            self.writer.rest(rt);
+        }
     }
 
     /// The room to write from.
@@ -218,9 +231,9 @@ impl Stopper {
     }
 }
 
-/// Wakes the pump, where it waits for room.
-fn wake(pump: &SharedBell) {
-    if pump.is_raised() {
+/// Wakes the pump, where it waits for room and no packet is known to be left.
+fn wake(pump: &SharedBell, left: usize) {
+    if left == 0 && pump.is_raised() {
         pump.ring();
     }
 }

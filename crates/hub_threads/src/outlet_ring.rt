@@ -58,6 +58,19 @@ impl RingOutlet {
 }
 
 impl RingOutlet {
+    /// Whether at least half of the slots, and one, are known to be free.
+    fn is_roomy(&self) -> bool {
+        self.producer.cached_slots() >= self.producer.capacity().div_ceil(2)
+    }
+
+    /// Wakes the writer where it sleeps, and where more than half of the ring may wait for it. Else
+    /// it looks by itself, at the latest when it has rested.
+    fn call_writer(&self) {
+        if self.writer.is_drowsy() || !self.is_roomy() {
+            self.writer.ring();
+        }
+    }
+
     /// How many items the other end is known to have taken.
     pub(crate) fn taken(&self) -> u64 {
         let held = self
@@ -92,6 +105,9 @@ impl Outlet for RingOutlet {
         if self.closed.is_some() {
             return 0;
         }
+        if self.is_roomy() {
+            return self.producer.cached_slots();
+        }
         self.producer.slots()
     }
 
@@ -106,7 +122,7 @@ impl Outlet for RingOutlet {
         match self.producer.push(Queued::Lines(packet)) {
             Ok(()) => {
                 self.count = self.count.saturating_add(1);
-                self.writer.ring();
+                self.call_writer();
                 Ok(())
             }
             Err(PushError::Full(Queued::Lines(packet))) => Err(packet),

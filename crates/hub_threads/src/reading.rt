@@ -46,24 +46,24 @@ pub struct Reading {
     pub ended: ReadEnd,
 }
 
-/// Puts an item, and sleeps until there is room for it.
+/// Puts an item, and sleeps until there is room for it. The pump is woken only where there is none.
 fn put_waiting<R: Wait>(rt: &R, end: &mut InletEnd, item: Item, moment: Moment)
     ensures { put_of end.new ≡ put_of end.old ++ came (item, moment) ∷ [] }
 {
     let mut pair = (item, moment);
     for _ in rt.forever() {
-        match end.put(pair.0, pair.1) {
+        match end.put_unrung(pair.0, pair.1) {
             Ok(()) => return,
             Err(back) => {
                 pair = back;
-                end.sleep(rt);
+                end.wait_for_room(rt);
             }
         }
     }
     unreachable!()
 }
 
-/// Puts lines, in order. Where the ring is full it sleeps until there is room.
+/// Puts lines, in order, and wakes the pump. Where the ring is full it sleeps until there is room.
 pub fn put_lines<R: Wait>(rt: &R, end: &mut InletEnd, lines: Vec<Line>, moment: Moment)
     ensures { arrivals (put_of end.new)
         ≡ arrivals (put_of end.old) ++ map Received lines.items }
@@ -71,6 +71,7 @@ pub fn put_lines<R: Wait>(rt: &R, end: &mut InletEnd, lines: Vec<Line>, moment: 
     for line in lines {
         put_waiting(rt, end, Item::Line(line), moment);
     }
+    end.wake_pump();
 }
 
 /// Takes a piece of what was read: puts the lines that it completes. After a refusal nothing was
@@ -108,6 +109,7 @@ fn lost<C: Clock, R: Wait>(rt: &R, end: InletEnd, ended: ReadEnd, clock: &C) -> 
 {
     let mut end = end;
     put_waiting(rt, &mut end, Item::Lost, clock.now());
+    end.wake_pump();
     Reading { end, ended }
 }
 

@@ -110,6 +110,7 @@ pub fn write_out<W: Write, G: Gate, R: Wait>(
                 if !flush_batch(&mut out, &mut batch, gate) {
                     return handed_back(end, batch, out, fresh, Err(WriteFault));
                 }
+                end.rest(rt);
             }
             None => {
                 if empty >= idle {
@@ -118,7 +119,7 @@ pub fn write_out<W: Write, G: Gate, R: Wait>(
                 if end.is_over() {
                     return handed_back(end, batch, out, fresh, Ok(count));
                 }
-                empty = end.rest(rt, empty, idle);
+                empty = end.sleep(rt, empty, idle);
             }
         }
     }
