@@ -13,7 +13,8 @@ pub record Shelf (X : Type 0) : Type 0 where
 
 abbrev pub shelf_code : {X : Type 0} → Coded X → Coded (Shelf X)
 shelf_code {X} x =
-    code_by (List X × ℕ) (coded× (coded_list x) coded_ℕ) (λ s. (s.items, s.spare)) (λ p. record { items = p.0; spare = p.1 }) (λ _. refl)
+    code_by (List X × ℕ) (coded× (coded_list x) coded_ℕ) (λ s. (s.items, s.spare))
+    (λ p. record { items = p.0; spare = p.1 }) (λ _. refl)
 
 -- how many of so many items stand in the block at a place
 abbrev pub share : ℕ → ℕ → ℕ
@@ -35,7 +36,8 @@ module _ {X Z : Type 0} where
   -- blocks of so many items, each full before the next one begins
   pub record IsTiled (blocks : List (VecDeque X Z)) (len : ℕ) : Type 0 where
     pub roomy : AreRoomy blocks
-    pub filled : (i : ℕ) (d : VecDeque X Z) → i < length blocks → deque_len (get_or blocks i d) ≡ share len i
+    pub filled : (i : ℕ) (d : VecDeque X Z) → i < length blocks →
+        deque_len (get_or blocks i d) ≡ share len i
     pub within : len ≤ length blocks * 128
     pub few : length blocks ≤ 2 ^ 56
 
@@ -44,6 +46,7 @@ module _ {X Z : Type 0} where
     pub roomy : AreRoomy blocks
     pub inside : hole < length blocks
     pub gap : (d : VecDeque X Z) → deque_len (get_or blocks hole d) + 1 ≡ share len hole
-    pub filled : (i : ℕ) (d : VecDeque X Z) → i < length blocks → i ≢ hole → deque_len (get_or blocks i d) ≡ share len i
+    pub filled : (i : ℕ) (d : VecDeque X Z) → i < length blocks → i ≢ hole →
+        deque_len (get_or blocks i d) ≡ share len i
     pub within : len ≤ length blocks * 128
     pub few : length blocks ≤ 2 ^ 56

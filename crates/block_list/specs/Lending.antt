@@ -6,6 +6,8 @@ use Rattle.block_list.specs.Blocks.{Shelf}
 use Rattle.block_list.specs.contracts.blocks.Blocks.{the_row}
 
 -- the item at a place is the last value written through r
-abbrev pub lends_item : (R A : RattleType) (g : Ghosts A.Denot) → MutBor (Shelf R.Denot) → ℕ → MutBor R.Denot → Fml
+abbrev pub lends_item : (R A : RattleType) (g : Ghosts A.Denot) → MutBor (Shelf R.Denot) → ℕ →
+    MutBor R.Denot → Fml
 lends_item R A g s i r =
-    Lends (the_row R A g) R s r (λ w. record { items = slice_set s.now.items i w; spare = s.now.spare })
+    Lends (the_row R A g) R s r
+    (λ w. record { items = slice_set s.now.items i w; spare = s.now.spare })
