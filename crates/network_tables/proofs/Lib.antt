@@ -1,5 +1,6 @@
 pub mod Sorted
 pub mod Places
+pub mod Retaining
 pub mod HeadLemmas
 pub mod TableLemmas
 pub mod ShownLemmas

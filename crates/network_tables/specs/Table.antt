@@ -1,10 +1,9 @@
 -- Entries in the order of their keys.
-use Rattle.std.specs.Prelude.{ℕ, ◌-◌, T, map, if◌then◌else◌}
+use Rattle.std.specs.Prelude.{ℕ, T, map, if◌then◌else◌}
 use Rattle.std.specs.Coded.{Coded, code_by, coded×, coded_ℕ, coded_list}
 use Rattle.std.specs.Option.{unwrap_or}
 use Rattle.std.specs.Borrow.{Bor}
-use Rattle.std.specs.Vec.{vec_len, vec_capacity}
-use Rattle.std.specs.declared.vec.Vec.{Vec}
+use Rattle.block_list.specs.Blocks.{Shelf}
 use Rattle.std.specs.FinMap as fin
 use Rattle.std.proofs.Common.{refl}
 use Rattle.irc_support.specs.Text.{Text}
@@ -26,13 +25,13 @@ abbrev pub entry_of : {X A : Type 0} → Slot X A → Text × X
 entry_of slot = (slot.entry.value.key.items, slot.entry.value.value)
 
 -- all entries of a list in the order of keys
-abbrev pub tabled : {X A : Type 0} → Vec (Slot X A) A → Tabled X
+abbrev pub tabled : {X A : Type 0} → Shelf (Slot X A) → Tabled X
 tabled entries = record {
   all = fin.from_sorted (map entry_of entries.items);
-  spare = vec_capacity entries - vec_len entries;
+  spare = entries.spare;
 }
 
-abbrev pub IsTabled : {X A : Type 0} → Vec (Slot X A) A → Type 0
+abbrev pub IsTabled : {X A : Type 0} → Shelf (Slot X A) → Type 0
 IsTabled entries = T (fin.is_sorted bytes_cmp (map entry_of entries.items))
 
 -- a value in the place of another, where there is one

@@ -17,6 +17,7 @@ use crate::room::Rooms;
 use crate::slot::{Entry, Slot};
 use crate::sought::Sought;
 use crate::table::Table;
+use block_list::Blocks;
 use irc_names::CaseMapping;
 use std::alloc::Allocator;
 
@@ -156,15 +157,16 @@ pub fn retain_seen<A: Allocator>(people: &mut People<A>, rooms: &Rooms<A>)
 }
 
 /// The same of the slots.
-fn retain_in<A: Allocator>(slots: &mut Vec<Slot<Person<A>, A>, A>, rooms: &Rooms<A>)
+fn retain_in<A: Allocator>(slots: &mut Blocks<Slot<Person<A>, A>, A>, rooms: &Rooms<A>)
     ensures { slots.new.items
         ≡ filter (λ slot. is_seen (rooms_of rooms.now.all) slot.entry.value.key.items)
         slots.old.items }
 {
-    slots.retain(
-        |slot: &Slot<Person<A>, A>| -> bool
-            ensures { result
-                ≡ is_seen (rooms_of rooms.entry.now.all) slot.now.entry.value.key.items }
-        { rooms.is_seen(Sought::Key(&slot.entry.key)) },
-    );
+    let mut place = slots.len();
+    while place > 0 {
+        place -= 1;
+        if !rooms.is_seen(Sought::Key(&slots.at(place).entry.key)) {
+            let _ = slots.remove(place);
+        }
+    }
 }

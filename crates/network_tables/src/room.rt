@@ -19,6 +19,7 @@ use crate::modes::Modes;
 use crate::slot::{Entry, Slot};
 use crate::sought::{Sought, head};
 use crate::table::Table;
+use block_list::Blocks;
 use irc_names::CaseMapping;
 use irc_support::Ranks;
 use std::alloc::Allocator;
@@ -128,7 +129,7 @@ pub fn set_modes<A: Allocator + Copy>(
 }
 
 /// Makes somebody a member.
-fn add_member<A: Allocator>(
+fn add_member<A: Allocator + Copy>(
     members: &mut Members<A>,
     member: Box<Entry<Ranks, A>, A>,
 ) -> Result<(), OutOfMemory>
@@ -188,12 +189,13 @@ pub fn unseat<A: Allocator + Copy>(
 }
 
 /// Takes a member off each of the channels.
-fn unseat_each<A: Allocator>(rooms: &mut [Slot<Room<A>, A>], who: Sought<'_>)
-    ensures { map room_entry rooms.new
-        ≡ each_changed (without_member (sought_key who.entry)) (map room_entry rooms.old) }
+fn unseat_each<A: Allocator>(rooms: &mut Blocks<Slot<Room<A>, A>, A>, who: Sought<'_>)
+    ensures { map room_entry rooms.new.items
+        ≡ each_changed (without_member (sought_key who.entry)) (map room_entry rooms.old.items) }
 {
     let head = head(who);
-    for room in rooms.iter_mut() {
+    for place in 0..rooms.len() {
+        let room = rooms.at_mut(place);
         let _ = room.entry.value.members.remove_by(head, who);
     }
 }
@@ -242,20 +244,21 @@ pub fn copies<A: Allocator + Copy>(
 
 /// Gives a member another key in each of the channels, for each of which there is a copy of it.
 fn rename_each<A: Allocator>(
-    rooms: &mut [Slot<Room<A>, A>],
+    rooms: &mut Blocks<Slot<Room<A>, A>, A>,
     old: Sought<'_>,
     taken: bool,
     new: &[u8],
     keys: &mut Vec<Vec<u8, A>, A>,
 )
-    requires enough { length rooms.old ≤ length keys.old.items }
+    requires enough { length rooms.old.items ≤ length keys.old.items }
     requires copies { All (λ k. k.items ≡ new.now) keys.old.items }
-    ensures { map room_entry rooms.new
+    ensures { map room_entry rooms.new.items
         ≡ each_changed (moved_channel taken (sought_key old.entry) new.now)
-        (map room_entry rooms.old) }
+        (map room_entry rooms.old.items) }
 {
     let head = head(old);
-    for room in rooms.iter_mut() {
+    for place in 0..rooms.len() {
+        let room = rooms.at_mut(place);
         match keys.pop() {
             Some(key) => rename_member(&mut room.entry.value.members, head, old, taken, key),
             None => unreachable!(),
@@ -264,12 +267,12 @@ fn rename_each<A: Allocator>(
 }
 
 /// Whether somebody is a member of one of the channels.
-fn is_member_of_any<A: Allocator>(rooms: &[Slot<Room<A>, A>], who: Sought<'_>) -> bool
-    ensures { result ≡ list_any (is_in (sought_key who.entry)) (map room_entry rooms.now) }
+fn is_member_of_any<A: Allocator>(rooms: &Blocks<Slot<Room<A>, A>, A>, who: Sought<'_>) -> bool
+    ensures { result ≡ list_any (is_in (sought_key who.entry)) (map room_entry rooms.now.items) }
 {
     let head = head(who);
-    for room in rooms {
-        if room.entry.value.members.contains_by(head, who) {
+    for place in 0..rooms.len() {
+        if rooms.at(place).entry.value.members.contains_by(head, who) {
             return true;
         }
     }

@@ -14,6 +14,7 @@ ghost use Rattle.network_tables.specs.Head.{head_of, AreBytesTo};
 use crate::OutOfMemory;
 use crate::slot::{Entry, Slot};
 use crate::sought::{Sought, head, key_head, order, order_behind};
+use block_list::Blocks;
 use std::alloc::Allocator;
 use std::cmp::Ordering;
 use std::marker::Model;
@@ -22,7 +23,7 @@ use std::mem;
 /// Values by key, in the order of the keys, byte by byte.
 #[derive(Drop)]
 pub struct Table<V, A: Allocator> {
-    pub(crate) entries: Vec<Slot<V, A>, A>,
+    pub(crate) entries: Blocks<Slot<V, A>, A>,
 }
 
 impl<V, A: Allocator> Model for Table<V, A> {
@@ -50,15 +51,16 @@ fn order_by_head<V, A: Allocator>(slot: &Slot<V, A>, head: u64, sought: Sought<'
 
 /// Where the entry that is looked for stands, or would stand, by its head.
 fn place_of<V, A: Allocator>(
-    slots: &[Slot<V, A>],
+    slots: &Blocks<Slot<V, A>, A>,
     head: u64,
     sought: Sought<'_>,
 ) -> Result<usize, usize>
     requires head { head ≡ head_of (sought_key sought) }
     requires bytes { AreBytesTo 8 (sought_key sought) }
-    ensures bound { IsSearchInRange result (length slots.now) }
+    ensures bound { IsSearchInRange result (length slots.now.items) }
     ensures place { IsBinarySearchResult
-        (λ slot. bytes_cmp slot.entry.value.key.items (sought_key sought.entry)) slots.now result }
+        (λ slot. bytes_cmp slot.entry.value.key.items (sought_key sought.entry)) slots.now.items
+        result }
 {
     slots.binary_search_by(
         |slot: &Slot<V, A>| -> Ordering
@@ -72,17 +74,18 @@ fn place_of<V, A: Allocator>(
 /// Where the entry that is looked for stands, or would stand. It is first looked for at the place
 /// near which it stood last; that place is then where it was found.
 fn place_near<V, A: Allocator>(
-    slots: &[Slot<V, A>],
+    slots: &Blocks<Slot<V, A>, A>,
     near: &mut usize,
     sought: Sought<'_>,
 ) -> Result<usize, usize>
-    ensures bound { IsSearchInRange result (length slots.now) }
+    ensures bound { IsSearchInRange result (length slots.now.items) }
     ensures place { IsBinarySearchResult
-        (λ slot. bytes_cmp slot.entry.value.key.items (sought_key sought.entry)) slots.now result }
+        (λ slot. bytes_cmp slot.entry.value.key.items (sought_key sought.entry)) slots.now.items
+        result }
 {
     let last = *near;
     if last < slots.len() {
-        if order(&slots[last].entry.key, sought).is_eq() {
+        if order(&slots.at(last).entry.key, sought).is_eq() {
             return Ok(last);
         }
     }
@@ -139,7 +142,7 @@ impl<V, A: Allocator> Table<V, A> {
         ensures { result.all ≡ fin.empty }
     {
         Table {
-            entries: Vec::new(alloc),
+            entries: Blocks::new(alloc),
         }
     }
 
@@ -166,7 +169,7 @@ impl<V, A: Allocator> Table<V, A> {
             sought.entry) }
     {
         match place_of(&self.entries, head, sought) {
-            Ok(place) => Some(&self.entries[place].entry.value),
+            Ok(place) => Some(&self.entries.at(place).entry.value),
             Err(_) => None,
         }
     }
@@ -177,7 +180,7 @@ impl<V, A: Allocator> Table<V, A> {
             sought.entry) }
     {
         match place_near(&self.entries, near, sought) {
-            Ok(place) => Some(&self.entries[place].entry.value),
+            Ok(place) => Some(&self.entries.at(place).entry.value),
             Err(_) => None,
         }
     }
@@ -202,22 +205,26 @@ impl<V, A: Allocator> Table<V, A> {
     pub fn at(&self, place: usize) -> Option<(&[u8], &V)>
         ensures { option_map entry_now result ≡ slice_get (fin.entries self.now.all) place }
     {
-        match item_at(&self.entries, place) {
-            Some(slot) => Some((slot.entry.key.as_slice(), &slot.entry.value)),
-            None => None,
+        if place < self.entries.len() {
+            let slot = self.entries.at(place);
+            Some((slot.entry.key.as_slice(), &slot.entry.value))
+        } else {
+            None
         }
     }
+}
 
+impl<V: Drop, A: Allocator> Table<V, A> {
     /// Makes room for more entries.
     pub fn reserve(&mut self, more: usize) -> Result<(), OutOfMemory>
+    where
+        A: Copy,
         ensures all { self.new.all ≡ self.old.all }
         ensures room { OnOk result (more ≤ self.new.spare) }
     {
         self.entries.reserve(more)
     }
-}
 
-impl<V: Drop, A: Allocator> Table<V, A> {
     /// Puts an entry in its place, or in the place of one of the same key.
     pub fn insert(&mut self, entry: Box<Entry<V, A>, A>)
         requires { 0 < self.old.spare }
@@ -240,8 +247,8 @@ impl<V: Drop, A: Allocator> Table<V, A> {
         let found = place_near(&self.entries, near, Sought::Key(&entry.key));
         let slot = Slot { head, entry };
         match found {
-            Ok(place) => self.entries[place] = slot,
-            Err(place) => insert_at(&mut self.entries, place, slot),
+            Ok(place) => *self.entries.at_mut(place) = slot,
+            Err(place) => self.entries.insert(place, slot),
         }
     }
 
@@ -255,7 +262,7 @@ impl<V: Drop, A: Allocator> Table<V, A> {
     {
         match place_near(&self.entries, near, sought) {
             Ok(place) => {
-                mem::swap(&mut self.entries[place].entry.value, value);
+                mem::swap(&mut self.entries.at_mut(place).entry.value, value);
                 true
             }
             Err(_) => false,

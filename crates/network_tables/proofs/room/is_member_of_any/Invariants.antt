@@ -4,6 +4,6 @@ use Rattle.network_tables.specs.Sought.{sought_key}
 use Rattle.network_tables.specs.Rooms.{room_entry, is_in}
 use Rattle.network_tables.proofs.room.is_member_of_any.Given as goal
 
-abbrev pub invariant-loop-room : goal.invariant-loop-room
-invariant-loop-room g l = list_any (is_in (sought_key l.who)) (map room_entry (take l.room-index
-    l.rooms)) ≡ false
+abbrev pub invariant-loop-place : goal.invariant-loop-place
+invariant-loop-place g l = list_any (is_in (sought_key l.who)) (map room_entry (take l.place
+    l.rooms.items)) ≡ false

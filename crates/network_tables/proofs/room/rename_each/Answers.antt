@@ -1,28 +1,29 @@
-use Rattle.std.proofs.Common.{◌≡◌, ◌<◌, ◌+◌, ◌∷◌, [], Some, map, ap, get_or, length, length-append, sym, subst, arith, ◌∙◌}
+use Rattle.std.proofs.Common.{◌≡◌, ◌<◌, ◌+◌, ◌∷◌, [], Some, map, ap, length, length-append, length-set, sym, subst, arith, ◌∙◌}
 use Rattle.std.proofs.lemmas.List.Elements.{All-pop}
 use Rattle.network_tables.specs.Sought.{sought_key}
 use Rattle.network_tables.specs.Rooms.{room_entry, channel_of, moved_in, moved_channel}
 use Rattle.network_tables.proofs.EachLemmas.{changed_more}
 use Rattle.network_tables.proofs.room.rename_each.Goals as goal
 
-pub loop-room-preserved : goal.loop-room-preserved
-loop-room-preserved g c =
-    let s = c.loop-room.rooms in
-    let i = c.loop-room.room-index in
-    let x = get_or s i c.room-item.result in
+pub loop-place-preserved : goal.loop-place-preserved
+loop-place-preserved g c =
+    let s = c.loop-place.rooms.items in
+    let i = c.loop-place.place in
+    let x = c.at_mut-room.result.now in
     let k = sought_key c.args.old in
-    let popped = All-pop (λ key. key.items ≡ c.args.new.now) c.loop-room.keys.items
+    let popped = All-pop (λ key. key.items ≡ c.args.new.now) c.loop-place.keys.items
     c.pop.new.self.items (Some c.in-Some.key) c.in-Some.ensures.items
-    c.loop-room.invariant.copies in
-    let less : length c.loop-room.keys.items ≡ length c.pop.new.self.items + 1 = ap length
+    c.loop-place.invariant.copies in
+    let less : length c.loop-place.keys.items ≡ length c.pop.new.self.items + 1 = ap length
     c.in-Some.ensures.items ∙ length-append c.pop.new.self.items (c.in-Some.key ∷ []) in
-    let enough = c.loop-room.invariant.enough in
+    let enough = c.loop-place.invariant.enough in
     record {
       changed = changed_more (λ e. (e.0, moved_channel c.args.taken k c.args.new.now e.1)) room_entry (map
-          room_entry c.args.rooms.now) s i x _
-          (subst (λ n. i < n) (sym c.loop-room.auto.rooms) c.loop-room-test.true)
-          c.loop-room.invariant.changed
-          (ap (λ z. get_or s i z) c.room-item.is)
+          room_entry c.args.rooms.now.items) s i x _
+          (subst (λ n. i < n) (c.len-place-end.ensures ∙ sym c.loop-place.invariant.as_long)
+          c.loop-place-test.true)
+          c.loop-place.invariant.changed
+          c.at_mut-room.ensures.value
           ((λ j. (
             c.deref_mut.result.now.key.items,
             record (channel_of c.deref_mut.result.now.value) {
@@ -32,6 +33,7 @@ loop-room-preserved g c =
           ))
           ∙ ap (λ e. (e.key.items, moved_channel c.args.taken k c.args.new.now (channel_of e.value)))
           c.deref_mut.ensures.value);
+      as_long = length-set s i _ ∙ c.loop-place.invariant.as_long;
       enough = omega (arith, less, enough);
       copies = popped.0;
     }

@@ -1,25 +1,33 @@
-use Rattle.std.proofs.Common.{Some, None, sym, ap, ◌∙◌}
+use Rattle.std.proofs.Common.{Some, None, sym, ap, ◌∙◌, ◌≡◌, ◌≤◌, ℕ, List, [], ◌∷◌, length, zero, suc, refl, arith}
 use Rattle.std.specs.List.{slice_get}
-use Rattle.std.specs.Option.{option_map}
+use Rattle.std.proofs.lemmas.Option.{slice_get_read}
 use Rattle.std.specs.FinMap as fin
 use Rattle.net_view.specs.Names.{bytes_cmp}
 use Rattle.network_tables.specs.Table.{entry_of}
 use Rattle.network_tables.proofs.TableLemmas.{entry_there}
 use Rattle.network_tables.proofs.table.Table.at.Goals as goal
 
-pub returns-in-Some : goal.returns-in-Some
-returns-in-Some g c =
+none_past : {X : Type 0} (xs : List X) (i : ℕ) → length xs ≤ i → None ≡ slice_get xs i
+none_past [] i l = refl
+none_past (x ∷ xs) zero l = absurd (omega arith)
+none_past (x ∷ xs) (suc i) l = none_past xs i (omega arith)
+
+pub returns-then-place-len : goal.returns-then-place-len
+returns-then-place-len g c =
     (λ i. Some (
       (c.as_slice.ensures.value ∙ ap (λ e. e.key.items) c.deref.ensures) i,
-      (c.deref-in-Some.ensures i).value,
+      (c.deref-then-place-len.ensures i).value,
     ))
     ∙ entry_there bytes_cmp entry_of c.self.inside.entries.items c.self.invariant c.args.place
-    (Some c.in-Some.slot.now)
-    (ap (option_map (λ e. e.now)) (sym c.in-Some.is) ∙ c.item_at.ensures)
+    (Some c.at-slot.result.now)
+    (sym (slice_get_read c.self.inside.entries.items _ c.args.place c.at-slot.result.now
+    c.len.ensures c.if-place-len.true c.at-slot.ensures))
     ∙ ap (λ t. slice_get (fin.entries t.all) c.args.place) c.self.view_is
 
-pub returns-in-None : goal.returns-in-None
-returns-in-None g c =
+pub returns-else-place-len : goal.returns-else-place-len
+returns-else-place-len g c =
+    let long = c.len.ensures in
+    let past = c.if-place-len.false in
     entry_there bytes_cmp entry_of c.self.inside.entries.items c.self.invariant c.args.place None
-    (ap (option_map (λ e. e.now)) (sym c.in-None.is) ∙ c.item_at.ensures)
+    (none_past c.self.inside.entries.items c.args.place (omega (arith, long, past)))
     ∙ ap (λ t. slice_get (fin.entries t.all) c.args.place) c.self.view_is

@@ -6,5 +6,5 @@ use Rattle.network_tables.proofs.TableLemmas.{no_entries}
 use Rattle.network_tables.proofs.table.Table.clear.Goals as goal
 
 pub returns : goal.returns
-returns g c = ap (λ l. fin.from_sorted {R = bytes_cmp} (map entry_of l)) c.clear.ensures.items ∙
+returns g c = ap (λ l. fin.from_sorted {R = bytes_cmp} (map entry_of l)) c.clear.ensures ∙
     no_entries

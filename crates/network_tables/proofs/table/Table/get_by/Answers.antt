@@ -9,17 +9,17 @@ use Rattle.network_tables.proofs.table.Table.get_by.Goals as goal
 
 pub returns-in-Ok : goal.returns-in-Ok
 returns-in-Ok g c =
-    ap (λ e. Some e.value) c.deref-in-Ok.ensures
+    ap (λ e. Some e.value) c.deref.ensures
     ∙ got nat_list_cmp_total bytes_exact entry_of c.self.inside.entries.items c.self.invariant
     (sought_key c.args.sought) c.in-Ok.place
-    (rw c.deref.ensures.value at c.in-Ok.ensures.bound)
-    (rw c.deref.ensures.value at c.in-Ok.ensures.place) c.index.result.now c.index.ensures
+    c.in-Ok.ensures.bound
+    c.in-Ok.ensures.place c.at.result.now c.at.ensures
     ∙ ap (λ t. fin.get t.all (sought_key c.args.sought)) c.self.view_is
 
 pub returns-in-Err : goal.returns-in-Err
 returns-in-Err g c =
     got_none nat_list_cmp_total bytes_exact entry_of c.self.inside.entries.items c.self.invariant
     (sought_key c.args.sought) c.in-Err.field-0
-    (rw c.deref.ensures.value at c.in-Err.ensures.bound)
-    (rw c.deref.ensures.value at c.in-Err.ensures.place)
+    c.in-Err.ensures.bound
+    c.in-Err.ensures.place
     ∙ ap (λ t. fin.get t.all (sought_key c.args.sought)) c.self.view_is

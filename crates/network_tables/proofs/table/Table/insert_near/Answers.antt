@@ -15,27 +15,27 @@ use Rattle.network_tables.proofs.table.Table.insert_near.Goals as goal
 pub invariant_of-self : goal.invariant_of-self
 invariant_of-self g c =
     sorted_put nat_list_cmp_total bytes_exact entry_of c.self.inside.entries.items
-    c.self.invariant c.deref-5.result.now c.in-Ok.place
-    (rw c.deref-3.ensures.value at c.in-Ok.ensures.bound)
-    (rw c.deref-3.ensures.value at c.in-Ok.ensures.place) _
-    (sym (c.deref-5.ensures.value ∙ ap (λ e. e.key.items) c.deref-4.ensures))
+    c.self.invariant c.deref-4.result.now c.in-Ok.place
+    c.in-Ok.ensures.bound
+    c.in-Ok.ensures.place _
+    (sym (c.deref-4.ensures.value ∙ ap (λ e. e.key.items) c.deref-3.ensures))
 
 pub invariant_of-self-in-Err : goal.invariant_of-self-in-Err
 invariant_of-self-in-Err g c =
-    subst (λ l. T (fin.is_sorted bytes_cmp (map entry_of l))) (sym c.insert_at.ensures.items)
+    subst (λ l. T (fin.is_sorted bytes_cmp (map entry_of l))) (sym c.insert.ensures.items)
     (sorted_inserted nat_list_cmp_total bytes_exact entry_of c.self.inside.entries.items
-    c.self.invariant c.deref-5.result.now c.in-Err.place
-    (rw c.deref-3.ensures.value at c.in-Err.ensures.bound)
-    (rw c.deref-3.ensures.value at c.in-Err.ensures.place) _
-    (sym (c.deref-5.ensures.value ∙ ap (λ e. e.key.items) c.deref-4.ensures)))
+    c.self.invariant c.deref-4.result.now c.in-Err.place
+    c.in-Err.ensures.bound
+    c.in-Err.ensures.place _
+    (sym (c.deref-4.ensures.value ∙ ap (λ e. e.key.items) c.deref-3.ensures)))
 
 pub returns-in-Ok-clause-all : goal.returns-in-Ok-clause-all
 returns-in-Ok-clause-all g c =
-    let is = c.deref-5.ensures.value ∙ ap (λ e. e.key.items) c.deref-4.ensures in
+    let is = c.deref-4.ensures.value ∙ ap (λ e. e.key.items) c.deref-3.ensures in
     put_there nat_list_cmp_total bytes_exact entry_of c.self.inside.entries.items
-    c.self.invariant c.deref-5.result.now c.in-Ok.place
-    (rw c.deref-3.ensures.value at c.in-Ok.ensures.bound)
-    (rw c.deref-3.ensures.value at c.in-Ok.ensures.place) _ (sym is)
+    c.self.invariant c.deref-4.result.now c.in-Ok.place
+    c.in-Ok.ensures.bound
+    c.in-Ok.ensures.place _ (sym is)
     ∙ ap (λ k. fin.insert (fin.from_sorted {R = bytes_cmp} (map entry_of
     c.self.inside.entries.items)) k c.args.entry.value.value) is
     ∙ ap (λ t. fin.insert t.all c.args.entry.value.key.items c.args.entry.value.value)
@@ -43,12 +43,12 @@ returns-in-Ok-clause-all g c =
 
 pub returns-in-Err-clause-all : goal.returns-in-Err-clause-all
 returns-in-Err-clause-all g c =
-    let is = c.deref-5.ensures.value ∙ ap (λ e. e.key.items) c.deref-4.ensures in
-    ap (λ l. fin.from_sorted {R = bytes_cmp} (map entry_of l)) c.insert_at.ensures.items
+    let is = c.deref-4.ensures.value ∙ ap (λ e. e.key.items) c.deref-3.ensures in
+    ap (λ l. fin.from_sorted {R = bytes_cmp} (map entry_of l)) c.insert.ensures.items
     ∙ inserted_there nat_list_cmp_total bytes_exact entry_of c.self.inside.entries.items
-    c.self.invariant c.deref-5.result.now c.in-Err.place
-    (rw c.deref-3.ensures.value at c.in-Err.ensures.bound)
-    (rw c.deref-3.ensures.value at c.in-Err.ensures.place) _ (sym is)
+    c.self.invariant c.deref-4.result.now c.in-Err.place
+    c.in-Err.ensures.bound
+    c.in-Err.ensures.place _ (sym is)
     ∙ ap (λ k. fin.insert (fin.from_sorted {R = bytes_cmp} (map entry_of
     c.self.inside.entries.items)) k c.args.entry.value.value) is
     ∙ ap (λ t. fin.insert t.all c.args.entry.value.key.items c.args.entry.value.value)

@@ -7,7 +7,6 @@ use Rattle.network_tables.proofs.table.Table.len.Goals as goal
 
 pub returns : goal.returns
 returns g c =
-    c.len.ensures ∙ c.self.inside.entries.ok.0
-    ∙ sym (length-map c.self.inside.entries.items entry_of)
+    c.len.ensures ∙ sym (length-map c.self.inside.entries.items entry_of)
     ∙ ap length (sym (fin.entries-from_sorted bytes_cmp _ c.self.invariant))
     ∙ ap (λ t. length (fin.entries t.all)) c.self.view_is

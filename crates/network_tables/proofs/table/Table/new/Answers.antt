@@ -6,5 +6,5 @@ use Rattle.network_tables.proofs.TableLemmas.{no_entries}
 use Rattle.network_tables.proofs.table.Table.new.Goals as goal
 
 pub returns : goal.returns
-returns g c = ap (λ l. fin.from_sorted {R = bytes_cmp} (map entry_of l)) c.new.ensures.items ∙
+returns g c = ap (λ l. fin.from_sorted {R = bytes_cmp} (map entry_of l)) c.new.ensures ∙
     no_entries

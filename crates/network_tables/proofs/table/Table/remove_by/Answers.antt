@@ -14,15 +14,15 @@ invariant_of-self g c =
     subst (λ l. T (fin.is_sorted bytes_cmp (map entry_of l))) (sym c.remove.ensures.items)
     (sorted_removed nat_list_cmp_total bytes_exact entry_of c.self.inside.entries.items
     c.self.invariant (sought_key c.args.sought) c.in-Ok.place
-    (rw c.deref.ensures.value at c.in-Ok.ensures.bound)
-    (rw c.deref.ensures.value at c.in-Ok.ensures.place) c.remove.result)
+    c.in-Ok.ensures.bound
+    c.in-Ok.ensures.place c.remove.result)
 
 pub returns-in-Ok-clause-value : goal.returns-in-Ok-clause-value
 returns-in-Ok-clause-value g c =
     got nat_list_cmp_total bytes_exact entry_of c.self.inside.entries.items c.self.invariant
     (sought_key c.args.sought) c.in-Ok.place
-    (rw c.deref.ensures.value at c.in-Ok.ensures.bound)
-    (rw c.deref.ensures.value at c.in-Ok.ensures.place) c.remove.result c.remove.ensures.value
+    c.in-Ok.ensures.bound
+    c.in-Ok.ensures.place c.remove.result c.remove.ensures.value
     ∙ ap (λ t. fin.get t.all (sought_key c.args.sought)) c.self.view_is
 
 pub returns-in-Ok-clause-all : goal.returns-in-Ok-clause-all
@@ -30,16 +30,16 @@ returns-in-Ok-clause-all g c =
     ap (λ l. fin.from_sorted {R = bytes_cmp} (map entry_of l)) c.remove.ensures.items
     ∙ removed_there nat_list_cmp_total bytes_exact entry_of c.self.inside.entries.items
     c.self.invariant (sought_key c.args.sought) c.in-Ok.place
-    (rw c.deref.ensures.value at c.in-Ok.ensures.bound)
-    (rw c.deref.ensures.value at c.in-Ok.ensures.place) c.remove.result
+    c.in-Ok.ensures.bound
+    c.in-Ok.ensures.place c.remove.result
     ∙ ap (λ t. fin.remove t.all (sought_key c.args.sought)) c.self.view_is
 
 pub returns-in-Err-clause-value : goal.returns-in-Err-clause-value
 returns-in-Err-clause-value g c =
     got_none nat_list_cmp_total bytes_exact entry_of c.self.inside.entries.items c.self.invariant
     (sought_key c.args.sought) c.in-Err.field-0
-    (rw c.deref.ensures.value at c.in-Err.ensures.bound)
-    (rw c.deref.ensures.value at c.in-Err.ensures.place)
+    c.in-Err.ensures.bound
+    c.in-Err.ensures.place
     ∙ ap (λ t. fin.get t.all (sought_key c.args.sought)) c.self.view_is
 
 pub returns-in-Err-clause-all : goal.returns-in-Err-clause-all
@@ -47,6 +47,6 @@ returns-in-Err-clause-all g c =
     sym (removed_none c.args.self.now.all (sought_key c.args.sought)
     (sym (got_none nat_list_cmp_total bytes_exact entry_of c.self.inside.entries.items
     c.self.invariant (sought_key c.args.sought) c.in-Err.field-0
-    (rw c.deref.ensures.value at c.in-Err.ensures.bound)
-    (rw c.deref.ensures.value at c.in-Err.ensures.place)
+    c.in-Err.ensures.bound
+    c.in-Err.ensures.place
     ∙ ap (λ t. fin.get t.all (sought_key c.args.sought)) c.self.view_is)))

@@ -21,57 +21,57 @@ pub invariant_of-self : goal.invariant_of-self
 invariant_of-self g c =
     sorted_there nat_list_cmp_total bytes_exact entry_of c.self.inside.entries.items
     c.self.invariant (sought_key c.args.sought) c.in-Ok.place
-    (rw c.deref.ensures.value at c.in-Ok.ensures.bound)
-    (rw c.deref.ensures.value at c.in-Ok.ensures.place) c.index_mut.result.now _ c.index_mut.ensures.value
+    c.in-Ok.ensures.bound
+    c.in-Ok.ensures.place c.at_mut.result.now _ c.at_mut.ensures.value
     (ap (λ e. e.key.items) c.deref_mut.ensures.value)
 
 pub returns-in-Ok-clause-found : goal.returns-in-Ok-clause-found
 returns-in-Ok-clause-found g c =
     ap is_some (got nat_list_cmp_total bytes_exact entry_of c.self.inside.entries.items
     c.self.invariant (sought_key c.args.sought) c.in-Ok.place
-    (rw c.deref.ensures.value at c.in-Ok.ensures.bound)
-    (rw c.deref.ensures.value at c.in-Ok.ensures.place) c.index_mut.result.now
-    c.index_mut.ensures.value)
+    c.in-Ok.ensures.bound
+    c.in-Ok.ensures.place c.at_mut.result.now
+    c.at_mut.ensures.value)
     ∙ ap (λ t. fin.contains_key t.all (sought_key c.args.sought)) c.self.view_is
 
 pub returns-in-Ok-clause-all : goal.returns-in-Ok-clause-all
 returns-in-Ok-clause-all g c =
     written_there nat_list_cmp_total bytes_exact entry_of c.self.inside.entries.items
     c.self.invariant (sought_key c.args.sought) c.in-Ok.place
-    (rw c.deref.ensures.value at c.in-Ok.ensures.bound)
-    (rw c.deref.ensures.value at c.in-Ok.ensures.place) c.index_mut.result.now _ c.index_mut.ensures.value
+    c.in-Ok.ensures.bound
+    c.in-Ok.ensures.place c.at_mut.result.now _ c.at_mut.ensures.value
     (ap (λ e. e.key.items) c.deref_mut.ensures.value)
     ∙ ap (λ v. fin.insert (fin.from_sorted {R = bytes_cmp} (map entry_of
     c.self.inside.entries.items)) (sought_key c.args.sought) v) c.swap.ensures.x_after
     ∙ ap (λ t. fin.insert t.all (sought_key c.args.sought) c.args.value.now) c.self.view_is
-    ∙ in_found c.args.self.now.all (sought_key c.args.sought) c.index_mut.result.now.entry.value.value
+    ∙ in_found c.args.self.now.all (sought_key c.args.sought) c.at_mut.result.now.entry.value.value
     c.args.value.now
     (got nat_list_cmp_total bytes_exact entry_of c.self.inside.entries.items c.self.invariant
     (sought_key c.args.sought) c.in-Ok.place
-    (rw c.deref.ensures.value at c.in-Ok.ensures.bound)
-    (rw c.deref.ensures.value at c.in-Ok.ensures.place) c.index_mut.result.now
-    c.index_mut.ensures.value
+    c.in-Ok.ensures.bound
+    c.in-Ok.ensures.place c.at_mut.result.now
+    c.at_mut.ensures.value
     ∙ ap (λ t. fin.get t.all (sought_key c.args.sought)) c.self.view_is)
 
 pub returns-in-Ok-clause-value : goal.returns-in-Ok-clause-value
 returns-in-Ok-clause-value g c =
     c.swap.ensures.y_after
     ∙ ap (λ e. e.value) c.deref_mut.ensures.value
-    ∙ out_found c.args.self.now.all (sought_key c.args.sought) c.index_mut.result.now.entry.value.value
+    ∙ out_found c.args.self.now.all (sought_key c.args.sought) c.at_mut.result.now.entry.value.value
     c.args.value.now
     (got nat_list_cmp_total bytes_exact entry_of c.self.inside.entries.items c.self.invariant
     (sought_key c.args.sought) c.in-Ok.place
-    (rw c.deref.ensures.value at c.in-Ok.ensures.bound)
-    (rw c.deref.ensures.value at c.in-Ok.ensures.place) c.index_mut.result.now
-    c.index_mut.ensures.value
+    c.in-Ok.ensures.bound
+    c.in-Ok.ensures.place c.at_mut.result.now
+    c.at_mut.ensures.value
     ∙ ap (λ t. fin.get t.all (sought_key c.args.sought)) c.self.view_is)
 
 pub returns-in-Err-clause-found : goal.returns-in-Err-clause-found
 returns-in-Err-clause-found g c =
     ap is_some (got_none nat_list_cmp_total bytes_exact entry_of c.self.inside.entries.items
     c.self.invariant (sought_key c.args.sought) c.in-Err.field-0
-    (rw c.deref.ensures.value at c.in-Err.ensures.bound)
-    (rw c.deref.ensures.value at c.in-Err.ensures.place))
+    c.in-Err.ensures.bound
+    c.in-Err.ensures.place)
     ∙ ap (λ t. fin.contains_key t.all (sought_key c.args.sought)) c.self.view_is
 
 pub returns-in-Err-clause-all : goal.returns-in-Err-clause-all
@@ -79,8 +79,8 @@ returns-in-Err-clause-all g c =
     in_none c.args.self.now.all (sought_key c.args.sought) c.args.value.now
     (got_none nat_list_cmp_total bytes_exact entry_of c.self.inside.entries.items c.self.invariant
     (sought_key c.args.sought) c.in-Err.field-0
-    (rw c.deref.ensures.value at c.in-Err.ensures.bound)
-    (rw c.deref.ensures.value at c.in-Err.ensures.place)
+    c.in-Err.ensures.bound
+    c.in-Err.ensures.place
     ∙ ap (λ t. fin.get t.all (sought_key c.args.sought)) c.self.view_is)
 
 pub returns-in-Err-clause-value : goal.returns-in-Err-clause-value
@@ -88,6 +88,6 @@ returns-in-Err-clause-value g c =
     out_none c.args.self.now.all (sought_key c.args.sought) c.args.value.now
     (got_none nat_list_cmp_total bytes_exact entry_of c.self.inside.entries.items c.self.invariant
     (sought_key c.args.sought) c.in-Err.field-0
-    (rw c.deref.ensures.value at c.in-Err.ensures.bound)
-    (rw c.deref.ensures.value at c.in-Err.ensures.place)
+    c.in-Err.ensures.bound
+    c.in-Err.ensures.place
     ∙ ap (λ t. fin.get t.all (sought_key c.args.sought)) c.self.view_is)

@@ -1,0 +1,4 @@
+pub mod Middles
+pub mod Tiles
+pub mod Results
+pub mod Narrowing

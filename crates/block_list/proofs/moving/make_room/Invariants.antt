@@ -1,0 +1,14 @@
+use Rattle.std.proofs.Common.{◌≡◌, length, ◌≤◌, ◌+◌}
+use Rattle.block_list.specs.Blocks.{items_of, IsShort}
+use Rattle.block_list.proofs.moving.make_room.Given as goal
+
+abbrev pub invariant-loop-hole : goal.invariant-loop-hole
+invariant-loop-hole g l = record {
+  items : items_of l.blocks.items ≡ items_of l.initial.blocks.items;
+  count : length l.blocks.items ≡ length l.initial.blocks.items;
+  short : IsShort l.blocks.items (l.len + 1) l.hole;
+  behind : l.first ≤ l.hole;
+}
+
+abbrev pub decreases-loop-hole : goal.decreases-loop-hole
+decreases-loop-hole g l = l.hole
