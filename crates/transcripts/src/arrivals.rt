@@ -2,7 +2,7 @@
 
 use crate::clients::asked;
 use crate::playback::history_of;
-use crate::views::{quick_of, tape_of};
+use crate::views::{Rows, check_after};
 use history::Entry;
 use net_view::NetworkView;
 use std::alloc::Global;
@@ -40,18 +40,21 @@ fn told<V: NetworkView>(
     }
 }
 
-/// What a view has told: capabilities, what is told.
-fn rows_told<R: AllocGlobal + Abort, V: NetworkView>(
-    rt: &R,
-    view: &V,
-    missed: &[&Entry],
-    rows: &[(&[u8], &[u8])],
-) -> Result<(), Fail> {
-    for (names, wanted) in rows {
-        let text = told(rt.alloc(), view, names, missed)?;
-        assert!(rt; text.as_slice() == *wanted);
+/// Messages that were missed; capabilities, and what is told.
+#[derive(Clone, Copy)]
+struct Arrivals<'a> {
+    missed: &'a [&'a Entry],
+    rows: &'a [(&'a [u8], &'a [u8])],
+}
+
+impl Rows for Arrivals<'_> {
+    fn check<R: AllocGlobal + Abort, V: NetworkView>(&self, rt: &R, view: &V) -> Result<(), Fail> {
+        for (names, wanted) in self.rows {
+            let text = told(rt.alloc(), view, names, self.missed)?;
+            assert!(rt; text.as_slice() == *wanted);
+        }
+        Ok(())
     }
-    Ok(())
 }
 
 /// What both views have told of themselves and of the messages of these lines.
@@ -63,8 +66,11 @@ fn check_told<R: AllocGlobal + Abort>(
 ) -> Result<(), Fail> {
     let history = history_of(rt.alloc(), said)?;
     let missed = history.missed(rt.alloc(), None)?;
-    rows_told(rt, &tape_of(rt.alloc(), texts)?, &missed, rows)?;
-    rows_told(rt, &quick_of(rt.alloc(), texts)?, &missed, rows)
+    let arrivals = Arrivals {
+        missed: &missed,
+        rows,
+    };
+    check_after(rt, texts, &arrivals)
 }
 
 /// No capabilities, and all six.

@@ -1,6 +1,7 @@
 //! What clients ask for and are sent.
 
-use crate::views::{quick_of, tape_of};
+use crate::lines::line;
+use crate::views::{Rows, check_after};
 use client_caps::{Caps, Moment, image, part_lines, read_request};
 use irc_line::Line;
 use net_view::NetworkView;
@@ -8,11 +9,6 @@ use std::alloc::Global;
 use std::process::Abort;
 use std::test::Fail;
 use welcome::Packet;
-
-pub(crate) fn line(alloc: Global, text: &[u8]) -> Result<Line, Fail> {
-    let line = Line::<Global>::read(alloc, text)?;
-    Ok(line.ok_or("the text is a line")?)
-}
 
 /// A welcome, our JOIN, and that of a person with an account.
 const JOINED: [&[u8]; 5] = [
@@ -43,17 +39,18 @@ fn image_text<V: NetworkView>(
     Ok(out)
 }
 
-/// Images of lines by a view: capabilities, the line, what is sent.
-fn rows_sent<R: AllocGlobal + Abort, V: NetworkView>(
-    rt: &R,
-    view: &V,
-    rows: &[(&[u8], &[u8], &[u8])],
-) -> Result<(), Fail> {
-    for (names, text, wanted) in rows {
-        let sent = image_text(rt.alloc(), view, asked(names)?, text)?;
-        assert!(rt; sent.as_slice() == *wanted);
+/// Capabilities, a line, and what is sent.
+#[derive(Clone, Copy)]
+struct Images<'a>(&'a [(&'a [u8], &'a [u8], &'a [u8])]);
+
+impl Rows for Images<'_> {
+    fn check<R: AllocGlobal + Abort, V: NetworkView>(&self, rt: &R, view: &V) -> Result<(), Fail> {
+        for (names, text, wanted) in self.0 {
+            let sent = image_text(rt.alloc(), view, asked(names)?, text)?;
+            assert!(rt; sent.as_slice() == *wanted);
+        }
+        Ok(())
     }
-    Ok(())
 }
 
 /// Images of lines by both views, after these texts.
@@ -62,8 +59,23 @@ pub(crate) fn check_images<R: AllocGlobal + Abort>(
     texts: &[&[u8]],
     rows: &[(&[u8], &[u8], &[u8])],
 ) -> Result<(), Fail> {
-    rows_sent(rt, &tape_of(rt.alloc(), texts)?, rows)?;
-    rows_sent(rt, &quick_of(rt.alloc(), texts)?, rows)
+    check_after(rt, texts, &Images(rows))
+}
+
+/// The names of these capabilities, a space behind each; `-` where a request was not taken.
+fn names_held(alloc: Global, caps: Option<Caps>) -> Result<Vec<u8>, Fail> {
+    let mut text = Vec::new(alloc);
+    let Some(caps) = caps else {
+        text.push(b'-')?;
+        return Ok(text);
+    };
+    for place in 0..6 {
+        if caps.holds(place) {
+            text.extend_from_slice(Caps::name(place).ok_or("six names")?)?;
+            text.push(b' ')?;
+        }
+    }
+    Ok(text)
 }
 
 /// Requests, and the names held after them.
@@ -84,27 +96,67 @@ fn capabilities_asked_for(rt: HostRuntime) -> Result<(), Fail> {
     ];
     let before = asked(b"multi-prefix")?;
     for (text, wanted) in &rows {
-        let mut held = Vec::new(rt.alloc());
-        match read_request(before, text) {
-            Some(caps) => {
-                for place in 0..6 {
-                    if caps.holds(place) {
-                        held.extend_from_slice(Caps::name(place).ok_or("six names")?)?;
-                        held.push(b' ')?;
-                    }
-                }
-            }
-            None => held.push(b'-')?,
-        }
+        let held = names_held(rt.alloc(), read_request(before, text))?;
         assert!(&rt; held.as_slice() == *wanted);
     }
     assert!(&rt; Caps::name(6).is_none());
     Ok(())
 }
 
-/// Images of lines: capabilities, the line, what is sent.
+/// Images of lines of persons.
+const OF_PERSONS: [(&[u8], &[u8], &[u8]); 10] = [
+    (b"", b":bob!b@h ACCOUNT x", b"-"),
+    (
+        b"account-notify",
+        b":bob!b@h ACCOUNT x",
+        b":bob!b@h ACCOUNT x\r\n",
+    ),
+    (b"account-notify", b":bob!b@h AWAY :x y", b"-"),
+    (
+        b"away-notify",
+        b":bob!b@h AWAY :x y",
+        b":bob!b@h AWAY :x y\r\n",
+    ),
+    (
+        b"",
+        b":eve!e@h JOIN #d eveacc :Eve",
+        b":eve!e@h JOIN #d\r\n",
+    ),
+    (
+        b"",
+        b":eve!e@h JOIN d eveacc :Eve",
+        b":eve!e@h JOIN d eveacc Eve\r\n",
+    ),
+    (
+        b"extended-join",
+        b":eve!e@h JOIN #d eveacc :Eve E",
+        b":eve!e@h JOIN #d eveacc :Eve E\r\n",
+    ),
+    (
+        b"extended-join",
+        b":eve!e@h JOIN #d eveacc",
+        b":eve!e@h JOIN #d eveacc :\r\n",
+    ),
+    (
+        b"extended-join",
+        b":eve!e@h JOIN #d",
+        b":eve!e@h JOIN #d * :\r\n",
+    ),
+    (
+        b"extended-join",
+        b":BOB!b@h JOIN #d",
+        b":BOB!b@h JOIN #d bobacc :\r\n",
+    ),
+];
+
 #[test]
-fn lines_as_clients_are_sent_them(rt: HostRuntime) -> Result<(), Fail> {
+fn lines_of_persons_as_clients_are_sent_them(rt: HostRuntime) -> Result<(), Fail> {
+    check_images(&rt, &JOINED, &OF_PERSONS)
+}
+
+/// Messages, name lists, changes of names, and lines that no client is sent.
+#[test]
+fn other_lines_as_clients_are_sent_them(rt: HostRuntime) -> Result<(), Fail> {
     check_images(
         &rt,
         &JOINED,
@@ -116,48 +168,6 @@ fn lines_as_clients_are_sent_them(rt: HostRuntime) -> Result<(), Fail> {
             ),
             (b"", b"PING x", b"-"),
             (b"", b"batch +a", b"-"),
-            (b"", b":bob!b@h ACCOUNT x", b"-"),
-            (
-                b"account-notify",
-                b":bob!b@h ACCOUNT x",
-                b":bob!b@h ACCOUNT x\r\n",
-            ),
-            (b"account-notify", b":bob!b@h AWAY :x y", b"-"),
-            (
-                b"away-notify",
-                b":bob!b@h AWAY :x y",
-                b":bob!b@h AWAY :x y\r\n",
-            ),
-            (
-                b"",
-                b":eve!e@h JOIN #d eveacc :Eve",
-                b":eve!e@h JOIN #d\r\n",
-            ),
-            (
-                b"",
-                b":eve!e@h JOIN d eveacc :Eve",
-                b":eve!e@h JOIN d eveacc Eve\r\n",
-            ),
-            (
-                b"extended-join",
-                b":eve!e@h JOIN #d eveacc :Eve E",
-                b":eve!e@h JOIN #d eveacc :Eve E\r\n",
-            ),
-            (
-                b"extended-join",
-                b":eve!e@h JOIN #d eveacc",
-                b":eve!e@h JOIN #d eveacc :\r\n",
-            ),
-            (
-                b"extended-join",
-                b":eve!e@h JOIN #d",
-                b":eve!e@h JOIN #d * :\r\n",
-            ),
-            (
-                b"extended-join",
-                b":BOB!b@h JOIN #d",
-                b":BOB!b@h JOIN #d bobacc :\r\n",
-            ),
             (
                 b"",
                 b":s 353 Me = #c :Me  @+bob!b@h +eve @",
@@ -237,44 +247,49 @@ fn name_lists_by_other_ranks(rt: HostRuntime) -> Result<(), Fail> {
     )
 }
 
-/// What is sent for a loss, by a view.
-fn is_sent_for_a_loss<R: AllocGlobal + Abort, V: NetworkView>(
-    rt: &R,
-    view: &V,
-    wanted: &[u8],
-) -> Result<(), Fail> {
-    let mut text = Vec::new(rt.alloc());
-    for line in part_lines(rt.alloc(), view)? {
-        line.write(&mut text)?;
+/// What is sent for a loss.
+#[derive(Clone, Copy)]
+struct Parts<'a>(&'a [u8]);
+
+impl Rows for Parts<'_> {
+    fn check<R: AllocGlobal + Abort, V: NetworkView>(&self, rt: &R, view: &V) -> Result<(), Fail> {
+        let mut text = Vec::new(rt.alloc());
+        for line in part_lines(rt.alloc(), view)? {
+            line.write(&mut text)?;
+        }
+        assert!(rt; text.as_slice() == self.0);
+        Ok(())
     }
-    assert!(rt; text.as_slice() == wanted);
-    Ok(())
 }
 
 /// Three channels are left for a loss.
 #[test]
 fn channels_left_for_a_loss(rt: HostRuntime) -> Result<(), Fail> {
-    let texts: [&[u8]; 4] = [
-        b":s 001 Me :hi",
-        b":Me!m@h JOIN #c",
-        b":Me!m@h JOIN #b",
-        b":Me!m@h JOIN #A",
-    ];
-    let wanted: &[u8] = b":Me PART #A\r\n:Me PART #b\r\n:Me PART #c\r\n";
-    is_sent_for_a_loss(&rt, &tape_of(rt.alloc(), &texts)?, wanted)?;
-    is_sent_for_a_loss(&rt, &quick_of(rt.alloc(), &texts)?, wanted)
+    check_after(
+        &rt,
+        &[
+            b":s 001 Me :hi",
+            b":Me!m@h JOIN #c",
+            b":Me!m@h JOIN #b",
+            b":Me!m@h JOIN #A",
+        ],
+        &Parts(b":Me PART #A\r\n:Me PART #b\r\n:Me PART #c\r\n"),
+    )
+}
+
+/// The one line of a packet.
+fn is_of_one_line<R: AllocGlobal + Abort>(rt: &R, packet: &Packet) -> Result<(), Fail> {
+    assert!(rt; packet.bytes() == b"PRIVMSG #c :m 1\r\n".as_slice());
+    assert!(rt; packet.line_count() == 1);
+    let line: Line = packet.line(rt.alloc(), 0)?;
+    assert!(rt; line.param(1) == Some(b"m 1".as_slice()));
+    Ok(())
 }
 
 /// A packet, and one that shares its bytes.
 #[test]
 fn a_packet_and_its_share(rt: HostRuntime) -> Result<(), Fail> {
     let packet = Packet::one(rt.alloc(), &line(rt.alloc(), b"PRIVMSG #c :m 1")?)?;
-    let share = packet.share()?;
-    assert!(&rt; share.bytes() == b"PRIVMSG #c :m 1\r\n".as_slice());
-    assert!(&rt; share.line_count() == 1);
-    if share.line_count() > 0 {
-        let line: Line = share.line(rt.alloc(), 0)?;
-        assert!(&rt; line.param(1) == Some(b"m 1".as_slice()));
-    }
-    Ok(())
+    is_of_one_line(&rt, &packet)?;
+    is_of_one_line(&rt, &packet.share()?)
 }

@@ -1,17 +1,12 @@
 //! Registrations whose reader or writer fails at one of its calls.
 
-use bnc_config::{Config, Place};
+use crate::registration::{network_of, plain};
+use bnc_config::NetworkConfig;
 use std::alloc::Global;
 use std::io::{self, ErrorKind, Read, Write};
 use std::process::Abort;
 use std::test::Fail;
-use upstream::{DialFault, Dialled, Duplex};
-
-/// A network without a password and channels.
-const PLAIN: &str = "listen = \"h:1\"\n[[user]]\nname = \"u\"\nsalt = \"\"\n\
-    password = \"ba7816bf8f01cfea414140de5dae2223b00361a396177a9cb410ff61f20015ad\"\n\
-    [[user.network]]\nname = \"n\"\naddress = \"h:2\"\nnick = \"ann\"\nuser = \"ann\"\n\
-    realname = \"Ann A\"\n";
+use upstream::{DialFault, Dialled, Duplex, Registering};
 
 /// What the network sends: five lines.
 const INPUT: &str = ":s CAP * LS * :sasl batch\r\n:s CAP * LS :account-notify=1 multi-prefix\r\n\
@@ -91,29 +86,49 @@ fn word(fault: &DialFault) -> &'static str {
     }
 }
 
+/// How many lines end in a text, as a digit.
+fn lines_in(text: &[u8]) -> u8 {
+    let mut count: usize = 0;
+    for byte in text {
+        if *byte == b'\n' {
+            count = count.saturating_add(1);
+        }
+    }
+    b"0123456789".get(count).copied().unwrap_or(b'?')
+}
+
 /// What a stream that is handed back tells: the word, how many lines are left to read, and what was
 /// sent.
 fn told(alloc: Global, word: &str, stream: &Duplex<ByLine<'_>, Keeping>) -> Result<Vec<u8>, Fail> {
-    let left = stream
-        .reader
-        .left
-        .iter()
-        .filter(|byte| **byte == b'\n')
-        .count();
-    let text = format!(in alloc; "{word} {left} ")?;
-    let mut out = Vec::from_slice(alloc, text.as_str().as_bytes())?;
+    let mut out = Vec::from_slice(alloc, word.as_bytes())?;
+    out.push(b' ')?;
+    out.push(lines_in(stream.reader.left))?;
+    out.push(b' ')?;
     out.extend_from_slice(stream.writer.got.as_slice())?;
     Ok(out)
 }
 
+/// What a registration tells at its end.
+fn finishes(alloc: Global, registering: Registering<ByLine<'_>, Keeping>) -> Result<Vec<u8>, Fail> {
+    match registering.finish(alloc) {
+        Ok(live) => told(alloc, "live", &live.into_parts().0),
+        Err((fault, stream)) => told(alloc, word(&fault), &stream),
+    }
+}
+
 /// Registers over a stream whose ends fail after so many calls.
 fn dials(alloc: Global, reads: usize, writes: usize) -> Result<Vec<u8>, Fail> {
-    let config = Config::read(alloc, PLAIN.as_bytes())?;
-    let place = Place {
-        user: 0,
-        network: 0,
-    };
-    let network = config.network(place).ok_or("no network")?;
+    let config = plain(alloc)?;
+    dials_network(alloc, network_of(&config)?, reads, writes)
+}
+
+/// The same by the settings of a network.
+fn dials_network(
+    alloc: Global,
+    network: &NetworkConfig,
+    reads: usize,
+    writes: usize,
+) -> Result<Vec<u8>, Fail> {
     let reader = ByLine {
         left: INPUT.as_bytes(),
         good_calls: reads,
@@ -123,10 +138,7 @@ fn dials(alloc: Global, reads: usize, writes: usize) -> Result<Vec<u8>, Fail> {
         good_calls: writes,
     };
     match Dialled::new(Duplex { reader, writer }).begin(alloc, network) {
-        Ok(registering) => match registering.finish(alloc) {
-            Ok(live) => told(alloc, "live", &live.into_parts().0),
-            Err((fault, stream)) => told(alloc, word(&fault), &stream),
-        },
+        Ok(registering) => finishes(alloc, registering),
         Err((fault, stream)) => told(alloc, word(&fault), &stream),
     }
 }
@@ -145,38 +157,56 @@ fn tells(
     Ok(())
 }
 
-/// What is sent for the first two lines, the first three, and the first four.
-const SENT: [&str; 4] = [
-    FIRST,
-    "CAP LS 302\r\nNICK ann\r\nUSER ann 0 * :Ann A\r\nCAP REQ :multi-prefix account-notify\r\n",
+/// What is sent for the first two lines.
+const ASKED: &str =
+    "CAP LS 302\r\nNICK ann\r\nUSER ann 0 * :Ann A\r\nCAP REQ :multi-prefix account-notify\r\n";
+
+/// What is sent for the first three lines.
+const NEGOTIATED: &str =
     "CAP LS 302\r\nNICK ann\r\nUSER ann 0 * :Ann A\r\nCAP REQ :multi-prefix account-notify\r\n\
-     CAP END\r\n",
+     CAP END\r\n";
+
+/// What is sent for the first four lines.
+const RENAMED: &str =
     "CAP LS 302\r\nNICK ann\r\nUSER ann 0 * :Ann A\r\nCAP REQ :multi-prefix account-notify\r\n\
-     CAP END\r\nNICK ann_\r\n",
+     CAP END\r\nNICK ann_\r\n";
+
+/// Reads that succeed; the word, how many lines are left, and what was sent.
+const READS: [(usize, &str, &str); 6] = [
+    (0, "read 5", FIRST),
+    (1, "read 4", FIRST),
+    (2, "read 3", ASKED),
+    (3, "read 2", NEGOTIATED),
+    (4, "read 1", RENAMED),
+    (5, "live 0", RENAMED),
 ];
 
 #[test]
 fn a_reader_that_fails_at_each_of_its_calls(rt: HostRuntime) -> Result<(), Fail> {
-    let alloc = rt.alloc();
-    tells(&rt, alloc, (0, 100), "read 5", SENT[0])?;
-    tells(&rt, alloc, (1, 100), "read 4", SENT[0])?;
-    tells(&rt, alloc, (2, 100), "read 3", SENT[1])?;
-    tells(&rt, alloc, (3, 100), "read 2", SENT[2])?;
-    tells(&rt, alloc, (4, 100), "read 1", SENT[3])?;
-    tells(&rt, alloc, (5, 100), "live 0", SENT[3])
+    for (reads, told, sent) in &READS {
+        tells(&rt, rt.alloc(), (*reads, 100), told, sent)?;
+    }
+    Ok(())
 }
+
+/// Writes that succeed, a flush among them; the word, how many lines are left, and what was sent.
+const WRITES: [(usize, &str, &str); 10] = [
+    (0, "write 5", ""),
+    (1, "write 5", FIRST),
+    (2, "write 3", FIRST),
+    (3, "write 3", ASKED),
+    (4, "write 2", ASKED),
+    (5, "write 2", NEGOTIATED),
+    (6, "write 1", NEGOTIATED),
+    (7, "write 1", RENAMED),
+    (8, "write 0", RENAMED),
+    (9, "live 0", RENAMED),
+];
 
 #[test]
 fn a_writer_that_fails_at_each_of_its_calls(rt: HostRuntime) -> Result<(), Fail> {
-    let alloc = rt.alloc();
-    tells(&rt, alloc, (100, 0), "write 5", "")?;
-    tells(&rt, alloc, (100, 1), "write 5", SENT[0])?;
-    tells(&rt, alloc, (100, 2), "write 3", SENT[0])?;
-    tells(&rt, alloc, (100, 3), "write 3", SENT[1])?;
-    tells(&rt, alloc, (100, 4), "write 2", SENT[1])?;
-    tells(&rt, alloc, (100, 5), "write 2", SENT[2])?;
-    tells(&rt, alloc, (100, 6), "write 1", SENT[2])?;
-    tells(&rt, alloc, (100, 7), "write 1", SENT[3])?;
-    tells(&rt, alloc, (100, 8), "write 0", SENT[3])?;
-    tells(&rt, alloc, (100, 9), "live 0", SENT[3])
+    for (writes, told, sent) in &WRITES {
+        tells(&rt, rt.alloc(), (100, *writes), told, sent)?;
+    }
+    Ok(())
 }

@@ -1,9 +1,13 @@
 //! What a hub does of scripts of events: what is answered, what clients and the network are sent.
 
+mod events;
 mod garden;
+mod replies;
 mod scripts;
 
-use crate::hub_rows::scripts::{Story, WELCOME, check, check_text, push_count, push_line};
+use crate::hub_rows::events::WELCOME;
+use crate::hub_rows::replies::{push_count, push_line};
+use crate::hub_rows::scripts::{Story, check, check_text};
 use std::test::Fail;
 
 /// What a client without capabilities is sent first, behind a welcome and a JOIN of ours.
@@ -63,8 +67,7 @@ fn messages_that_were_missed(rt: HostRuntime) -> Result<(), Fail> {
         b":bnc BATCH -h0",
         b":bob!b@h PRIVMSG #d m6",
     ];
-    check(&rt, Story { from: 0, ..STORY }, &events, &told)?;
-    Ok(())
+    check(&rt, Story { from: 0, ..STORY }, &events, &told)
 }
 
 /// Who comes again at once missed nothing.
@@ -80,8 +83,7 @@ fn nothing_was_missed(rt: HostRuntime) -> Result<(), Fail> {
     told.push(b"session 0")?;
     told.push(b"session 1")?;
     told.extend_from_slice(&BURST)?;
-    check(&rt, Story { from: 0, ..STORY }, &events, &told)?;
-    Ok(())
+    check(&rt, Story { from: 0, ..STORY }, &events, &told)
 }
 
 /// A message goes to the network and to the other session.
@@ -112,8 +114,7 @@ fn a_message_said(rt: HostRuntime) -> Result<(), Fail> {
         b"> PRIVMSG #c :hi all",
         b"> NOTICE bob m",
     ];
-    check(&rt, Story { of: 0, ..STORY }, &events, &quiet)?;
-    Ok(())
+    check(&rt, Story { of: 0, ..STORY }, &events, &quiet)
 }
 
 /// The connection is lost and comes again.
@@ -136,8 +137,7 @@ fn a_loss_with_two_channels(rt: HostRuntime) -> Result<(), Fail> {
         b":Me PART #c",
         b":t 001 You hi",
     ];
-    check(&rt, Story { of: 0, ..STORY }, &events, &told)?;
-    Ok(())
+    check(&rt, Story { of: 0, ..STORY }, &events, &told)
 }
 
 /// A session that is not drained is cut at the packet that finds no room, and the other is not.
@@ -162,8 +162,7 @@ fn a_session_that_is_cut(rt: HostRuntime) -> Result<(), Fail> {
         b":bob!b@h PRIVMSG #c m2",
         b":bob!b@h PRIVMSG #c m3",
     ];
-    check(&rt, STORY, &events, &told)?;
-    Ok(())
+    check(&rt, STORY, &events, &told)
 }
 
 /// What a client asks of us.
@@ -192,14 +191,13 @@ fn lines_that_are_answered(rt: HostRuntime) -> Result<(), Fail> {
         b":bnc CAP Me LIST :",
         b":bnc PONG bnc a",
     ];
-    check(&rt, Story { of: 0, ..STORY }, &events, &told)?;
-    Ok(())
+    check(&rt, Story { of: 0, ..STORY }, &events, &told)
 }
 
-/// What has no room, or no number.
+/// An outlet without room, and then a network that takes no more.
 #[test]
-fn refusals(rt: HostRuntime) -> Result<(), Fail> {
-    let full: [&[u8]; 4] = [
+fn what_has_no_room(rt: HostRuntime) -> Result<(), Fail> {
+    let events: [&[u8]; 4] = [
         b"attach - pc 0",
         b"attach - - 8",
         b"said 0 PRIVMSG #c m",
@@ -217,15 +215,25 @@ fn refusals(rt: HostRuntime) -> Result<(), Fail> {
         of: 0,
         ..STORY
     };
-    check(&rt, one_place, &full, &told)?;
-    let sessions: [&[u8]; 2] = [b"attach - - 8", b"attach - - 8"];
+    check(&rt, one_place, &events, &told)
+}
+
+/// The last number of a session.
+#[test]
+fn a_session_without_a_number(rt: HostRuntime) -> Result<(), Fail> {
+    let events: [&[u8]; 2] = [b"attach - - 8", b"attach - - 8"];
     let told: [&[u8]; 2] = [b"session 18446744073709551615", b"numbers spent"];
     let last_session = Story {
         first_session: u64::MAX,
         ..STORY
     };
-    check(&rt, last_session, &sessions, &told)?;
-    let messages: [&[u8]; 3] = [
+    check(&rt, last_session, &events, &told)
+}
+
+/// The last number of a message.
+#[test]
+fn a_message_without_a_number(rt: HostRuntime) -> Result<(), Fail> {
+    let events: [&[u8]; 3] = [
         b"attach - - 8",
         b"up :bob!b@h PRIVMSG #c m1",
         b"up :bob!b@h PRIVMSG #c m2",
@@ -240,8 +248,7 @@ fn refusals(rt: HostRuntime) -> Result<(), Fail> {
         of: 0,
         ..STORY
     };
-    check(&rt, last_number, &messages, &told)?;
-    Ok(())
+    check(&rt, last_number, &events, &told)
 }
 
 /// Lines that come in pieces, one of them in the middle of a line.
@@ -260,8 +267,7 @@ fn lines_in_pieces(rt: HostRuntime) -> Result<(), Fail> {
         b"> PONG x",
         b"> PONG a b",
     ];
-    check(&rt, Story { of: 0, ..STORY }, &events, &told)?;
-    Ok(())
+    check(&rt, Story { of: 0, ..STORY }, &events, &told)
 }
 
 /// A network has room for 64 sessions, and again for one once one of them is gone.
@@ -281,30 +287,45 @@ fn as_many_sessions_as_there_is_room_for(rt: HostRuntime) -> Result<(), Fail> {
     check_text(&rt, STORY, &WELCOME, &events, &told)
 }
 
+/// Three clients, of which two have the same capabilities: a message that comes, and what the first
+/// and the third say.
+const OF_THREE: [&[u8]; 6] = [
+    b"attach - - 8",
+    b"attach - - 8",
+    b"attach multi-prefix - 8",
+    b"up :bob!b@h PRIVMSG #c m1",
+    b"said 0 PRIVMSG #c m",
+    b"said 2 PRIVMSG #c m",
+];
+
+const COUNTED: Story = Story {
+    history: 3,
+    first_number: 1,
+    first_session: 0,
+    upstream: 8,
+    of: 1,
+    is_gone: false,
+    from: 1,
+    images: true,
+};
+
 /// What is sent to sessions of the same capabilities is made once.
 #[test]
-fn images_that_are_made(rt: HostRuntime) -> Result<(), Fail> {
-    let events: [&[u8]; 6] = [
-        b"attach - - 8",
-        b"attach - - 8",
-        b"attach multi-prefix - 8",
-        b"up :bob!b@h PRIVMSG #c m1",
-        b"said 0 PRIVMSG #c m",
-        b"said 2 PRIVMSG #c m",
-    ];
-    let counted = Story {
-        images: true,
-        ..STORY
-    };
-    let pumped: [&[u8]; 5] = [
+fn images_of_a_message_that_comes(rt: HostRuntime) -> Result<(), Fail> {
+    let told: [&[u8]; 5] = [
         b"session 0",
         b"session 1",
         b"session 2",
         b":bob!b@h PRIVMSG #c m1",
         b"images 2",
     ];
-    check(&rt, counted, &events[..4], &pumped)?;
-    let said: [&[u8]; 8] = [
+    check(&rt, COUNTED, &OF_THREE[..4], &told)
+}
+
+/// The first says something, and the others are of two sets.
+#[test]
+fn images_of_a_message_of_one_of_two(rt: HostRuntime) -> Result<(), Fail> {
+    let told: [&[u8]; 8] = [
         b"session 0",
         b"session 1",
         b"session 2",
@@ -314,8 +335,13 @@ fn images_that_are_made(rt: HostRuntime) -> Result<(), Fail> {
         b"> PRIVMSG #c m",
         b"images 4",
     ];
-    check(&rt, counted, &events[..5], &said)?;
-    let said_again: [&[u8]; 11] = [
+    check(&rt, COUNTED, &OF_THREE[..5], &told)
+}
+
+/// The third says something, and the others are of one set.
+#[test]
+fn images_of_a_message_of_the_third(rt: HostRuntime) -> Result<(), Fail> {
+    let told: [&[u8]; 11] = [
         b"session 0",
         b"session 1",
         b"session 2",
@@ -328,5 +354,5 @@ fn images_that_are_made(rt: HostRuntime) -> Result<(), Fail> {
         b"> PRIVMSG #c m",
         b"images 5",
     ];
-    check(&rt, counted, &events, &said_again)
+    check(&rt, COUNTED, &OF_THREE, &told)
 }

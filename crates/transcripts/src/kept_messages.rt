@@ -1,16 +1,16 @@
 //! The messages that are kept, and the marks of client names.
 
+use crate::lines::line;
 use client_caps::{Moment, time_text};
 use history::{AdmitError, CapacityError, Entry, History, Marks, PushError, Spent, is_message};
-use irc_line::Line;
 use std::alloc::Global;
+use std::process::Abort;
 use std::test::Fail;
 
 /// The entry of a line that came at the beginning of 1970.
 fn entry_of(alloc: Global, text: &[u8]) -> Result<Option<Entry>, Fail> {
-    let line = Line::<Global>::read(alloc, text)?.ok_or("a line")?;
     let time = time_text(Moment(0));
-    Ok(Entry::of_message(alloc, &time, &line)?)
+    Ok(Entry::of_message(alloc, &time, &line(alloc, text)?)?)
 }
 
 /// Adds the message of a line.
@@ -19,9 +19,9 @@ fn add(alloc: Global, history: &mut History, text: &[u8]) -> Result<Result<u64, 
     Ok(history.add(entry))
 }
 
-/// How many messages there may be, and the last number.
+/// How many messages there may be.
 #[test]
-fn capacities_and_the_last_number(rt: HostRuntime) -> Result<(), Fail> {
+fn capacities(rt: HostRuntime) -> Result<(), Fail> {
     for capacity in [0, 10_001, usize::MAX] {
         let none = History::<Global>::new(rt.alloc(), capacity, 1);
         assert!(&rt; matches!(&none, Err(CapacityError::BadCapacity)));
@@ -30,28 +30,25 @@ fn capacities_and_the_last_number(rt: HostRuntime) -> Result<(), Fail> {
         let history = History::<Global>::new(rt.alloc(), capacity, 1)?;
         assert!(&rt; history.is_empty() && history.last_number().is_none());
     }
+    Ok(())
+}
+
+/// The greatest number there is belongs to the last message.
+#[test]
+fn the_last_number(rt: HostRuntime) -> Result<(), Fail> {
     let mut history = History::new(rt.alloc(), 3, u64::MAX)?;
-    assert!(&rt;
-        matches!(
-            add(rt.alloc(), &mut history, b":a PRIVMSG #c m1")?,
-            Ok(u64::MAX)
-        )
-    );
-    assert!(&rt;
-        matches!(
-            add(rt.alloc(), &mut history, b":a PRIVMSG #c m2")?,
-            Err(Spent)
-        )
-    );
+    let first = add(rt.alloc(), &mut history, b":a PRIVMSG #c m1")?;
+    assert!(&rt; matches!(first, Ok(u64::MAX)));
+    let second = add(rt.alloc(), &mut history, b":a PRIVMSG #c m2")?;
+    assert!(&rt; matches!(second, Err(Spent)));
     assert!(&rt; history.len() == 1 && history.last_number() == Some(u64::MAX));
     assert!(&rt; history.next_number().is_none());
     Ok(())
 }
 
-/// The last three of five messages, and those above a mark.
-#[test]
-fn the_last_three_of_five(rt: HostRuntime) -> Result<(), Fail> {
-    let mut history = History::new(rt.alloc(), 3, 1)?;
+/// A history of three that five messages came to.
+fn three_of_five(alloc: Global) -> Result<History, Fail> {
+    let mut history = History::new(alloc, 3, 1)?;
     let said: [&[u8]; 5] = [
         b":bob!b@h PRIVMSG #c m1",
         b":bob!b@h PRIVMSG #c m2",
@@ -60,27 +57,47 @@ fn the_last_three_of_five(rt: HostRuntime) -> Result<(), Fail> {
         b":bob!b@h PRIVMSG #c m5",
     ];
     for text in &said {
-        let _number = add(rt.alloc(), &mut history, text)?;
+        let _number = add(alloc, &mut history, text)?;
     }
+    Ok(history)
+}
+
+/// Whether an entry is such a message of bob's.
+fn is_of_bob(entry: &Entry, text: &[u8]) -> bool {
+    entry.text() == text
+        && entry.target() == b"#c".as_slice()
+        && entry.source() == b"bob!b@h".as_slice()
+        && entry.time() == b"1970-01-01T00:00:00.000Z".as_slice()
+        && entry.command() == b"PRIVMSG".as_slice()
+}
+
+/// The last three of five messages.
+#[test]
+fn the_last_three_of_five(rt: HostRuntime) -> Result<(), Fail> {
     let rows: [(usize, &[u8], u64); 3] = [(0, b"m3", 3), (1, b"m4", 4), (2, b"m5", 5)];
+    let history = three_of_five(rt.alloc())?;
     assert!(&rt; history.len() == 3 && history.last_number() == Some(5));
     for (place, text, number) in &rows {
         let entry = history.entry(*place).ok_or("three are kept")?;
-        assert!(&rt; entry.text() == *text && entry.target() == b"#c".as_slice());
-        assert!(&rt; entry.source() == b"bob!b@h".as_slice());
-        assert!(&rt; entry.time() == b"1970-01-01T00:00:00.000Z".as_slice());
-        assert!(&rt; entry.command() == b"PRIVMSG".as_slice());
+        assert!(&rt; is_of_bob(entry, text));
         assert!(&rt; history.number_of(*place) == Some(*number));
     }
     assert!(&rt; history.entry(3).is_none() && history.number_of(3).is_none());
-    let marks: [(Option<u64>, usize); 5] = [
+    Ok(())
+}
+
+/// Those of them that stand above a mark.
+#[test]
+fn how_many_stand_above_a_mark(rt: HostRuntime) -> Result<(), Fail> {
+    let rows: [(Option<u64>, usize); 5] = [
         (None, 3),
         (Some(0), 3),
         (Some(2), 3),
         (Some(4), 1),
         (Some(5), 0),
     ];
-    for (mark, count) in &marks {
+    let history = three_of_five(rt.alloc())?;
+    for (mark, count) in &rows {
         assert!(&rt; history.missed(rt.alloc(), *mark)?.len() == *count);
     }
     Ok(())
@@ -97,36 +114,52 @@ fn a_message_made_beforehand(rt: HostRuntime) -> Result<(), Fail> {
     Ok(())
 }
 
-/// Messages that are made and pushed by their parts, as their readers give them back.
+/// A message that is made by its parts, and pushed as its readers give them back.
 #[test]
-fn messages_by_their_parts(rt: HostRuntime) -> Result<(), Fail> {
+fn a_message_by_its_parts(rt: HostRuntime) -> Result<(), Fail> {
     let mut history = History::<Global>::new(rt.alloc(), 2, u64::MAX)?;
     let time = b"2020-01-02T03:04:05.678Z";
-    let entry = Entry::<Global>::make(rt.alloc(), time, b"Me", b"privmsg", b"#c", b"m 1")?;
-    assert!(&rt;
-        matches!(
-            history.push(
-                entry.time(),
-                entry.source(),
-                entry.command(),
-                entry.target(),
-                entry.text()
-            ),
-            Ok(u64::MAX)
-        )
+    let made = Entry::<Global>::make(rt.alloc(), time, b"Me", b"privmsg", b"#c", b"m 1")?;
+    let number = history.push(
+        made.time(),
+        made.source(),
+        made.command(),
+        made.target(),
+        made.text(),
     );
+    assert!(&rt; matches!(number, Ok(u64::MAX)));
     let kept = history.entry(0).ok_or("it is kept")?;
     assert!(&rt; kept.time() == time.as_slice() && kept.source() == b"Me".as_slice());
     assert!(&rt; kept.command() == b"privmsg".as_slice() && kept.target() == b"#c".as_slice());
     assert!(&rt; kept.text() == b"m 1".as_slice());
-    assert!(&rt;
-        matches!(
-            history.push(time, b"Me", b"NOTICE", b"bob", b""),
-            Err(PushError::Spent)
-        )
-    );
+    Ok(())
+}
+
+/// A message that is pushed where no number is left.
+#[test]
+fn a_message_without_a_number(rt: HostRuntime) -> Result<(), Fail> {
+    let mut history = History::<Global>::new(rt.alloc(), 2, u64::MAX)?;
+    let _number = add(rt.alloc(), &mut history, b":a PRIVMSG #c m1")?;
+    let refused = history.push(b"2020-01-02T03:04:05.678Z", b"Me", b"NOTICE", b"bob", b"");
+    assert!(&rt; matches!(refused, Err(PushError::Spent)));
     assert!(&rt; history.len() == 1);
     Ok(())
+}
+
+/// The entry of a line that a client says under our nick.
+fn said_entry(alloc: Global, text: &[u8]) -> Result<Option<Entry>, Fail> {
+    let time = time_text(Moment(0));
+    Ok(Entry::of_said(alloc, &time, b"Me", &line(alloc, text)?)?)
+}
+
+/// Whether there is an entry, and it is what we said.
+fn is_said_by_us(entry: Option<&Entry>) -> bool {
+    match entry {
+        Some(entry) => {
+            entry.source() == b"Me".as_slice() && entry.text() == b"hi all".as_slice()
+        }
+        None => false,
+    }
 }
 
 /// What a client says, as a message of ours: the line, and whether it is one.
@@ -138,16 +171,9 @@ fn messages_that_a_client_says(rt: HostRuntime) -> Result<(), Fail> {
         (b"PRIVMSG #c", false),
         (b"TOPIC #c :hi all", false),
     ];
-    let time = time_text(Moment(0));
     for (text, is_said) in &rows {
-        let line = Line::<Global>::read(rt.alloc(), text)?.ok_or("a line")?;
-        match Entry::of_said(rt.alloc(), &time, b"Me", &line)? {
-            Some(entry) => {
-                assert!(&rt; *is_said && entry.source() == b"Me".as_slice());
-                assert!(&rt; entry.text() == b"hi all".as_slice());
-            }
-            None => assert!(&rt; !*is_said),
-        }
+        let entry = said_entry(rt.alloc(), text)?;
+        assert!(&rt; is_said_by_us(entry.as_ref()) == *is_said && entry.is_some() == *is_said);
     }
     Ok(())
 }
@@ -166,20 +192,25 @@ fn lines_that_are_messages(rt: HostRuntime) -> Result<(), Fail> {
         (b"@a=b :bob PRIVMSG #c :", true, true),
     ];
     for (text, of_network, of_client) in &rows {
-        let line = Line::<Global>::read(rt.alloc(), text)?.ok_or("a line")?;
-        assert!(&rt; is_message(&line) == *of_client);
+        assert!(&rt; is_message(&line(rt.alloc(), text)?) == *of_client);
         assert!(&rt; entry_of(rt.alloc(), text)?.is_some() == *of_network);
     }
     Ok(())
 }
 
+/// Marks of 64 names of a byte each.
+fn full_marks<R: AllocGlobal + Abort>(rt: &R) -> Result<Marks, Fail> {
+    let mut marks = Marks::new(rt.alloc())?;
+    for byte in 0..64 {
+        assert!(rt; matches!(marks.admit(&[byte]), Ok(true)));
+    }
+    Ok(marks)
+}
+
 /// Names up to the 64th, and their marks.
 #[test]
 fn names_and_their_marks(rt: HostRuntime) -> Result<(), Fail> {
-    let mut marks = Marks::new(rt.alloc())?;
-    for byte in 0..64 {
-        assert!(&rt; matches!(marks.admit(&[byte]), Ok(true)));
-    }
+    let mut marks = full_marks(&rt)?;
     assert!(&rt; marks.is_full_for(b"pc") && !marks.is_full_for(&[0]));
     assert!(&rt; matches!(marks.admit(b"pc"), Err(AdmitError::NamesFull)));
     assert!(&rt; matches!(marks.admit(&[0]), Ok(false)));
@@ -187,7 +218,14 @@ fn names_and_their_marks(rt: HostRuntime) -> Result<(), Fail> {
     marks.set_mark(b"pc", 6);
     assert!(&rt; marks.mark(&[0]) == Some(5) && marks.mark(b"pc").is_none());
     assert!(&rt; marks.mark(&[1]).is_none());
-    // a name with a mark stays, and so does one that was not admitted away
+    Ok(())
+}
+
+/// A name with a mark stays, and so does one that was not admitted away.
+#[test]
+fn names_that_are_withdrawn(rt: HostRuntime) -> Result<(), Fail> {
+    let mut marks = full_marks(&rt)?;
+    marks.set_mark(&[0], 5);
     marks.withdraw(&[0]);
     marks.withdraw(b"pc");
     assert!(&rt; matches!(marks.admit(b"pc"), Err(AdmitError::NamesFull)));

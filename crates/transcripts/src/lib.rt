@@ -40,3 +40,5 @@ mod settings;
 mod settings_file;
 #[cfg(test)]
 mod views;
+#[cfg(test)]
+mod whole_sessions;

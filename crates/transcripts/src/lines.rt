@@ -1,12 +1,15 @@
 //! Lines as RFC 2812, section 2.3.1, and IRCv3 message-tags have them.
 
-use irc_line::{FeedError, LINE_LIMIT, Line, MakeError, Splitter, write_line};
+mod pieces;
+
+use irc_line::{Line, MakeError, write_line};
 use std::alloc::Global;
 use std::test::Fail;
 
 type Texts = &'static [&'static [u8]];
 
-fn line(alloc: Global, text: &[u8]) -> Result<Line, Fail> {
+/// The line of a text.
+pub(crate) fn line(alloc: Global, text: &[u8]) -> Result<Line, Fail> {
     let line = Line::<Global>::read(alloc, text)?;
     Ok(line.ok_or("the text is a line")?)
 }
@@ -34,9 +37,27 @@ fn has_params(line: &Line, params: Texts) -> bool {
     left.is_empty() && line.param_count() == params.len()
 }
 
+/// A text, and the tags, source, command and parameters of its line.
+type Parts = (
+    &'static [u8],
+    Option<&'static [u8]>,
+    Option<&'static [u8]>,
+    &'static [u8],
+    Texts,
+);
+
+/// Whether a line has these parts.
+fn has_parts(line: &Line, row: &Parts) -> bool {
+    let (_, tags, source, command, params) = *row;
+    line.tags() == tags
+        && line.source() == source
+        && line.command() == command
+        && has_params(line, params)
+}
+
 #[test]
 fn texts_and_their_parts(rt: HostRuntime) -> Result<(), Fail> {
-    let rows: [(&[u8], Option<&[u8]>, Option<&[u8]>, &[u8], Texts); 14] = [
+    let rows: [Parts; 14] = [
         (b"PING", None, None, b"PING", &[]),
         (b"PING x", None, None, b"PING", &[b"x"]),
         (b"001", None, None, b"001", &[]),
@@ -64,12 +85,8 @@ fn texts_and_their_parts(rt: HostRuntime) -> Result<(), Fail> {
             &[b"\xC3\xA4\x01"],
         ),
     ];
-    for (text, tags, source, command, params) in rows {
-        let line = line(rt.alloc(), text)?;
-        assert!(rt; line.tags() == tags);
-        assert!(rt; line.source() == source);
-        assert!(rt; line.command() == command);
-        assert!(rt; has_params(&line, params));
+    for row in &rows {
+        assert!(rt; has_parts(&line(rt.alloc(), row.0)?, row));
     }
     Ok(())
 }
@@ -100,21 +117,25 @@ fn texts_outside_the_grammar(rt: HostRuntime) -> Result<(), Fail> {
 }
 
 #[test]
-fn commands_and_nicks(rt: HostRuntime) -> Result<(), Fail> {
+fn commands_in_any_case(rt: HostRuntime) -> Result<(), Fail> {
     let said = line(rt.alloc(), b":bob!b@h PrivMsg #c hi")?;
-    assert!(rt; said.is(b"PRIVMSG"));
-    assert!(rt; !said.is(b"PRIVMS"));
-    let rows = [
-        (b":bob!b@h PING".as_slice(), b"bob".as_slice()),
-        (b":bob@h!b PING", b"bob@h"),
-        (b":bob@h PING", b"bob"),
-        (b":irc.example PING", b"irc.example"),
-        (b":!x PING", b""),
+    assert!(rt; said.is(b"PRIVMSG") && !said.is(b"PRIVMS"));
+    Ok(())
+}
+
+#[test]
+fn nicks_of_sources(rt: HostRuntime) -> Result<(), Fail> {
+    let rows: [(&[u8], Option<&[u8]>); 6] = [
+        (b":bob!b@h PING", Some(b"bob")),
+        (b":bob@h!b PING", Some(b"bob@h")),
+        (b":bob@h PING", Some(b"bob")),
+        (b":irc.example PING", Some(b"irc.example")),
+        (b":!x PING", Some(b"")),
+        (b"PING", None),
     ];
-    for (text, nick) in rows {
-        assert!(rt; line(rt.alloc(), text)?.source_nick() == Some(nick));
+    for (text, nick) in &rows {
+        assert!(rt; line(rt.alloc(), text)?.source_nick() == *nick);
     }
-    assert!(rt; line(rt.alloc(), b"PING")?.source_nick().is_none());
     Ok(())
 }
 
@@ -145,62 +166,19 @@ fn time_tags(rt: HostRuntime) -> Result<(), Fail> {
     Ok(())
 }
 
-#[test]
-fn a_line_cut_after_each_byte(rt: HostRuntime) -> Result<(), Fail> {
-    let text = b":s 001 Me :hi\r\n";
-    for at in 1..15 {
-        let mut splitter = Splitter::new(rt.alloc());
-        let mut lines = Vec::new(rt.alloc());
-        splitter.feed(&text[..at], &mut lines)?;
-        assert_eq!(rt; lines.len(), 0);
-        splitter.feed(&text[at..], &mut lines)?;
-        assert_eq!(rt; lines.len(), 1);
-        for line in &lines {
-            assert!(rt; line.param(1) == Some(b"hi".as_slice()));
-        }
-        assert_eq!(rt; splitter.skipped(), 0);
-    }
-    Ok(())
-}
+/// A source, a command, parameters, and the text of the line that is made of them.
+type Made = (Option<&'static [u8]>, &'static [u8], Texts, &'static [u8]);
 
-#[test]
-fn what_is_no_line_is_skipped(rt: HostRuntime) -> Result<(), Fail> {
-    let mut splitter = Splitter::new(rt.alloc());
-    let mut lines = Vec::new(rt.alloc());
-    let stream = b"\r\n  \n\n12 x\nNI1CK x\r\nPING \0\nPING\rx\nPING x\r\r\nPING x\nPI";
-    splitter.feed(stream, &mut lines)?;
-    assert_eq!(rt; lines.len(), 1);
-    assert_eq!(rt; splitter.skipped(), 5);
-    splitter.feed(b"NG y\nPING z\n", &mut lines)?;
-    assert_eq!(rt; lines.len(), 3);
-    Ok(())
-}
-
-#[test]
-fn a_line_at_the_limit_and_one_above(rt: HostRuntime) -> Result<(), Fail> {
-    let mut splitter = Splitter::new(rt.alloc());
-    let mut lines = Vec::new(rt.alloc());
-    let most = vec![in rt.alloc(); b'x'; LINE_LIMIT - 5]?;
-    splitter.feed(b"PING ", &mut lines)?;
-    splitter.feed(&most, &mut lines)?;
-    assert!(rt; splitter.feed(b"x", &mut lines) == Err(FeedError::TooLong));
-    assert!(rt; splitter.feed(b"x\nPING\n", &mut lines) == Err(FeedError::TooLong));
-    splitter.feed(b"\nPING", &mut lines)?;
-    assert_eq!(rt; lines.len(), 1);
-    let mut piece = vec![in rt.alloc(); b'\n'; 3]?;
-    piece.extend_from_slice(&most)?;
-    piece.extend_from_slice(b"xxxxx\n")?;
-    splitter.feed(&piece, &mut lines)?;
-    assert_eq!(rt; lines.len(), 3);
-    piece.insert(9, b'x')?;
-    assert!(rt; splitter.feed(&piece, &mut lines) == Err(FeedError::TooLong));
-    assert_eq!(rt; lines.len(), 3);
-    Ok(())
+/// The text of the line that is made of a row's parts.
+fn made(alloc: Global, row: &Made) -> Result<Vec<u8>, Fail> {
+    let (source, command, params, _) = *row;
+    let line = Line::make(alloc, source, command, params)?;
+    written(alloc, &line)
 }
 
 #[test]
 fn lines_made_and_written(rt: HostRuntime) -> Result<(), Fail> {
-    let rows: [(Option<&[u8]>, &[u8], Texts, &[u8]); 7] = [
+    let rows: [Made; 7] = [
         (None, b"PING", &[], b"PING\r\n"),
         (
             Some(b"a"),
@@ -219,16 +197,24 @@ fn lines_made_and_written(rt: HostRuntime) -> Result<(), Fail> {
         (None, b"PRIVMSG", &[b"#a", b" "], b"PRIVMSG #a : \r\n"),
         (None, b"005", &[b"a:b"], b"005 a:b\r\n"),
     ];
-    for (source, command, params, text) in rows {
-        let line = Line::make(rt.alloc(), source, command, params)?;
-        assert!(rt; written(rt.alloc(), &line)?.as_slice() == text);
+    for row in &rows {
+        assert!(rt; made(rt.alloc(), row)?.as_slice() == row.3);
     }
     Ok(())
 }
 
+/// A source, a command and parameters.
+type Unmade = (Option<&'static [u8]>, &'static [u8], Texts);
+
+/// Whether a row's parts are refused, since they make no line.
+fn is_no_line(alloc: Global, row: &Unmade) -> bool {
+    let made = Line::make(alloc, row.0, row.1, row.2);
+    matches!(made, Err(MakeError::NotALine))
+}
+
 #[test]
 fn parts_that_are_no_line(rt: HostRuntime) {
-    let rows: [(Option<&[u8]>, &[u8], Texts); 11] = [
+    let rows: [Unmade; 11] = [
         (None, b"PRIVMSG", &[b"#a b", b"x"]),
         (None, b"PRIVMSG", &[b"", b"x"]),
         (None, b"PRIVMSG", &[b":a", b"x"]),
@@ -241,23 +227,38 @@ fn parts_that_are_no_line(rt: HostRuntime) {
         (Some(b""), b"PING", &[]),
         (Some(b"a b"), b"PING", &[]),
     ];
-    for (source, command, params) in rows {
-        let made = Line::make(rt.alloc(), source, command, params);
-        assert!(rt; matches!(made, Err(MakeError::NotALine)));
+    for row in &rows {
+        assert!(rt; is_no_line(rt.alloc(), row));
     }
+}
+
+/// The text of a line of ours whose tags are set to these, if they are any.
+fn tagged(alloc: Global, tags: Option<&[u8]>) -> Result<Vec<u8>, Fail> {
+    let mut line = line(alloc, b"@a=1 :a PRIVMSG #a :")?;
+    line.set_tags(tags)?;
+    written(alloc, &line)
 }
 
 #[test]
 fn tags_set_and_taken_away(rt: HostRuntime) -> Result<(), Fail> {
-    let mut line = line(rt.alloc(), b"@a=1 :a PRIVMSG #a :")?;
-    line.set_tags(Some(b"x=1"))?;
-    assert!(rt; written(rt.alloc(), &line)?.as_slice() == b"@x=1 :a PRIVMSG #a :\r\n".as_slice());
-    for tags in [b"".as_slice(), b"x 1", b"x\r"] {
-        assert!(rt; line.set_tags(Some(tags)) == Err(MakeError::NotALine));
+    let rows: [(Option<&[u8]>, &[u8]); 2] = [
+        (Some(b"x=1"), b"@x=1 :a PRIVMSG #a :\r\n"),
+        (None, b":a PRIVMSG #a :\r\n"),
+    ];
+    for (tags, wanted) in &rows {
+        assert!(rt; tagged(rt.alloc(), *tags)?.as_slice() == *wanted);
+    }
+    Ok(())
+}
+
+#[test]
+fn tags_that_are_refused_change_nothing(rt: HostRuntime) -> Result<(), Fail> {
+    let mut line = line(rt.alloc(), b"@x=1 :a PRIVMSG #a :")?;
+    let rows: [&[u8]; 3] = [b"", b"x 1", b"x\r"];
+    for tags in &rows {
+        assert!(rt; line.set_tags(Some(*tags)) == Err(MakeError::NotALine));
     }
     assert!(rt; line.tags() == Some(b"x=1".as_slice()));
-    line.set_tags(None)?;
-    assert!(rt; written(rt.alloc(), &line)?.as_slice() == b":a PRIVMSG #a :\r\n".as_slice());
     Ok(())
 }
 

@@ -13,14 +13,14 @@ use std::test::Fail;
 const OFFER: &str =
     ":bnc CAP * LS :multi-prefix extended-join account-notify away-notify server-time batch";
 
-/// A line of the client.
-fn line(alloc: Global, text: &str) -> Result<Line, Fail> {
+/// The line of a text.
+pub(crate) fn line(alloc: Global, text: &str) -> Result<Line, Fail> {
     let line = Line::<Global>::read(alloc, text.as_bytes())?;
     Ok(line.ok_or("the text is a line")?)
 }
 
 /// The texts of lines, with ` / ` between them.
-fn texts(alloc: Global, lines: &[Line]) -> Result<Vec<u8>, Fail> {
+pub(crate) fn texts(alloc: Global, lines: &[Line]) -> Result<Vec<u8>, Fail> {
     let mut out = Vec::new(alloc);
     for line in lines {
         if !out.is_empty() {

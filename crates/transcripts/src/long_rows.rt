@@ -2,7 +2,7 @@
 //! both views have them told.
 
 use crate::clients::asked;
-use crate::views::{quick_of, tape_of};
+use crate::views::{Rows, check_after};
 use irc_line::Line;
 use net_view::NetworkView;
 use std::alloc::Global;
@@ -31,18 +31,21 @@ fn lines_told<V: NetworkView>(
     Ok(out)
 }
 
-/// The lines of this command that a view has told, for each set of capabilities.
-fn rows_told<R: AllocGlobal + Abort, V: NetworkView>(
-    rt: &R,
-    view: &V,
-    command: &[u8],
-    rows: &[(&[u8], &[u8])],
-) -> Result<(), Fail> {
-    for (names, wanted) in rows {
-        let text = lines_told(rt.alloc(), view, names, command)?;
-        assert!(rt; text.as_slice() == *wanted);
+/// A command; capabilities, and its lines that are told.
+#[derive(Clone, Copy)]
+struct Told<'a> {
+    command: &'a [u8],
+    rows: &'a [(&'a [u8], &'a [u8])],
+}
+
+impl Rows for Told<'_> {
+    fn check<R: AllocGlobal + Abort, V: NetworkView>(&self, rt: &R, view: &V) -> Result<(), Fail> {
+        for (names, wanted) in self.rows {
+            let text = lines_told(rt.alloc(), view, names, self.command)?;
+            assert!(rt; text.as_slice() == *wanted);
+        }
+        Ok(())
     }
-    Ok(())
 }
 
 /// The lines of this command that both views have told after these texts.
@@ -52,8 +55,7 @@ fn check_lines<R: AllocGlobal + Abort>(
     command: &[u8],
     rows: &[(&[u8], &[u8])],
 ) -> Result<(), Fail> {
-    rows_told(rt, &tape_of(rt.alloc(), texts)?, command, rows)?;
-    rows_told(rt, &quick_of(rt.alloc(), texts)?, command, rows)
+    check_after(rt, texts, &Told { command, rows })
 }
 
 /// Adds a byte so many times.
@@ -74,21 +76,37 @@ fn push_ten(text: &mut Vec<u8>) -> Result<(), Fail> {
     Ok(())
 }
 
-/// A name list of eleven members, of whom the last has these symbols and a nick of this length:
-/// all behind `start`, and the last behind `gap`.
+/// A name list of eleven members, of whom the last has a nick of this length: all between `start`
+/// and `end`, and the last behind a gap and its symbols.
 fn name_list(
     alloc: Global,
     start: &[u8],
-    gap: &[u8],
-    symbols: &[u8],
+    before: (&[u8], &[u8]),
     len: usize,
+    end: &[u8],
 ) -> Result<Vec<u8>, Fail> {
     let mut text = Vec::from_slice(alloc, start)?;
     push_ten(&mut text)?;
-    text.extend_from_slice(gap)?;
-    text.extend_from_slice(symbols)?;
+    text.extend_from_slice(before.0)?;
+    text.extend_from_slice(before.1)?;
     push_times(&mut text, b'w', len)?;
+    text.extend_from_slice(end)?;
     Ok(text)
+}
+
+/// What a client with these capabilities is told of the members, after a name list.
+fn check_names<R: AllocGlobal + Abort>(
+    rt: &R,
+    told: &[u8],
+    names: &[u8],
+    wanted: &[u8],
+) -> Result<(), Fail> {
+    check_lines(
+        rt,
+        &[b":s 001 Me :hi", b":Me!m@h JOIN #c", told],
+        b"353",
+        &[(names, wanted)],
+    )
 }
 
 /// A 353 of 400 bytes of words is one line, and one of 401 bytes two: capabilities, the last
@@ -104,15 +122,10 @@ fn names_up_to_400_bytes(rt: HostRuntime) -> Result<(), Fail> {
         (b"", b"@+", b"@", 37, b"\r\n:bnc 353 Me = #c "),
     ];
     for (names, symbols, shown, len, gap) in &rows {
-        let told = name_list(rt.alloc(), b":s 353 Me = #c :", b" ", symbols, *len)?;
-        let mut wanted = name_list(rt.alloc(), b":bnc 353 Me = #c :", gap, shown, *len)?;
-        wanted.extend_from_slice(b"\r\n")?;
-        check_lines(
-            &rt,
-            &[b":s 001 Me :hi", b":Me!m@h JOIN #c", &told],
-            b"353",
-            &[(*names, &wanted)],
-        )?;
+        let told = name_list(rt.alloc(), b":s 353 Me = #c :", (b" ", symbols), *len, b"")?;
+        let start = b":bnc 353 Me = #c :";
+        let wanted = name_list(rt.alloc(), start, (gap, shown), *len, b"\r\n")?;
+        check_names(&rt, &told, names, &wanted)?;
     }
     Ok(())
 }
@@ -125,11 +138,16 @@ fn a_name_longer_than_a_row(rt: HostRuntime) -> Result<(), Fail> {
     let mut wanted = Vec::from_slice(rt.alloc(), b":bnc 353 Me = #c Me\r\n:bnc 353 Me = #c ")?;
     push_times(&mut wanted, b'z', 450)?;
     wanted.extend_from_slice(b"\r\n:bnc 353 Me = #c {\r\n")?;
+    check_names(&rt, &told, b"", &wanted)
+}
+
+/// What a client is told of the settings, after a line of them.
+fn check_tokens<R: AllocGlobal + Abort>(rt: &R, told: &[u8], wanted: &[u8]) -> Result<(), Fail> {
     check_lines(
-        &rt,
-        &[b":s 001 Me :hi", b":Me!m@h JOIN #c", &told],
-        b"353",
-        &[(b"", &wanted)],
+        rt,
+        &[b":s 001 Me :hi", told, b":s 422 Me :none"],
+        b"005",
+        &[(b"", wanted)],
     )
 }
 
@@ -148,12 +166,7 @@ fn tokens_up_to_twelve(rt: HostRuntime) -> Result<(), Fail> {
         ),
     ];
     for (told, wanted) in &rows {
-        check_lines(
-            &rt,
-            &[b":s 001 Me :hi", *told, b":s 422 Me :none"],
-            b"005",
-            &[(b"", *wanted)],
-        )?;
+        check_tokens(&rt, told, wanted)?;
     }
     Ok(())
 }
@@ -180,6 +193,14 @@ fn token_list(
     Ok(text)
 }
 
+/// Four tokens, of which the last has this length, are told with this before the last.
+fn check_four_tokens<R: AllocGlobal + Abort>(rt: &R, len: usize, gap: &[u8]) -> Result<(), Fail> {
+    let told = token_list(rt.alloc(), b":s 005 Me", b" ", len, b" :are supported")?;
+    let end = b" :are supported by this server\r\n";
+    let wanted = token_list(rt.alloc(), b":bnc 005 Me", gap, len, end)?;
+    check_tokens(rt, &told, &wanted)
+}
+
 /// Tokens of 400 bytes are one line, those of 401 bytes two; one that is longer has its own.
 #[test]
 fn tokens_up_to_400_bytes(rt: HostRuntime) -> Result<(), Fail> {
@@ -189,15 +210,7 @@ fn tokens_up_to_400_bytes(rt: HostRuntime) -> Result<(), Fail> {
         (450, b" :are supported by this server\r\n:bnc 005 Me "),
     ];
     for (len, gap) in &rows {
-        let told = token_list(rt.alloc(), b":s 005 Me", b" ", *len, b" :are supported")?;
-        let end = b" :are supported by this server\r\n";
-        let wanted = token_list(rt.alloc(), b":bnc 005 Me", gap, *len, end)?;
-        check_lines(
-            &rt,
-            &[b":s 001 Me :hi", &told, b":s 422 Me :none"],
-            b"005",
-            &[(b"", &wanted)],
-        )?;
+        check_four_tokens(&rt, *len, gap)?;
     }
     Ok(())
 }

@@ -1,20 +1,15 @@
 //! The messages that a client missed, as it is sent them.
 
 use crate::clients::asked;
-use crate::views::{quick_of, tape_of};
+use crate::lines::line;
+use crate::views::{Rows, check_after};
 use client_caps::{Caps, Moment, time_text};
 use history::{Entry, History};
-use irc_line::Line;
 use net_view::NetworkView;
 use std::alloc::Global;
 use std::process::Abort;
 use std::test::Fail;
 use welcome::playback;
-
-fn line(alloc: Global, text: &[u8]) -> Result<Line, Fail> {
-    let line = Line::<Global>::read(alloc, text)?;
-    Ok(line.ok_or("the text is a line")?)
-}
 
 /// A history of the messages of these lines; they come second by second.
 pub(crate) fn history_of(alloc: Global, rows: &[&[u8]]) -> Result<History, Fail> {
@@ -40,18 +35,21 @@ fn played<V: NetworkView>(
     Ok(Vec::from_slice(alloc, packet.bytes())?)
 }
 
-/// What is played of these messages by a view: capabilities, what is played.
-fn rows_played<R: AllocGlobal + Abort, V: NetworkView>(
-    rt: &R,
-    view: &V,
-    missed: &[&Entry],
-    rows: &[(&[u8], &[u8])],
-) -> Result<(), Fail> {
-    for (names, wanted) in rows {
-        let text = played(rt.alloc(), view, asked(names)?, missed)?;
-        assert!(rt; text.as_slice() == *wanted);
+/// Messages that were missed; capabilities, and what is played.
+#[derive(Clone, Copy)]
+struct Playbacks<'a> {
+    missed: &'a [&'a Entry],
+    rows: &'a [(&'a [u8], &'a [u8])],
+}
+
+impl Rows for Playbacks<'_> {
+    fn check<R: AllocGlobal + Abort, V: NetworkView>(&self, rt: &R, view: &V) -> Result<(), Fail> {
+        for (names, wanted) in self.rows {
+            let text = played(rt.alloc(), view, asked(names)?, self.missed)?;
+            assert!(rt; text.as_slice() == *wanted);
+        }
+        Ok(())
     }
-    Ok(())
 }
 
 /// What both views have played of the messages of these lines above a mark.
@@ -64,11 +62,58 @@ fn check_played<R: AllocGlobal + Abort>(
 ) -> Result<(), Fail> {
     let history = history_of(rt.alloc(), said)?;
     let missed = history.missed(rt.alloc(), mark)?;
-    rows_played(rt, &tape_of(rt.alloc(), texts)?, &missed, rows)?;
-    rows_played(rt, &quick_of(rt.alloc(), texts)?, &missed, rows)
+    let playbacks = Playbacks {
+        missed: &missed,
+        rows,
+    };
+    check_after(rt, texts, &playbacks)
 }
 
-/// Messages to two channels, to us and to a channel that we left: capabilities, what is sent.
+/// Capabilities, and what is played of messages to two channels, to us and to a third channel.
+const OF_TWO_CHANNELS: [(&[u8], &[u8]); 4] = [
+    (
+        b"",
+        b":eve!e@h NOTICE #b m3\r\n\
+        :bob!b@h PRIVMSG #C m1\r\n\
+        :bob!b@h PRIVMSG #c :m 4\r\n\
+        :bob!b@h PRIVMSG Me :hi there\r\n\
+        :Me PRIVMSG #gone ::5\r\n",
+    ),
+    (
+        b"batch",
+        b":bnc BATCH +h0 chathistory #b\r\n\
+        @batch=h0 :eve!e@h NOTICE #b m3\r\n\
+        :bnc BATCH -h0\r\n\
+        :bnc BATCH +h1 chathistory #c\r\n\
+        @batch=h1 :bob!b@h PRIVMSG #C m1\r\n\
+        @batch=h1 :bob!b@h PRIVMSG #c :m 4\r\n\
+        :bnc BATCH -h1\r\n\
+        :bob!b@h PRIVMSG Me :hi there\r\n\
+        :Me PRIVMSG #gone ::5\r\n",
+    ),
+    (
+        b"server-time",
+        b"@time=1970-01-01T00:00:03.000Z :eve!e@h NOTICE #b m3\r\n\
+        @time=1970-01-01T00:00:01.000Z :bob!b@h PRIVMSG #C m1\r\n\
+        @time=1970-01-01T00:00:04.000Z :bob!b@h PRIVMSG #c :m 4\r\n\
+        @time=1970-01-01T00:00:02.000Z :bob!b@h PRIVMSG Me :hi there\r\n\
+        @time=1970-01-01T00:00:05.000Z :Me PRIVMSG #gone ::5\r\n",
+    ),
+    (
+        b"batch server-time",
+        b":bnc BATCH +h0 chathistory #b\r\n\
+        @batch=h0;time=1970-01-01T00:00:03.000Z :eve!e@h NOTICE #b m3\r\n\
+        :bnc BATCH -h0\r\n\
+        :bnc BATCH +h1 chathistory #c\r\n\
+        @batch=h1;time=1970-01-01T00:00:01.000Z :bob!b@h PRIVMSG #C m1\r\n\
+        @batch=h1;time=1970-01-01T00:00:04.000Z :bob!b@h PRIVMSG #c :m 4\r\n\
+        :bnc BATCH -h1\r\n\
+        @time=1970-01-01T00:00:02.000Z :bob!b@h PRIVMSG Me :hi there\r\n\
+        @time=1970-01-01T00:00:05.000Z :Me PRIVMSG #gone ::5\r\n",
+    ),
+];
+
+/// Messages to two channels, to us and to a channel that we left.
 #[test]
 fn messages_of_two_channels_and_others(rt: HostRuntime) -> Result<(), Fail> {
     check_played(
@@ -88,48 +133,7 @@ fn messages_of_two_channels_and_others(rt: HostRuntime) -> Result<(), Fail> {
             b":Me PRIVMSG #gone ::5",
         ],
         None,
-        &[
-            (
-                b"",
-                b":eve!e@h NOTICE #b m3\r\n\
-                :bob!b@h PRIVMSG #C m1\r\n\
-                :bob!b@h PRIVMSG #c :m 4\r\n\
-                :bob!b@h PRIVMSG Me :hi there\r\n\
-                :Me PRIVMSG #gone ::5\r\n",
-            ),
-            (
-                b"batch",
-                b":bnc BATCH +h0 chathistory #b\r\n\
-                @batch=h0 :eve!e@h NOTICE #b m3\r\n\
-                :bnc BATCH -h0\r\n\
-                :bnc BATCH +h1 chathistory #c\r\n\
-                @batch=h1 :bob!b@h PRIVMSG #C m1\r\n\
-                @batch=h1 :bob!b@h PRIVMSG #c :m 4\r\n\
-                :bnc BATCH -h1\r\n\
-                :bob!b@h PRIVMSG Me :hi there\r\n\
-                :Me PRIVMSG #gone ::5\r\n",
-            ),
-            (
-                b"server-time",
-                b"@time=1970-01-01T00:00:03.000Z :eve!e@h NOTICE #b m3\r\n\
-                @time=1970-01-01T00:00:01.000Z :bob!b@h PRIVMSG #C m1\r\n\
-                @time=1970-01-01T00:00:04.000Z :bob!b@h PRIVMSG #c :m 4\r\n\
-                @time=1970-01-01T00:00:02.000Z :bob!b@h PRIVMSG Me :hi there\r\n\
-                @time=1970-01-01T00:00:05.000Z :Me PRIVMSG #gone ::5\r\n",
-            ),
-            (
-                b"batch server-time",
-                b":bnc BATCH +h0 chathistory #b\r\n\
-                @batch=h0;time=1970-01-01T00:00:03.000Z :eve!e@h NOTICE #b m3\r\n\
-                :bnc BATCH -h0\r\n\
-                :bnc BATCH +h1 chathistory #c\r\n\
-                @batch=h1;time=1970-01-01T00:00:01.000Z :bob!b@h PRIVMSG #C m1\r\n\
-                @batch=h1;time=1970-01-01T00:00:04.000Z :bob!b@h PRIVMSG #c :m 4\r\n\
-                :bnc BATCH -h1\r\n\
-                @time=1970-01-01T00:00:02.000Z :bob!b@h PRIVMSG Me :hi there\r\n\
-                @time=1970-01-01T00:00:05.000Z :Me PRIVMSG #gone ::5\r\n",
-            ),
-        ],
+        &OF_TWO_CHANNELS,
     )
 }
 

@@ -1,10 +1,11 @@
 //! What clients of whole sessions are told, read back by a view: it shows what the network's view
-//! shows. The sessions are written in the words of two servers.
+//! shows.
 
 use crate::clients::asked;
-use crate::views::{item, quick_of, shown, tape_of};
+use crate::lines::line;
+use crate::views::{item, quick_of, show_the_same, shown, tape_of};
+use crate::whole_sessions::{INSPIRCD, NGIRCD};
 use client_caps::{Caps, Moment, image};
-use irc_line::Line;
 use net_view::{Item, NetworkView};
 use quick_view::QuickView;
 use std::alloc::Global;
@@ -13,109 +14,11 @@ use std::test::Fail;
 use tape_view::TapeView;
 use welcome::{Packet, state_part};
 
-/// As an ngIRCd server says it: names by `ascii`, one symbol in a name list, no capabilities.
-pub(crate) const NGIRCD: [&[u8]; 38] = [
-    b":irc.example.net 001 ann :Welcome to the Internet Relay Network ann!~ann@client.example",
-    b":irc.example.net 002 ann :Your host is irc.example.net, running version ngircd-26.1",
-    b":irc.example.net 003 ann :This server has been started Mon Nov 02 2026 at 08:12:31 (UTC)",
-    b":irc.example.net 004 ann irc.example.net ngircd-26.1 abBcCFiIoqrRswx abehiIklmMnoOPqQrRstvVz",
-    b":irc.example.net 005 ann RFC2812 IRCD=ngIRCd CHARSET=UTF-8 CASEMAPPING=ascii \
-        PREFIX=(qaohv)~&@%+ CHANTYPES=#&+ CHANMODES=beI,k,l,imMnOPQRstVz CHANLIMIT=#&+:10 :are \
-        supported on this server",
-    b":irc.example.net 005 ann CHANNELLEN=50 NICKLEN=9 TOPICLEN=490 AWAYLEN=127 KICKLEN=400 \
-        MODES=5 MAXLIST=beI:50 EXCEPTS=e INVEX=I PENALTY FNC :are supported on this server",
-    b":irc.example.net 251 ann :There are 4 users and 0 services on 2 servers",
-    b":irc.example.net 375 ann :- irc.example.net message of the day",
-    b":irc.example.net 372 ann :- Be kind.",
-    b":irc.example.net 376 ann :End of MOTD command",
-    b":ann!~ann@client.example JOIN :#garden",
-    b":irc.example.net 332 ann #garden :Roses and thyme",
-    b":irc.example.net 333 ann #garden bob 1794000000",
-    b":irc.example.net 353 ann = #garden :~bob +eve Carl[1] ann",
-    b":irc.example.net 366 ann #garden :End of NAMES list",
-    b":irc.example.net 324 ann #garden +knt rosebud",
-    b":irc.example.net 329 ann #garden 1793900000",
-    b":bob!~bob@a.example MODE #garden +ov ann ann",
-    b"PING :irc.example.net",
-    b":bob!~bob@a.example PRIVMSG #garden :Good morning",
-    b":Carl[1]!~carl@b.example NICK :karl{1}",
-    b":dan!~dan@a.example JOIN :#garden",
-    b":bob!~bob@a.example MODE #garden +hb-t dan *!*@spam.example",
-    b":ann!~ann@client.example TOPIC #garden :Roses, thyme and sage",
-    b":ann!~ann@client.example JOIN :&local",
-    b":irc.example.net 353 ann = &local :dan @ann",
-    b":irc.example.net 366 ann &local :End of NAMES list",
-    b":ann!~ann@client.example MODE &local +l 12",
-    b":eve!~eve@b.example QUIT :a.example b.example",
-    b":karl{1}!~carl@b.example QUIT :a.example b.example",
-    b":eve!~eve@b.example JOIN :#garden",
-    b":hub.example.net MODE #garden +v eve",
-    b":dan!~dan@a.example NICK :Dana",
-    b":bob!~bob@a.example KICK #garden Dana :Enough",
-    b":ann!~ann@client.example MODE #garden +v-o+h eve ann eve",
-    b":ann!~ann@client.example NICK :anna",
-    b":anna!~ann@client.example MODE #garden -k rosebud",
-    b":Dana!~dan@a.example PRIVMSG anna :Still there?",
-];
-
-/// As an InspIRCd server says it: names by `rfc1459`, and all capabilities but batch.
-pub(crate) const INSPIRCD: [&[u8]; 39] = [
-    b":irc.island.example NOTICE * :*** Looking up your hostname...",
-    b":irc.island.example CAP * ACK :account-notify away-notify extended-join multi-prefix",
-    b":irc.island.example 001 Ivy :Welcome to the Island IRC Network Ivy!ivy@client.example",
-    b":irc.island.example 002 Ivy :Your host is irc.island.example, running version InspIRCd-3",
-    b":irc.island.example 004 Ivy irc.island.example InspIRCd-3 BHIRWcdghiksw ACDFHIJKLMNOPRST",
-    b":irc.island.example 005 Ivy AWAYLEN=200 CASEMAPPING=rfc1459 CHANLIMIT=#:20 \
-        CHANMODES=IXbegw,k,FHJLfjl,ACDKMNOPRSTcimnprstuz CHANNELLEN=60 CHANTYPES=# ELIST=CMNTU \
-        EXCEPTS=e EXTBAN=,ACNOQRSTUacjmprsuz HOSTLEN=64 INVEX=I KEYLEN=32 KICKLEN=255 :are \
-        supported by this server",
-    b":irc.island.example 005 Ivy LINELEN=512 MAXLIST=I:100,X:100,b:100,e:100,g:100,w:100 \
-        MAXTARGETS=20 MODES=20 NAMELEN=130 NAMESX NETWORK=Island NICKLEN=30 \
-        PREFIX=(Yqaohv)!~&@%+ SAFELIST STATUSMSG=!~&@%+ TOPICLEN=330 UHNAMES :are supported by \
-        this server",
-    b":irc.island.example 375 Ivy :irc.island.example message of the day",
-    b":irc.island.example 376 Ivy :End of message of the day.",
-    b":Ivy!ivy@client.example MODE Ivy +x",
-    b":Ivy!ivy@client.example JOIN #Harbour * :Ivy Green",
-    b":irc.island.example 332 Ivy #Harbour :Boats in, boats out",
-    b":irc.island.example 333 Ivy #Harbour Ruth!ruth@isle.example :1794000000",
-    b":irc.island.example 353 Ivy = #Harbour :!~@Ruth &@Sam %Tom[m] +Una!una@reef.example Ivy",
-    b":irc.island.example 366 Ivy #Harbour :End of /NAMES list.",
-    b":irc.island.example 324 Ivy #Harbour +fklnt 10:5 anchor 40",
-    b":Una!una@reef.example ACCOUNT una",
-    b":Sam!sam@isle.example AWAY :Mending nets",
-    b":Vic!vic@reef.example JOIN #Harbour victor :Vic Reed",
-    b":Ruth!ruth@isle.example MODE #Harbour +ov Ivy Vic",
-    b":Ruth!ruth@isle.example MODE #Harbour -kl+m anchor",
-    b":Tom[m]!tom@isle.example NICK tom{m}",
-    b"@time=2026-11-02T10:20:00.000Z :Ruth!ruth@isle.example PRIVMSG #Harbour :Morning all",
-    b":Una!una@reef.example QUIT :a.example b.example",
-    b":Una!una@reef.example JOIN #Harbour una :Una Shaw",
-    b":Vic!vic@reef.example AWAY :Asleep until six",
-    b":Sam!sam@isle.example AWAY",
-    b":Ivy!ivy@client.example ACCOUNT ivy",
-    b":Ivy!ivy@client.example JOIN #pier ivy :Ivy Green",
-    b":irc.island.example 353 Ivy = #pier :@Ivy",
-    b":irc.island.example 366 Ivy #pier :End of /NAMES list.",
-    b":irc.island.example MODE #pier +nt",
-    b":Una!una@reef.example JOIN #pier una :Una Shaw",
-    b":Ivy!ivy@client.example MODE #pier +hv Una Una",
-    b":Una!una@reef.example NICK Uma",
-    b":Ruth!ruth@isle.example KICK #Harbour tom{m} :Storm",
-    b":Ruth!ruth@isle.example TOPIC #Harbour :Boats in at dusk",
-    b":Sam!sam@isle.example PART #Harbour :Off to sea",
-    b":Ivy!ivy@client.example NICK IvyG",
-];
-
 /// All capabilities.
 const ALL: &[u8] = b"multi-prefix extended-join account-notify away-notify server-time batch";
 
 /// Takes the lines of a packet.
-pub(crate) fn take_packet<V: NetworkView>(
-    alloc: Global,
-    view: &mut V,
-    packet: &Packet,
-) -> Result<(), Fail> {
+fn take_packet<V: NetworkView>(alloc: Global, view: &mut V, packet: &Packet) -> Result<(), Fail> {
     for place in 0..packet.line_count() {
         let line = packet.line(alloc, place)?;
         view.take(&Item::Line(line))?;
@@ -123,14 +26,18 @@ pub(crate) fn take_packet<V: NetworkView>(
     Ok(())
 }
 
-/// The view of a client that comes now.
-fn arrived<V: NetworkView>(alloc: Global, view: &V, caps: Caps) -> Result<TapeView, Fail> {
-    let mut client = TapeView::new(alloc)?;
+/// A client that comes now: its view, to which nothing came, takes what it is told.
+fn arrive<V: NetworkView, C: NetworkView>(
+    alloc: Global,
+    view: &V,
+    caps: Caps,
+    client: &mut C,
+) -> Result<(), Fail> {
     if view.ready() {
         let packet = state_part(alloc, view, caps)?;
-        take_packet(alloc, &mut client, &packet)?;
+        take_packet(alloc, client, &packet)?;
     }
-    Ok(client)
+    Ok(())
 }
 
 /// The settings in force as they came, a space behind each.
@@ -148,12 +55,30 @@ fn settings_shown<V: NetworkView>(alloc: Global, view: &V) -> Result<Vec<u8>, Fa
     Ok(text)
 }
 
-/// A client that comes now with all capabilities is told what the view shows.
-fn is_told_all<R: AllocGlobal + Abort, V: NetworkView>(rt: &R, view: &V) -> Result<(), Fail> {
-    let client = arrived(rt.alloc(), view, asked(ALL)?)?;
-    assert!(rt; shown(rt.alloc(), &client)? == shown(rt.alloc(), view)?);
-    assert!(rt; settings_shown(rt.alloc(), &client)? == settings_shown(rt.alloc(), view)?);
+/// The settings of two views are the same.
+fn have_the_same_settings<R: AllocGlobal + Abort, V: NetworkView, W: NetworkView>(
+    rt: &R,
+    view: &V,
+    other: &W,
+) -> Result<(), Fail> {
+    assert!(rt; settings_shown(rt.alloc(), view)? == settings_shown(rt.alloc(), other)?);
     Ok(())
+}
+
+/// A client that comes now with all capabilities is told what the view shows.
+fn is_told_all<R: AllocGlobal + Abort, V: NetworkView, C: NetworkView>(
+    rt: &R,
+    view: &V,
+    client: &mut C,
+) -> Result<(), Fail> {
+    arrive(rt.alloc(), view, asked(ALL)?, client)?;
+    show_the_same(rt, &*client, view)?;
+    have_the_same_settings(rt, &*client, view)
+}
+
+/// The same, where the client reads by the view that searches.
+fn tells_a_client<R: AllocGlobal + Abort, V: NetworkView>(rt: &R, view: &V) -> Result<(), Fail> {
+    is_told_all(rt, view, &mut TapeView::new(rt.alloc())?)
 }
 
 /// The same after each line of a session from where the view is ready.
@@ -165,31 +90,42 @@ fn check_arrivals<R: AllocGlobal + Abort, V: NetworkView>(
     for text in session {
         view.take(&item(rt.alloc(), text)?)?;
         if view.ready() {
-            is_told_all(rt, &*view)?;
+            tells_a_client(rt, &*view)?;
         }
     }
     Ok(())
 }
 
-/// After each line by the view of tables; after the last one by the view that searches, too, which
-/// takes longer.
 #[test]
-fn clients_that_come_after_each_line(rt: HostRuntime) -> Result<(), Fail> {
-    check_arrivals(&rt, &mut QuickView::new(rt.alloc())?, &NGIRCD)?;
-    check_arrivals(&rt, &mut QuickView::new(rt.alloc())?, &INSPIRCD)?;
-    is_told_all(&rt, &tape_of(rt.alloc(), &NGIRCD)?)?;
-    is_told_all(&rt, &tape_of(rt.alloc(), &INSPIRCD)?)
+fn clients_that_come_after_each_line_of_ngircd(rt: HostRuntime) -> Result<(), Fail> {
+    check_arrivals(&rt, &mut QuickView::new(rt.alloc())?, &NGIRCD)
+}
+
+#[test]
+fn clients_that_come_after_each_line_of_inspircd(rt: HostRuntime) -> Result<(), Fail> {
+    check_arrivals(&rt, &mut QuickView::new(rt.alloc())?, &INSPIRCD)
+}
+
+/// The network's view searches, too, which takes longer.
+#[test]
+fn a_client_that_comes_after_the_last_line_of_ngircd(rt: HostRuntime) -> Result<(), Fail> {
+    tells_a_client(&rt, &tape_of(rt.alloc(), &NGIRCD)?)
+}
+
+#[test]
+fn a_client_that_comes_after_the_last_line_of_inspircd(rt: HostRuntime) -> Result<(), Fail> {
+    tells_a_client(&rt, &tape_of(rt.alloc(), &INSPIRCD)?)
 }
 
 /// Takes a line, whose image the client is sent before.
-fn send<V: NetworkView>(
+fn send<V: NetworkView, C: NetworkView>(
     alloc: Global,
     view: &mut V,
-    client: &mut TapeView,
+    client: &mut C,
     caps: Caps,
     text: &[u8],
 ) -> Result<(), Fail> {
-    let line = Line::<Global>::read(alloc, text)?.ok_or("the text is a line")?;
+    let line = line(alloc, text)?;
     if let Some(image) = image(alloc, &*view, caps, &line, Moment(0))? {
         client.take(&Item::Line(image))?;
     }
@@ -198,18 +134,31 @@ fn send<V: NetworkView>(
 }
 
 /// What the view of a client shows that came now, and was then sent these lines.
-fn seen_since<V: NetworkView>(
+fn seen_since<V: NetworkView, C: NetworkView>(
     alloc: Global,
     view: &mut V,
+    client: &mut C,
     since: &[&[u8]],
-    names: &[u8],
+    caps: Caps,
 ) -> Result<Vec<u8>, Fail> {
-    let caps = asked(names)?;
-    let mut client = arrived(alloc, &*view, caps)?;
+    arrive(alloc, &*view, caps, client)?;
     for text in since {
-        send(alloc, view, &mut client, caps, text)?;
+        send(alloc, view, client, caps, text)?;
     }
-    shown(alloc, &client)
+    shown(alloc, &*client)
+}
+
+/// What such a client knows, which reads by the view that searches.
+fn knows_since<R: AllocGlobal + Abort, V: NetworkView>(
+    rt: &R,
+    view: &mut V,
+    since: &[&[u8]],
+    row: (&[u8], &[u8]),
+) -> Result<(), Fail> {
+    let mut client = TapeView::new(rt.alloc())?;
+    let text = seen_since(rt.alloc(), view, &mut client, since, asked(row.0)?)?;
+    assert!(rt; text.as_slice() == row.1);
+    Ok(())
 }
 
 /// Clients that come after so many lines of a session: capabilities, and what they know at its end,
@@ -221,17 +170,17 @@ fn check_since<R: AllocGlobal + Abort>(
     rows: &[(&[u8], &[u8])],
 ) -> Result<(), Fail> {
     let (before, since) = session.split_at(late.min(session.len()));
-    for (names, wanted) in rows {
-        let by_tape = seen_since(rt.alloc(), &mut tape_of(rt.alloc(), before)?, since, names)?;
-        assert!(rt; by_tape.as_slice() == *wanted);
-        let by_tables = seen_since(rt.alloc(), &mut quick_of(rt.alloc(), before)?, since, names)?;
-        assert!(rt; by_tables.as_slice() == *wanted);
+    for row in rows {
+        knows_since(rt, &mut tape_of(rt.alloc(), before)?, since, *row)?;
+    }
+    for row in rows {
+        knows_since(rt, &mut quick_of(rt.alloc(), before)?, since, *row)?;
     }
     Ok(())
 }
 
 #[test]
-fn clients_that_come_in_the_middle(rt: HostRuntime) -> Result<(), Fail> {
+fn clients_that_come_in_the_middle_of_ngircd(rt: HostRuntime) -> Result<(), Fail> {
     check_since(
         &rt,
         &NGIRCD,
@@ -249,7 +198,11 @@ fn clients_that_come_in_the_middle(rt: HostRuntime) -> Result<(), Fail> {
                 / &local {l12} @anna Dana",
             ),
         ],
-    )?;
+    )
+}
+
+#[test]
+fn clients_that_come_in_the_middle_of_inspircd(rt: HostRuntime) -> Result<(), Fail> {
     check_since(
         &rt,
         &INSPIRCD,

@@ -4,7 +4,8 @@ mod servers;
 mod states;
 mod streams;
 
-use bnc_config::{Config, Place};
+use crate::login::{line, texts};
+use bnc_config::{Config, NetworkConfig, Place};
 use irc_line::Line;
 use std::alloc::Global;
 use std::process::Abort;
@@ -23,23 +24,18 @@ const MORE: &str = "password = \"secret\"\njoin = [\"#c\", \"#d key\", \"&x\"]\n
 /// The same, with channels that are words.
 const CHANNELS: &str = "password = \"secret\"\njoin = [\"#c\", \"&x\"]\n";
 
-/// A line of the network.
-fn line(alloc: Global, text: &str) -> Result<Line, Fail> {
-    let line = Line::<Global>::read(alloc, text.as_bytes())?;
-    Ok(line.ok_or("the text is a line")?)
+/// The settings without a password and channels.
+pub(crate) fn plain(alloc: Global) -> Result<Config, Fail> {
+    Ok(Config::read(alloc, PLAIN.as_bytes())?)
 }
 
-/// The texts of lines, with ` / ` between them.
-fn texts(alloc: Global, lines: &[Line]) -> Result<Vec<u8>, Fail> {
-    let mut out = Vec::new(alloc);
-    for line in lines {
-        if !out.is_empty() {
-            out.extend_from_slice(b" / ")?;
-        }
-        line.write(&mut out)?;
-        out.truncate(out.len().saturating_sub(2));
-    }
-    Ok(out)
+/// The one network of settings.
+pub(crate) fn network_of(config: &Config) -> Result<&NetworkConfig, Fail> {
+    let place = Place {
+        user: 0,
+        network: 0,
+    };
+    Ok(config.network(place).ok_or("no network")?)
 }
 
 /// What a step is: the lines that are sent, with `done: ` in front for the welcome, or the fault.
@@ -58,8 +54,36 @@ fn told(alloc: Global, step: &Step) -> Result<Vec<u8>, Fail> {
     }
 }
 
-/// Registers by the settings; a row without a line has what is sent first, each other a line of the
+/// What is sent first where there is no line, or what a line of the network is answered by.
+fn answered(
+    alloc: Global,
+    register: &mut Register,
+    first: &[Line],
+    text: &str,
+) -> Result<Vec<u8>, Fail> {
+    if text.is_empty() {
+        return texts(alloc, first);
+    }
+    told(alloc, &register.line(&line(alloc, text)?)?)
+}
+
+/// Registers at a network; a row without a line has what is sent first, each other a line of the
 /// network and what it is answered by.
+fn registers_at(
+    rt: &impl Abort,
+    alloc: Global,
+    network: &NetworkConfig,
+    rows: &[(&str, &str)],
+) -> Result<(), Fail> {
+    let (mut register, first) = Register::start(alloc, network)?;
+    for (text, want) in rows {
+        let found = answered(alloc, &mut register, first.as_slice(), text)?;
+        assert!(rt; found.as_slice() == want.as_bytes(), "at {text}");
+    }
+    Ok(())
+}
+
+/// The same by the settings of its first network.
 fn registers(
     rt: &impl Abort,
     alloc: Global,
@@ -67,21 +91,7 @@ fn registers(
     rows: &[(&str, &str)],
 ) -> Result<(), Fail> {
     let config = Config::read(alloc, settings.as_bytes())?;
-    let place = Place {
-        user: 0,
-        network: 0,
-    };
-    let network = config.network(place).ok_or("no network")?;
-    let (mut register, first) = Register::start(alloc, network)?;
-    for (text, want) in rows {
-        let found = if text.is_empty() {
-            texts(alloc, first.as_slice())?
-        } else {
-            told(alloc, &register.line(&line(alloc, text)?)?)?
-        };
-        assert!(rt; found.as_slice() == want.as_bytes(), "at {text}");
-    }
-    Ok(())
+    registers_at(rt, alloc, network_of(&config)?, rows)
 }
 
 #[test]
@@ -141,18 +151,25 @@ fn a_network_that_offers_nothing(rt: HostRuntime) -> Result<(), Fail> {
     registers(&rt, rt.alloc(), PLAIN, &rows)
 }
 
+/// What comes first with a password and channels.
+const WITH_CHANNELS: [(&str, &str); 3] = [
+    (
+        "",
+        "CAP LS 302 / PASS secret / NICK ann / USER ann 0 * :Ann A",
+    ),
+    (":s 001 ann :hi", "done: JOIN #c / JOIN &x"),
+    (":s 001 ann :hi", ""),
+];
+
 #[test]
 fn a_password_and_channels(rt: HostRuntime) -> Result<(), Fail> {
     let settings = format!(in rt.alloc(); "{PLAIN}{CHANNELS}")?;
-    let rows = [
-        (
-            "",
-            "CAP LS 302 / PASS secret / NICK ann / USER ann 0 * :Ann A",
-        ),
-        (":s 001 ann :hi", "done: JOIN #c / JOIN &x"),
-        (":s 001 ann :hi", ""),
-    ];
-    registers(&rt, rt.alloc(), settings.as_str(), &rows)?;
+    registers(&rt, rt.alloc(), settings.as_str(), &WITH_CHANNELS)
+}
+
+/// A key behind a channel's name is refused.
+#[test]
+fn channels_that_are_no_words(rt: HostRuntime) -> Result<(), Fail> {
     let settings = format!(in rt.alloc(); "{PLAIN}{MORE}")?;
     assert!(rt; Config::read(rt.alloc(), settings.as_str().as_bytes()).is_err());
     Ok(())
@@ -184,29 +201,47 @@ fn a_network_that_refuses(rt: HostRuntime) -> Result<(), Fail> {
     Ok(())
 }
 
+/// What is told of a line that comes behind 9,999 others.
+fn told_at_last(
+    rt: &impl Abort,
+    alloc: Global,
+    register: &mut Register,
+    last: &str,
+) -> Result<Vec<u8>, Fail> {
+    let notice = line(alloc, ":s NOTICE AUTH :*** Checking Ident")?;
+    for _ in 0..9_999 {
+        let step = register.line(&notice)?;
+        assert!(rt; matches!(&step, Step::Send(lines) if lines.is_empty()));
+    }
+    told(alloc, &register.line(&line(alloc, last)?)?)
+}
+
+/// The 10,000th line at a network, and what it is answered by.
+fn ends_at(
+    rt: &impl Abort,
+    alloc: Global,
+    network: &NetworkConfig,
+    last: &str,
+    want: &str,
+) -> Result<(), Fail> {
+    let (mut register, _first) = Register::start(alloc, network)?;
+    let found = told_at_last(rt, alloc, &mut register, last)?;
+    assert!(rt; found.as_slice() == want.as_bytes());
+    Ok(())
+}
+
 #[test]
 fn the_10000th_line(rt: HostRuntime) -> Result<(), Fail> {
-    let alloc = rt.alloc();
-    for (last, want) in [
+    let rows = [
         ("PING x", "no welcome"),
         (":s 433 * ann :in use", "no welcome"),
         (":s 001 ann :hi", "done: "),
         (":s 432 * ann :bad", "bad nick"),
-    ] {
-        let config = Config::read(alloc, PLAIN.as_bytes())?;
-        let place = Place {
-            user: 0,
-            network: 0,
-        };
-        let network = config.network(place).ok_or("no network")?;
-        let (mut register, _first) = Register::start(alloc, network)?;
-        let notice = line(alloc, ":s NOTICE AUTH :*** Checking Ident")?;
-        for _ in 0..9_999 {
-            let step = register.line(&notice)?;
-            assert!(rt; matches!(&step, Step::Send(lines) if lines.is_empty()));
-        }
-        let step = register.line(&line(alloc, last)?)?;
-        assert!(rt; told(alloc, &step)?.as_slice() == want.as_bytes());
+    ];
+    let config = plain(rt.alloc())?;
+    let network = network_of(&config)?;
+    for (last, want) in &rows {
+        ends_at(&rt, rt.alloc(), network, last, want)?;
     }
     Ok(())
 }

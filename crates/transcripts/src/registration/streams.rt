@@ -1,10 +1,10 @@
 //! Registrations over a reader and a writer.
 
-use super::PLAIN;
-use bnc_config::{Config, Place};
+use super::{network_of, plain};
 use irc_line::Line;
 use std::alloc::Global;
 use std::io::{self, ErrorKind, Read, Write};
+use std::process::Abort;
 use std::test::Fail;
 use upstream::{DialFault, RegisterFault, Welcomed, register};
 
@@ -64,39 +64,54 @@ fn registers<R: Read, W: Write>(
     reader: &mut R,
     writer: &mut W,
 ) -> Result<Result<Welcomed, DialFault>, Fail> {
-    let config = Config::read(alloc, PLAIN.as_bytes())?;
-    let place = Place {
-        user: 0,
-        network: 0,
+    let config = plain(alloc)?;
+    Ok(register(alloc, reader, writer, network_of(&config)?))
+}
+
+/// How many lines the welcome came with, and the lines once the rest has come.
+fn is_welcomed<R: AllocGlobal + Abort>(
+    rt: &R,
+    welcomed: Welcomed,
+    rest: &[u8],
+    lines_of_welcome: usize,
+) -> Result<(), Fail> {
+    let mut welcomed = welcomed;
+    assert!(rt; welcomed.lines.len() == lines_of_welcome);
+    welcomed.splitter.feed(rest, &mut welcomed.lines)?;
+    welcomed
+        .splitter
+        .feed(b"6 ann :end\r\n", &mut welcomed.lines)?;
+    let commands = [b"001".as_slice(), b"005", b"376"];
+    assert!(rt; welcomed.lines.len() == commands.len());
+    for (line, command) in welcomed.lines.iter().zip(commands) {
+        let line: &Line = line;
+        assert!(rt; line.is(command));
+    }
+    Ok(())
+}
+
+/// Registers by pieces of this size.
+fn registers_by<R: AllocGlobal + Abort>(
+    rt: &R,
+    size: usize,
+    lines_of_welcome: usize,
+) -> Result<(), Fail> {
+    let mut reader = Faulty {
+        left: INPUT.as_bytes(),
+        size,
+        good_calls: 1_000,
+        kind: ErrorKind::Other,
     };
-    let network = config.network(place).ok_or("no network")?;
-    Ok(register(alloc, reader, writer, network))
+    let mut sent = Vec::new(rt.alloc());
+    let welcomed = registers(rt.alloc(), &mut reader, &mut sent)??;
+    assert!(rt; sent.as_slice() == SENT.as_bytes());
+    is_welcomed(rt, welcomed, reader.left, lines_of_welcome)
 }
 
 #[test]
 fn however_the_bytes_are_cut(rt: HostRuntime) -> Result<(), Fail> {
-    let alloc = rt.alloc();
     for (size, lines_of_welcome) in [(1, 1), (2, 1), (7, 1), (4_096, 2)] {
-        let mut reader = Faulty {
-            left: INPUT.as_bytes(),
-            size,
-            good_calls: 1_000,
-            kind: ErrorKind::Other,
-        };
-        let mut sent = Vec::new(alloc);
-        let mut welcomed = registers(alloc, &mut reader, &mut sent)??;
-        assert!(rt; sent.as_slice() == SENT.as_bytes());
-        assert_eq!(rt; welcomed.lines.len(), lines_of_welcome);
-        welcomed.splitter.feed(reader.left, &mut welcomed.lines)?;
-        welcomed
-            .splitter
-            .feed(b"6 ann :end\r\n", &mut welcomed.lines)?;
-        assert_eq!(rt; welcomed.lines.len(), 3);
-        let commands = [b"001".as_slice(), b"005", b"376"];
-        for (line, command) in welcomed.lines.iter().zip(commands) {
-            let line: &Line = line;
-            assert!(rt; line.is(command));
-        }
+        registers_by(&rt, size, lines_of_welcome)?;
     }
     Ok(())
 }

@@ -3,6 +3,7 @@
 use super::lines_with;
 use bnc_config::Config;
 use std::alloc::{AllocError, Global};
+use std::process::Abort;
 use std::test::Fail;
 
 /// What is told of a file: its fault, or nothing.
@@ -11,6 +12,12 @@ fn told(alloc: Global, text: &[u8]) -> Result<String, AllocError> {
         Ok(_) => Ok(String::new(alloc)),
         Err(fault) => format!(in alloc; "{fault}"),
     }
+}
+
+/// What is told of a file is this.
+fn check_told<R: AllocGlobal + Abort>(rt: &R, text: &[u8], want: &str) -> Result<(), Fail> {
+    assert!(rt; told(rt.alloc(), text)?.as_str() == want, "{want}");
+    Ok(())
 }
 
 /// A line that stands for the first of `EXAMPLE` from a place on that begins so, and what is told
@@ -134,32 +141,39 @@ static LIMITS: [(usize, &str, &str, &str); 68] = [
 #[test]
 fn each_key_and_its_limits(rt: HostRuntime) -> Result<(), Fail> {
     for (after, key, line, want) in &LIMITS {
-        let text = lines_with(rt.alloc(), *after, key, line)?;
-        let found = told(rt.alloc(), text.as_bytes())?;
-        assert_eq!(rt; found.as_str(), *want, "at {line}");
+        check_told(
+            &rt,
+            lines_with(rt.alloc(), *after, key, line)?.as_bytes(),
+            want,
+        )?;
     }
     Ok(())
+}
+
+/// A line with so many channels.
+fn channels(alloc: Global, count: usize) -> Result<String, AllocError> {
+    let mut line = String::from_str(alloc, "join = [")?;
+    for _ in 0..count {
+        line.push_str("\"#c\",")?;
+    }
+    line.push_str("]")?;
+    Ok(line)
 }
 
 #[test]
 fn at_most_64_channels(rt: HostRuntime) -> Result<(), Fail> {
     for (count, want) in [(64, ""), (65, "bad value user.network.join")] {
-        let mut line = String::from_str(rt.alloc(), "join = [")?;
-        for _ in 0..count {
-            line.push_str("\"#c\",")?;
-        }
-        line.push_str("]")?;
+        let line = channels(rt.alloc(), count)?;
         let text = lines_with(rt.alloc(), 14, "join", line.as_str())?;
-        let found = told(rt.alloc(), text.as_bytes())?;
-        assert_eq!(rt; found.as_str(), want);
+        check_told(&rt, text.as_bytes(), want)?;
     }
     Ok(())
 }
 
 #[test]
 fn the_first_fault_is_told(rt: HostRuntime) -> Result<(), Fail> {
-    let rows = [
-        (b"".as_slice(), "missing listen"),
+    let rows: [(&[u8], &str); 13] = [
+        (b"", "missing listen"),
         (b"listen = ", "not TOML"),
         (b"listen = \"h:1\"\nlisten = \"h:2\"", "not TOML"),
         (b"listen = \"h:1\" # \xff", "not TOML"),
@@ -185,9 +199,8 @@ fn the_first_fault_is_told(rt: HostRuntime) -> Result<(), Fail> {
             "bad value history",
         ),
     ];
-    for (text, want) in rows {
-        let found = told(rt.alloc(), text)?;
-        assert_eq!(rt; found.as_str(), want);
+    for (text, want) in &rows {
+        check_told(&rt, text, want)?;
     }
     Ok(())
 }
@@ -196,6 +209,15 @@ fn the_first_fault_is_told(rt: HostRuntime) -> Result<(), Fail> {
 fn user_table(alloc: Global, name: &str) -> Result<String, AllocError> {
     let digest = "ba7816bf8f01cfea414140de5dae2223b00361a396177a9cb410ff61f20015ad";
     format!(in alloc; "[[user]]\nname = \"{name}\"\nsalt = \"\"\npassword = \"{digest}\"\n")
+}
+
+/// A file of these parts behind the address.
+fn file_of(alloc: Global, parts: &[&str]) -> Result<String, AllocError> {
+    let mut text = String::from_str(alloc, "listen = \"h:1\"\n")?;
+    for part in parts {
+        text.push_str(part)?;
+    }
+    Ok(text)
 }
 
 /// A network table.
@@ -229,13 +251,8 @@ fn names_that_come_twice(rt: HostRuntime) -> Result<(), Fail> {
             "missing user.salt",
         ),
     ];
-    for (parts, want) in rows {
-        let mut text = String::from_str(alloc, "listen = \"h:1\"\n")?;
-        for part in parts {
-            text.push_str(part)?;
-        }
-        let found = told(alloc, text.as_bytes())?;
-        assert_eq!(rt; found.as_str(), want);
+    for (parts, want) in &rows {
+        check_told(&rt, file_of(alloc, parts)?.as_bytes(), want)?;
     }
     Ok(())
 }

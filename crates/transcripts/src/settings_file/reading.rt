@@ -1,7 +1,7 @@
 //! Settings that are read.
 
 use super::lines_with;
-use bnc_config::{Config, Key, Place};
+use bnc_config::{Config, Key, NetworkConfig, Place};
 use std::alloc::Global;
 use std::test::Fail;
 
@@ -66,62 +66,79 @@ fn keys_of_a_network(rt: HostRuntime) -> Result<(), Fail> {
     Ok(())
 }
 
-#[test]
-fn what_is_left_out_has_its_default(rt: HostRuntime) -> Result<(), Fail> {
-    let config = Config::read(rt.alloc(), b"listen = \"host:1\"\nother = 1")?;
-    assert_eq!(rt; config.history(), 500);
-    assert_eq!(rt; config.retry(), 30);
-    assert_eq!(rt; config.user_count(), 0);
-    assert!(rt; config.networks(0).is_empty());
-    assert!(rt;
-        config
-            .network(Place {
-                user: 0,
-                network: 0
-            })
-            .is_none()
-    );
+/// The first network of settings, if there is one.
+fn first_network(config: &Config) -> Option<&NetworkConfig> {
+    config.network(Place {
+        user: 0,
+        network: 0,
+    })
+}
 
-    let text = lines_with(rt.alloc(), 13, "password", "")?;
-    let config = Config::read(rt.alloc(), text.as_bytes())?;
-    let network = config.network(Place {
-        user: 0,
-        network: 0,
-    });
-    assert!(rt; network.is_some_and(|network| network.password().is_none()));
-    let text = lines_with(rt.alloc(), 14, "join", "")?;
-    let config = Config::read(rt.alloc(), text.as_bytes())?;
-    let network = config.network(Place {
-        user: 0,
-        network: 0,
-    });
-    assert!(rt; network.is_some_and(|network| network.join().is_empty()));
+#[test]
+fn what_is_left_out_at_the_top_has_its_default(rt: HostRuntime) -> Result<(), Fail> {
+    let config = Config::read(rt.alloc(), b"listen = \"host:1\"\nother = 1")?;
+    assert!(rt; config.history() == 500 && config.retry() == 30);
+    assert!(rt; config.user_count() == 0 && config.networks(0).is_empty());
+    assert!(rt; first_network(&config).is_none());
+    Ok(())
+}
+
+/// The example without the line of a key from a line on.
+fn example_without(alloc: Global, after: usize, key: &str) -> Result<Config, Fail> {
+    let text = lines_with(alloc, after, key, "")?;
+    Ok(Config::read(alloc, text.as_bytes())?)
+}
+
+#[test]
+fn a_network_without_a_password(rt: HostRuntime) -> Result<(), Fail> {
+    let config = example_without(rt.alloc(), 13, "password")?;
+    let network = first_network(&config).ok_or("no network")?;
+    assert!(rt; network.password().is_none());
     Ok(())
 }
 
 #[test]
-fn names_and_passwords_are_compared_byte_for_byte(rt: HostRuntime) -> Result<(), Fail> {
+fn a_network_without_channels(rt: HostRuntime) -> Result<(), Fail> {
+    let config = example_without(rt.alloc(), 14, "join")?;
+    let network = first_network(&config).ok_or("no network")?;
+    assert!(rt; network.join().is_empty());
+    Ok(())
+}
+
+#[test]
+fn passwords_are_compared_byte_for_byte(rt: HostRuntime) -> Result<(), Fail> {
     let config = example(rt.alloc())?;
-    assert!(rt; config.password_matches(b"ann", b"bc"));
-    for password in [b"bd".as_slice(), b"b", b"bcd", b"", b"abc"] {
-        assert!(rt; !config.password_matches(b"ann", password));
+    let rows: [(&[u8], &[u8], bool); 8] = [
+        (b"ann", b"bc", true),
+        (b"ann", b"bd", false),
+        (b"ann", b"b", false),
+        (b"ann", b"bcd", false),
+        (b"ann", b"", false),
+        (b"ann", b"abc", false),
+        (b"Ann", b"bc", false),
+        (b"an", b"bc", false),
+    ];
+    for (user, password, is_taken) in &rows {
+        assert!(rt; config.password_matches(user, password) == *is_taken);
     }
-    assert!(rt; !config.password_matches(b"Ann", b"bc"));
-    assert!(rt; !config.password_matches(b"an", b"bc"));
-    assert!(rt; config.find(b"ann", b"Net").is_none());
-    assert!(rt; config.find(b"Ann", b"net").is_none());
-    assert!(rt; config.find(b"net", b"ann").is_none());
+    Ok(())
+}
+
+#[test]
+fn places_that_are_not_found(rt: HostRuntime) -> Result<(), Fail> {
+    let config = example(rt.alloc())?;
+    let rows: [(&[u8], &[u8]); 3] = [(b"ann", b"Net"), (b"Ann", b"net"), (b"net", b"ann")];
+    for (user, network) in &rows {
+        assert!(rt; config.find(user, network).is_none());
+    }
     Ok(())
 }
 
 /// `printf '%s%s' "$salt" 'correct horse' | sha256sum`, the salt of eight bytes.
 #[test]
 fn a_digest_made_with_sha256sum(rt: HostRuntime) -> Result<(), Fail> {
-    let salt = "3132333435363738";
-    let digest = "65c30cc1f89ab7117b28c4825ac5de892bc6ac97b1f7d7b070441fc025f3641f";
-    let text = format!(in rt.alloc();
-        "listen = \"h:1\"\n[[user]]\nname = \"bob\"\nsalt = \"{salt}\"\npassword = \"{digest}\""
-    )?;
+    let text = "listen = \"h:1\"\n[[user]]\nname = \"bob\"\nsalt = \"3132333435363738\"\n\
+        password = \"65c30cc1f89ab7117b28c4825ac5de892bc6ac97b1f7d7b070441fc025f3641f\"";
     let config = Config::read(rt.alloc(), text.as_bytes())?;
     assert!(rt; config.password_matches(b"bob", b"correct horse"));
     assert!(rt; !config.password_matches(b"bob", b"correct horsf"));

@@ -1,0 +1,162 @@
+//! The side of the network: the transcript, looked back through.
+
+use super::{Client, show_member};
+use crate::lines::line;
+use crate::views::{quick_of, show_channel};
+use irc_line::Line;
+use irc_support::{Ranks, Support, changes, names};
+use net_view::{Member, NetworkView};
+use quick_view::QuickView;
+use std::alloc::Global;
+use std::test::Fail;
+
+/// Whether a line is a MODE that gives a person a rank.
+fn gives(support: &Support, line: &Line, channel: &[u8], nick: &[u8], rank: u8) -> bool {
+    let mapping = support.mapping();
+    if !line.is(b"MODE") || !mapping.same(line.param(0).unwrap_or(b""), channel) {
+        return false;
+    }
+    let mut is_given = false;
+    for change in changes(support, line) {
+        let is_of_both = support.rank_of_letter(change.letter) == Some(rank)
+            && mapping.same(change.param.unwrap_or(b""), nick);
+        is_given = is_given || (change.plus && is_of_both);
+    }
+    is_given
+}
+
+/// Whether a line is a name list with a person.
+fn lists(support: &Support, line: &Line, channel: &[u8], nick: &[u8]) -> bool {
+    let mapping = support.mapping();
+    if !line.is(b"353") || !mapping.same(line.param(2).unwrap_or(b""), channel) {
+        return false;
+    }
+    let mut is_listed = false;
+    for (_, name) in names(support, line) {
+        is_listed = is_listed || mapping.same(name, nick);
+    }
+    is_listed
+}
+
+/// What a person was called before a line, where that renamed them.
+fn name_before<'a>(support: &Support, line: &'a Line, nick: &[u8]) -> Option<&'a [u8]> {
+    if line.is(b"NICK") && support.mapping().same(line.param(0).unwrap_or(b""), nick) {
+        return line.source_nick();
+    }
+    None
+}
+
+/// The highest rank of a person on the channel at a place.
+fn top_at(view: &QuickView, place: usize, nick: &[u8]) -> Option<u8> {
+    for seat in 0..view.member_count(place) {
+        if let Some(member) = view.member_at(place, seat) {
+            if view.support().mapping().same(member.nick, nick) {
+                return member.ranks.top();
+            }
+        }
+    }
+    None
+}
+
+/// The highest rank of a person on a channel after these lines.
+fn top_after(
+    alloc: Global,
+    lines: &[&[u8]],
+    channel: &[u8],
+    nick: &[u8],
+) -> Result<Option<u8>, Fail> {
+    let view = quick_of(alloc, lines)?;
+    for place in 0..view.channel_count() {
+        if let Some(found) = view.channel_at(place) {
+            if view.support().mapping().same(found.name, channel) {
+                return Ok(top_at(&view, place, nick));
+            }
+        }
+    }
+    Ok(None)
+}
+
+/// Whether a client without multi-prefix knows of a rank that a member holds at the end: a MODE
+/// gave it since the client came and since the last name list with the person, or it was the
+/// highest at the later of these two.
+fn is_known(
+    alloc: Global,
+    session: &[&[u8]],
+    late: usize,
+    support: &Support,
+    channel: &[u8],
+    nick: &[u8],
+    rank: u8,
+) -> Result<bool, Fail> {
+    let mut name = Vec::from_slice(alloc, nick)?;
+    for behind in 0..session.len().saturating_sub(late) {
+        let (before, _) = session.split_at(session.len() - behind);
+        let last = before.last().ok_or("a line")?;
+        let line = line(alloc, last)?;
+        if gives(support, &line, channel, &name, rank) {
+            return Ok(true);
+        }
+        if lists(support, &line, channel, &name) {
+            return Ok(top_after(alloc, before, channel, &name)? == Some(rank));
+        }
+        if let Some(earlier) = name_before(support, &line, &name) {
+            name = Vec::from_slice(alloc, earlier)?;
+        }
+    }
+    let (before, _) = session.split_at(late.min(session.len()));
+    Ok(top_after(alloc, before, channel, &name)? == Some(rank))
+}
+
+/// The ranks of a member that the client knows of.
+fn known_ranks(
+    alloc: Global,
+    session: &[&[u8]],
+    client: Client,
+    support: &Support,
+    channel: &[u8],
+    member: &Member<'_>,
+) -> Result<Ranks, Fail> {
+    let mut ranks = member.ranks;
+    if client.caps.holds(0) {
+        return Ok(ranks);
+    }
+    for rank in 0..16 {
+        if ranks.has(rank)
+            && !is_known(
+                alloc,
+                session,
+                client.late,
+                support,
+                channel,
+                member.nick,
+                rank,
+            )?
+        {
+            ranks = ranks.without(rank);
+        }
+    }
+    Ok(ranks)
+}
+
+/// What the transcript says, as far as the client can know it.
+pub(super) fn defined_text(
+    alloc: Global,
+    session: &[&[u8]],
+    client: Client,
+) -> Result<Vec<u8>, Fail> {
+    let view = quick_of(alloc, session)?;
+    let support = view.support();
+    let mut text = Vec::new(alloc);
+    text.extend_from_slice(view.own().unwrap_or(b"-"))?;
+    for place in 0..view.channel_count() {
+        show_channel(&view, place, &mut text)?;
+        let channel = view.channel_at(place).ok_or("no such channel")?;
+        for seat in 0..view.member_count(place) {
+            if let Some(member) = view.member_at(place, seat) {
+                let ranks = known_ranks(alloc, session, client, support, channel.name, &member)?;
+                show_member(&view, client.caps, ranks, &member, &mut text)?;
+            }
+        }
+    }
+    Ok(text)
+}

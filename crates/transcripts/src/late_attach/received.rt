@@ -1,0 +1,86 @@
+//! The side of the client: a hub takes the session, and a view reads what the client was sent.
+
+use super::{Client, show_member};
+use crate::views::show_channel;
+use client_caps::{Caps, Moment};
+use hub_core::Setup;
+use hub_runs::{Event, run};
+use net_view::{Item, NetworkView};
+use quick_view::QuickView;
+use std::alloc::Global;
+use std::test::Fail;
+use welcome::Packet;
+
+/// A line of the network, as its bytes come.
+fn up(alloc: Global, text: &[u8]) -> Result<Event, Fail> {
+    let mut bytes = Vec::new(alloc);
+    bytes.extend_from_slice(text)?;
+    bytes.extend_from_slice(b"\r\n")?;
+    Ok(Event::Up(bytes, Moment(0)))
+}
+
+/// The lines of a session, and among them the client that comes.
+fn events_of(alloc: Global, session: &[&[u8]], client: Client) -> Result<Vec<Event>, Fail> {
+    let mut events = Vec::new(alloc);
+    let (before, since) = session.split_at(client.late.min(session.len()));
+    for text in before {
+        events.push(up(alloc, text)?)?;
+    }
+    events.push(Event::Attach(client.caps, None, 64))?;
+    for text in since {
+        events.push(up(alloc, text)?)?;
+    }
+    Ok(events)
+}
+
+/// Adds the lines of a packet.
+fn push_packet(alloc: Global, items: &mut Vec<Item>, packet: &Packet) -> Result<(), Fail> {
+    for place in 0..packet.line_count() {
+        items.push(Item::Line(packet.line(alloc, place)?))?;
+    }
+    Ok(())
+}
+
+/// The lines that the client was sent.
+pub(super) fn received(
+    alloc: Global,
+    session: &[&[u8]],
+    client: Client,
+) -> Result<Vec<Item>, Fail> {
+    let events = events_of(alloc, session, client)?;
+    let setup = Setup {
+        history: 10,
+        first_number: 1,
+        first_session: 0,
+    };
+    let run = run(alloc, QuickView::new(alloc)?, setup, 8, &events)?;
+    let outlet = run.world.hub.outlet(0).ok_or("it is attached")?;
+    let mut items = Vec::new(alloc);
+    for place in 0..outlet.sent_count() {
+        push_packet(alloc, &mut items, outlet.sent(place).ok_or("it was sent")?)?;
+    }
+    Ok(items)
+}
+
+/// What the client reads of these lines, by a view to which nothing came.
+pub(super) fn read_text<V: NetworkView>(
+    alloc: Global,
+    received: &[Item],
+    caps: Caps,
+    view: &mut V,
+) -> Result<Vec<u8>, Fail> {
+    for item in received {
+        view.take(item)?;
+    }
+    let mut text = Vec::new(alloc);
+    text.extend_from_slice(view.own().unwrap_or(b"-"))?;
+    for place in 0..view.channel_count() {
+        show_channel(&*view, place, &mut text)?;
+        for seat in 0..view.member_count(place) {
+            if let Some(member) = view.member_at(place, seat) {
+                show_member(&*view, caps, member.ranks, &member, &mut text)?;
+            }
+        }
+    }
+    Ok(text)
+}
