@@ -24,14 +24,14 @@ fn enter(alloc: Global, network: &mut Peer) -> Result<(), Fail> {
 }
 
 /// The network lets the bouncer in, to a channel with bob.
-fn let_in(alloc: Global, bouncer: &Bouncer) -> Result<Peer, Fail> {
+pub fn let_in(alloc: Global, bouncer: &Bouncer) -> Result<Peer, Fail> {
     let mut network = bouncer.registers(alloc)?;
     enter(alloc, &mut network)?;
     Ok(network)
 }
 
 /// A client logs in by one PASS, without capabilities.
-fn come<R: Net<Listener = TcpListener, Stream = TcpStream>>(
+pub fn come<R: Net<Listener = TcpListener, Stream = TcpStream>>(
     rt: &R,
     alloc: Global,
     bouncer: &Bouncer,
@@ -45,7 +45,7 @@ fn come<R: Net<Listener = TcpListener, Stream = TcpStream>>(
 }
 
 /// A client goes, and the bouncer has seen it.
-fn go(alloc: Global, client: Peer) -> Result<(), Fail> {
+pub fn go(alloc: Global, client: Peer) -> Result<(), Fail> {
     let mut client = client;
     client.say("QUIT :bye\r\n")?;
     client.ends_with(alloc, "")

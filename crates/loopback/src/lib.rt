@@ -11,6 +11,8 @@ mod connections;
 #[cfg(test)]
 mod log_lines;
 #[cfg(test)]
+mod pasting;
+#[cfg(test)]
 mod peer;
 #[cfg(test)]
 mod session;

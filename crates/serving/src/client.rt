@@ -2,6 +2,7 @@
 
 use crate::closing::{HangingUp, hang_up};
 use crate::limits::Limits;
+use crate::paced::Paced;
 use crate::shared::{Seat, Shared};
 use crate::timed::Until;
 use event_log::{Event, SystemClock, Who, tell};
@@ -94,7 +95,7 @@ fn serve_session<R: Threads + Clock + Eprint + Wait + Copy + Send + Drop + 'stat
     stream.set_read_timeout(None)?;
     let gate = HangingUp::on(stream.try_clone()?);
     let out = stream.try_clone()?;
-    let mut input = &stream;
+    let mut input = Paced::new(&rt, &stream, network);
     let clock = SystemClock::of(&rt);
     match serve(
         rt, alloc, &mut input, out, claim, unread, network, &gate, &clock,

@@ -8,6 +8,7 @@ mod closing;
 mod dialling;
 mod limits;
 mod link;
+mod paced;
 mod pumping;
 mod rejoining;
 mod shared;

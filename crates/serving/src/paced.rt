@@ -1,0 +1,71 @@
+//! A reader of what a client says, which leaves others the time to take it.
+
+use hub_threads::Network;
+use quick_view::QuickView;
+use std::io;
+use std::io::Read;
+use std::rt::Clock;
+use std::sync::Wait;
+use std::thread;
+use std::time::Duration;
+
+/// After how many bytes it waits. They hold fewer messages than a session that is not nearly full
+/// has room for, and no more lines than may wait for a network.
+const PIECE: usize = 512;
+
+/// For how many milliseconds it waits at most.
+const PATIENCE: u32 = 50;
+
+/// A reader that waits after each 512 bytes, so that what a client says at once, as when a text is
+/// pasted, does not fill what goes to the network or to the other sessions.
+#[derive(Drop)]
+pub struct Paced<'a, I: Read + Drop, R: Wait + Clock> {
+    rt: &'a R,
+    input: I,
+    network: &'a Network<QuickView>,
+    // how many bytes were read since it has waited
+    count: usize,
+}
+
+impl<'a, I: Read + Drop, R: Wait + Clock> Paced<'a, I, R> {
+    /// A reader of what a client of this network says.
+    pub fn new(rt: &'a R, input: I, network: &'a Network<QuickView>) -> Paced<'a, I, R> {
+        Paced {
+            rt,
+            input,
+            network,
+            count: 0,
+        }
+    }
+
+    /// Whether a session of the network is nearly full.
+    fn is_crowded(&self) -> bool {
+        match self.network.lock(self.rt).nearly_full() {
+            Ok(sessions) => !sessions.is_empty(),
+            Err(_) => false,
+        }
+    }
+
+    /// Waits a millisecond, and on until no session is nearly full, but at most 50 ms.
+    fn wait(&self) {
+        for _ in 0..PATIENCE {
+            thread::sleep(self.rt, Duration::from_millis(1));
+            if !self.is_crowded() {
+                return;
+            }
+        }
+    }
+}
+
+impl<I: Read + Drop, R: Wait + Clock> Read for Paced<'_, I, R> {
+    fn read(&mut self, buf: &mut [u8]) -> io::Result<usize> {
+        if self.count >= PIECE {
+            self.wait();
+            self.count = 0;
+        }
+        let most = buf.len().min(PIECE - self.count);
+        let count = self.input.read(&mut buf[..most])?;
+        self.count = self.count.saturating_add(count);
+        Ok(count)
+    }
+}
