@@ -2,12 +2,11 @@
 
 use hub_threads::Network;
 use quick_view::QuickView;
-use std::io;
 use std::io::Read;
 use std::rt::Clock;
 use std::sync::Wait;
-use std::thread;
 use std::time::Duration;
+use std::{io, thread};
 
 /// After how many bytes it waits. They hold fewer messages than a session that is not nearly full
 /// has room for, and no more lines than may wait for a network.
