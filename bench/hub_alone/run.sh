@@ -2,17 +2,22 @@
 # What a delivery costs a hub alone: run.sh SESSIONS LINES.
 #
 # The gate reads each .rt file of the repository, and the program is no crate of it. So its files
-# stand here as text, and are built in the folder HUB_ALONE, beside links to the crates.
+# stand here as text, and are built in the folder HUB_ALONE, beside copies of the crates below.
 set -eu
 here="$(cd "$(dirname "$0")" && pwd)"
 top="$(cd "$here/../.." && pwd)"
 there="${HUB_ALONE:-/tmp/hub_alone}"
+below="irc_names irc_line irc_support net_view network_tables quick_view client_caps history"
+below="$below welcome hub_ends hub_core hub_threads"
+uses="client_caps hub_core hub_ends hub_threads irc_line net_view quick_view rtrb welcome"
 if [ ! -d "$there" ]; then
     mkdir -p "$there/crates/hub_alone/src"
     git init -q "$there"
-    cp "$top/HANDLES" "$top/crates.txt" "$there"
-    ln -s "$top"/crates/* "$there/crates"
-    uses="client_caps hub_core hub_ends hub_threads irc_line net_view quick_view rtrb welcome"
+    cp "$top/HANDLES" "$there"
+    for crate in $below; do
+        cp -a "$top/crates/$crate" "$there/crates"
+        grep "^$crate[ :]" "$top/crates.txt" >> "$there/crates.txt"
+    done
     echo "hub_alone: $uses" >> "$there/crates.txt"
 fi
 for file in main counting; do

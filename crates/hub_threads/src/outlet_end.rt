@@ -68,8 +68,8 @@ impl Drop for OutletEnd {
 }
 
 /// Both ends of one ring, for this many packets at a time, and 64 KiB of room to write from. Who
-/// sleeps on `pump` with its flag up is woken by each packet that is taken. `OutOfMemory` is told
-/// where an allocation was refused, and for no other cause.
+/// sleeps on `pump` with its flag up is woken when a packet is taken and no further one is known.
+/// `OutOfMemory` is told where an allocation was refused, and for no other cause.
 pub fn outlet(
     alloc: Global,
     capacity: usize,

@@ -12,8 +12,8 @@ use std::sync::Wait;
 /// together.
 const PATIENCE: u64 = 50;
 
-/// How often it looks at most whether they still are: each packet taken may wake it, so the time is
-/// told by the clock, and this ends the wait where a clock stands still.
+/// How often it looks at most whether they still are: each writer may wake it, so the time is told
+/// by the clock, and this ends the wait where a clock stands still.
 const LOOKS: u64 = 20_000;
 
 /// For whom no more time is to be spent: the sessions that took nothing while they were given time,
@@ -43,8 +43,8 @@ impl Patience {
 
     /// Gives sessions that are nearly full time to take packets, outside the lock: at most 50 ms
     /// for all together, and less where none is nearly full any more. It sleeps on `bell`, at most
-    /// 1 ms a time; where that is the bell of the network's pump, each packet taken wakes it. Who
-    /// took nothing is not waited for again until it does.
+    /// 1 ms a time; where that is the bell of the network's pump, a writer that has taken all that
+    /// it knew of wakes it. Who took nothing is not waited for again until it does.
     ///
     /// It is best effort: where memory is refused, a session is given no time.
     pub fn give_time<V: NetworkView + Drop, C: Clock, R: Wait>(

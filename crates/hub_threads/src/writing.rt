@@ -79,6 +79,7 @@ fn put_packet<W: Write, G: Gate>(
 /// then flushed; a packet that is longer is written as it is. So one packet goes out at once. It
 /// takes no memory.
 ///
+/// After a write it rests for at most 1 ms, so that what comes meanwhile goes out in one write.
 /// Where no packet waits it sleeps until it is woken: at most 1 ms a time, unless `idle` is
 /// 18446744073709551615.
 pub fn write_out<W: Write, G: Gate, R: Wait>(
