@@ -2,7 +2,8 @@
 # What a delivery costs a hub alone: run.sh SESSIONS LINES.
 #
 # The gate reads each .rt file of the repository, and the program is no crate of it. So its files
-# stand here as text, and are built in the folder HUB_ALONE, or else ~/hub_alone, beside copies of the crates below.
+# stand here as text, and are built in the folder HUB_ALONE, or else ~/hub_alone, beside copies of
+# the crates below.
 set -eu
 here="$(cd "$(dirname "$0")" && pwd)"
 top="$(cd "$here/../.." && pwd)"
