@@ -1,6 +1,6 @@
 //! What the log tells.
 
-use crate::shown::{Held, Shown};
+use crate::shown::{Held, Parting, Shown};
 use client_caps::Caps;
 use hub_core::AttachError;
 use std::net::SocketAddr;
@@ -23,6 +23,8 @@ pub enum Event<'a> {
     NotRegistered {
         /// Why not.
         fault: DialFault,
+        /// What its ERROR said, where it ended with one.
+        said: Option<&'a [u8]>,
         /// The seconds to the next dial.
         retry: u64,
     },
@@ -37,6 +39,8 @@ pub enum Event<'a> {
     Lost {
         /// Why.
         cause: &'a str,
+        /// What its ERROR said, where it ended with one.
+        said: Option<&'a [u8]>,
         /// The seconds to the next dial.
         retry: u64,
     },
@@ -66,13 +70,18 @@ pub enum Event<'a> {
     /// A session was not attached.
     NotAttached(AttachError),
     /// A session was cut by the hub; its writer runs on to its own end.
-    Cut,
+    Cut {
+        /// How many bytes were written to its client so far.
+        bytes: u64,
+    },
     /// A session has ended.
     Ended {
         /// Why.
         cause: &'a str,
-        /// How many bytes were written to its client; `None` where a write failed.
-        written: Option<u64>,
+        /// Whether no write failed.
+        whole: bool,
+        /// How many bytes were written to its client.
+        bytes: u64,
     },
     /// There was no memory or thread for a session.
     SessionWithoutMemory,
@@ -99,14 +108,19 @@ impl Event<'_> {
                 f,
                 "cannot connect to {address}: {error}; dials again in {retry} s"
             ),
-            Event::NotRegistered { fault, retry } => {
-                write!(f, "not registered: {fault}; dials again in {retry} s")
+            Event::NotRegistered { fault, said, retry } => {
+                let said = Parting(*said);
+                write!(f, "not registered: {fault}{said}; dials again in {retry} s")
             }
             Event::Connected { address, nick } => {
                 write!(f, "connected to {address} as {}", Shown(nick))
             }
-            Event::Lost { cause, retry } => {
-                write!(f, "connection lost: {cause}; dials again in {retry} s")
+            Event::Lost { cause, said, retry } => {
+                let said = Parting(*said);
+                write!(
+                    f,
+                    "connection lost: {cause}{said}; dials again in {retry} s"
+                )
             }
             Event::PumpWithoutMemory => write!(f, "out of memory, tries again"),
             Event::PumpSpent => write!(f, "message numbers spent, takes no more"),
@@ -124,11 +138,17 @@ impl fmt::Display for Event<'_> {
             Event::WrongPassword { peer } => write!(f, "wrong password from {peer}"),
             Event::NoLogin { peer, cause } => write!(f, "no login from {peer}: {cause}"),
             Event::NotAttached(error) => write!(f, "not attached: {error}"),
-            Event::Cut => write!(f, "session cut: it took too little"),
-            Event::Ended { cause, written } => match written {
-                Some(bytes) => write!(f, "session ended: {cause}; {bytes} bytes written"),
-                None => write!(f, "session ended: {cause}; cannot write"),
-            },
+            Event::Cut { bytes } => {
+                write!(f, "session cut: it took too little; {bytes} bytes written")
+            }
+            Event::Ended {
+                cause,
+                whole,
+                bytes,
+            } => {
+                let fault = if *whole { "" } else { "cannot write; " };
+                write!(f, "session ended: {cause}; {fault}{bytes} bytes written")
+            }
             Event::SessionWithoutMemory => write!(f, "out of memory or threads"),
             Event::CannotAccept(error) => write!(f, "cannot accept: {error}"),
             Event::TurnedAway { peer, cause } => write!(f, "turned {peer} away: {cause}"),

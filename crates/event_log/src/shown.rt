@@ -29,6 +29,27 @@ impl fmt::Display for Shown<'_> {
     }
 }
 
+/// How many bytes of a network's parting words are shown.
+const WORDS: usize = 256;
+
+/// What a network said at the end, where it said something: `; it said: ` and its first 256 bytes,
+/// each that is no letter, digit, sign or space of ASCII as `?`.
+#[derive(Clone, Copy)]
+pub(crate) struct Parting<'a>(pub(crate) Option<&'a [u8]>);
+
+impl fmt::Display for Parting<'_> {
+    fn fmt<W: fmt::Write>(&self, f: &mut fmt::Formatter<W>) -> fmt::Result {
+        let Some(text) = self.0 else {
+            return Ok(());
+        };
+        f.write_str("; it said: ")?;
+        for byte in text.iter().take(WORDS) {
+            f.write_char(if *byte == b' ' { ' ' } else { sign_of(*byte) })?;
+        }
+        Ok(())
+    }
+}
+
 /// The capabilities of a client by their names, as `multi-prefix batch`, or `no capabilities`.
 #[derive(Clone, Copy)]
 pub struct Held(pub Caps);

@@ -3,6 +3,8 @@
 use client_caps::Caps;
 use event_log::{Event, Shown, Who};
 use hub_core::AttachError;
+use serving::Recalling;
+use std::io::Read;
 use std::net::SocketAddr;
 use std::test::Fail;
 
@@ -40,11 +42,66 @@ fn what_the_log_tells(rt: HostRuntime) -> Result<(), Fail> {
             Event::NotAttached(AttachError::NotReady),
             "not attached: not ready",
         ),
-        (Event::Cut, "session cut: it took too little"),
+        (
+            Event::Cut { bytes: 9 },
+            "session cut: it took too little; 9 bytes written",
+        ),
     ];
     for (event, want) in rows {
         let text = format!(in rt.alloc(); "{event}")?;
         assert_eq!(rt; text.as_str(), want);
+    }
+    Ok(())
+}
+
+#[test]
+fn what_the_log_tells_of_an_end(rt: HostRuntime) -> Result<(), Fail> {
+    let cause = "closed";
+    let retry = 30;
+    let said = Some(b"Closing Link: h (\x1bbye)".as_slice());
+    let (whole, bytes) = (false, 12);
+    let rows = [
+        (
+            Event::Lost { cause, said, retry },
+            "connection lost: closed; it said: Closing Link: h (?bye); dials again in 30 s",
+        ),
+        (
+            Event::Ended {
+                cause,
+                whole,
+                bytes,
+            },
+            "session ended: closed; cannot write; 12 bytes written",
+        ),
+    ];
+    for (event, want) in rows {
+        let text = format!(in rt.alloc(); "{event}")?;
+        assert_eq!(rt; text.as_str(), want);
+    }
+    Ok(())
+}
+
+#[test]
+fn the_last_words_of_a_network(rt: HostRuntime) -> Result<(), Fail> {
+    let alloc = rt.alloc();
+    let rows: [(&[u8], Option<&[u8]>); 4] = [
+        (
+            b":s 376 a :end\r\nERROR :Closing Link: h (Ping timeout)\r\n",
+            Some(b"Closing Link: h (Ping timeout)"),
+        ),
+        (b":s ERROR bye\r\n", Some(b"bye")),
+        (b"ERROR :bye\r\n:s PING x\r\n", None),
+        (b":b PRIVMSG a :ERROR x\r\n", None),
+    ];
+    for (text, want) in rows {
+        let mut reader = Recalling::new(alloc, text);
+        let mut buffer = [0u8; 10];
+        for _ in 0..text.len() {
+            if reader.read(&mut buffer)? == 0 {
+                break;
+            }
+        }
+        assert!(rt; reader.parting(alloc).as_deref() == want);
     }
     Ok(())
 }

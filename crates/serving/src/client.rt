@@ -1,6 +1,7 @@
 //! One client, from its connection's beginning to its end.
 
 use crate::closing::{HangingUp, hang_up};
+use crate::counted::Counted;
 use crate::limits::Limits;
 use crate::paced::Paced;
 use crate::shared::{Seat, Shared};
@@ -94,20 +95,28 @@ fn serve_session<R: Threads + Clock + Eprint + Wait + Copy + Send + Drop + 'stat
 ) -> io::Result<()> {
     stream.set_read_timeout(None)?;
     let gate = HangingUp::on(stream.try_clone()?);
-    let out = stream.try_clone()?;
+    let Ok((out, count)) = Counted::new(alloc, stream.try_clone()?) else {
+        return Err(io::Error::from(io::ErrorKind::OutOfMemory));
+    };
     let mut input = Paced::new(&rt, &stream, network);
     let clock = SystemClock::of(&rt);
     match serve(
         rt, alloc, &mut input, out, claim, unread, network, &gate, &clock,
     ) {
         Ok((leave, ended)) => {
-            let cause = cause_of_leave(leave);
-            let written = ended.written.ok();
-            tell(&rt, &claimant(claim), &Event::Ended { cause, written });
+            let event = Event::Ended {
+                cause: cause_of_leave(leave),
+                whole: ended.written.is_ok(),
+                bytes: count.so_far(),
+            };
+            tell(&rt, &claimant(claim), &event);
         }
         Err(ServeFault::Memory) => tell(&rt, &claimant(claim), &Event::SessionWithoutMemory),
         Err(ServeFault::Refused(error)) => tell(&rt, &claimant(claim), &Event::NotAttached(error)),
-        Err(ServeFault::Cut) => tell(&rt, &claimant(claim), &Event::Cut),
+        Err(ServeFault::Cut) => {
+            let bytes = count.so_far();
+            tell(&rt, &claimant(claim), &Event::Cut { bytes });
+        }
     }
     Ok(())
 }

@@ -3,6 +3,7 @@
 use crate::closing::hang_up;
 use crate::limits::Limits;
 use crate::link::Link;
+use crate::recalling::Recalling;
 use crate::rejoining::rejoin;
 use crate::shared::{Served, Shared};
 use crate::timed::{OnSilence, Patient, Until};
@@ -44,36 +45,39 @@ fn connect<R: Net<Listener = TcpListener, Stream = TcpStream>>(
 /// Another handle of a connection, read until the limit of a registration is over.
 fn until_registered<'a, R: Clock>(
     rt: &'a R,
+    alloc: Global,
     stream: &TcpStream,
     limits: &Limits,
-) -> io::Result<Duplex<Until<TcpStream, &'a R>, TcpStream>> {
+) -> io::Result<Duplex<Recalling<Until<TcpStream, &'a R>>, TcpStream>> {
+    let reader = Until::start(stream.try_clone()?, rt, limits.registration)?;
     Ok(Duplex {
-        reader: Until::start(stream.try_clone()?, rt, limits.registration)?,
+        reader: Recalling::new(alloc, reader),
         writer: stream.try_clone()?,
     })
 }
 
-/// Registers at a network. From then on a silence of the connection ends a read.
+/// Registers at a network. From then on a silence of the connection ends a read. After a fault the
+/// network's parting words are answered too, where it had some.
 fn register<R: Clock>(
     rt: &R,
     alloc: Global,
     served: &Served<'_>,
     stream: &TcpStream,
-) -> Result<Welcomed, DialFault> {
-    let Ok(duplex) = until_registered(rt, stream, &served.limits) else {
-        return Err(DialFault::Read);
+) -> Result<Welcomed, (DialFault, Option<Vec<u8>>)> {
+    let Ok(duplex) = until_registered(rt, alloc, stream, &served.limits) else {
+        return Err((DialFault::Read, None));
     };
     let registering = match Dialled::new(duplex).begin(alloc, served.settings) {
         Ok(registering) => registering,
-        Err((fault, _)) => return Err(fault),
+        Err((fault, _)) => return Err((fault, None)),
     };
     let welcomed = match registering.finish(alloc) {
         Ok(live) => live.into_parts().1,
-        Err((fault, _)) => return Err(fault),
+        Err((fault, duplex)) => return Err((fault, duplex.reader.parting(alloc))),
     };
     match stream.set_read_timeout(Some(served.limits.silence)) {
         Ok(()) => Ok(welcomed),
-        Err(_) => Err(DialFault::Read),
+        Err(_) => Err((DialFault::Read, None)),
     }
 }
 
@@ -98,6 +102,14 @@ fn write_to<R: Wait>(rt: &R, stream: &TcpStream, outlet: OutletEnd) -> OutletEnd
     end
 }
 
+/// How a connection ended.
+#[derive(Drop)]
+struct Parting {
+    ended: ReadEnd,
+    // the text of its last line, where that was an ERROR
+    said: Option<Vec<u8>>,
+}
+
 /// Reads the network to the connection's end, and then stops the writer and shuts it.
 fn read_from<R: Wait + Clock>(
     rt: &R,
@@ -107,21 +119,24 @@ fn read_from<R: Wait + Clock>(
     splitter: Splitter,
     inlet: InletEnd,
     stopper: &Stopper,
-) -> Reading {
+) -> (InletEnd, Parting) {
     let alive = KeepAlive {
         rt,
         network: served.network,
     };
-    let mut reader = Patient::new(stream, alive, served.limits.silences);
+    let patient = Patient::new(stream, alive, served.limits.silences);
+    let mut reader = Recalling::new(alloc, patient);
     let clock = SystemClock::of(rt);
     let reading = read_in(rt, alloc, &mut reader, splitter, inlet, &FreeGate, &clock);
     stopper.stop();
     hang_up(stream);
-    reading
+    let Reading { end, ended } = reading;
+    let said = reader.parting(alloc);
+    (end, Parting { ended, said })
 }
 
 /// Serves a connection to its end: the lines from the welcome on go to the hub, and what the hub
-/// has for the network goes to it. Answers the link, and why the reading ended.
+/// has for the network goes to it. Answers the link, and how the connection ended.
 fn run<R: Threads + Wait + Clock + Sync>(
     rt: &R,
     alloc: Global,
@@ -129,7 +144,7 @@ fn run<R: Threads + Wait + Clock + Sync>(
     stream: &TcpStream,
     welcomed: Welcomed,
     link: Link,
-) -> (Link, ReadEnd) {
+) -> (Link, Parting) {
     let Link {
         mut inlet,
         outlet,
@@ -139,19 +154,18 @@ fn run<R: Threads + Wait + Clock + Sync>(
     let now = hub_threads::Clock::now(&SystemClock::of(rt));
     put_lines(rt, &mut inlet, lines, now);
     let told = &stopper;
-    let (outlet, reading) = thread::join(
+    let (outlet, (inlet, parting)) = thread::join(
         rt,
         move || write_to(rt, stream, outlet),
         move || read_from(rt, alloc, served, stream, splitter, inlet, told),
     );
     outlet.go_on();
-    let Reading { end, ended } = reading;
     let link = Link {
-        inlet: end,
+        inlet,
         outlet,
         stopper,
     };
-    (link, ended)
+    (link, parting)
 }
 
 /// Our nick by a network's welcome.
@@ -193,17 +207,23 @@ fn dial<
     };
     let welcomed = match register(rt, alloc, served, &stream) {
         Ok(welcomed) => welcomed,
-        Err(fault) => {
-            tell(rt, &served.who, &Event::NotRegistered { fault, retry });
+        Err((fault, said)) => {
+            let said = said.as_deref();
+            tell(
+                rt,
+                &served.who,
+                &Event::NotRegistered { fault, said, retry },
+            );
             return link;
         }
     };
     let nick = nick_in(welcomed.lines.as_slice());
     tell(rt, &served.who, &Event::Connected { address, nick });
     rejoin(rt, alloc, served, &stream);
-    let (link, ended) = run(rt, alloc, served, &stream, welcomed, link);
-    let cause = cause_of(ended);
-    tell(rt, &served.who, &Event::Lost { cause, retry });
+    let (link, parting) = run(rt, alloc, served, &stream, welcomed, link);
+    let cause = cause_of(parting.ended);
+    let said = parting.said.as_deref();
+    tell(rt, &served.who, &Event::Lost { cause, said, retry });
     link
 }
 

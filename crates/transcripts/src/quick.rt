@@ -1,8 +1,9 @@
 //! The two views beside one another, line by line.
 
-use crate::views::{check_rows, item, show_the_same};
+use crate::views::{check_rows, item, quick_of, show_the_same};
 use net_view::NetworkView;
 use quick_view::QuickView;
+use std::alloc::Global;
 use std::process::Abort;
 use std::test::Fail;
 use tape_view::TapeView;
@@ -105,4 +106,90 @@ fn a_rename_onto_a_person_who_is_there(rt: HostRuntime) -> Result<(), Fail> {
             (b":eve!b@h NICK EVE", b"Me / #c EVE Me"),
         ],
     )
+}
+
+/// What the persons of a crowd do, one after the other: all three hundred, or those whose number
+/// leaves this rest, divided by three. A new nick has the number behind its letter too.
+#[derive(Clone, Copy)]
+struct Deed<'a> {
+    letter: &'a str,
+    third: Option<usize>,
+    what: &'a str,
+    is_renamed: bool,
+}
+
+/// The numbers of a crowd, from 100 to 399, in the order in which they act: each 77 places behind
+/// the one before.
+fn number_at(turn: usize) -> usize {
+    100 + turn.wrapping_mul(77) % 300
+}
+
+/// The line of one of a crowd.
+fn line_of(alloc: Global, deed: &Deed<'_>, number: usize) -> Result<String, Fail> {
+    let Deed { letter, what, .. } = deed;
+    if deed.is_renamed {
+        return Ok(format!(in alloc; ":{letter}{number}!u@h {what}{number}")?);
+    }
+    Ok(format!(in alloc; ":{letter}{number}!u@h {what}")?)
+}
+
+/// A crowd does this.
+fn act<V: NetworkView>(alloc: Global, view: &mut V, deed: &Deed<'_>) -> Result<(), Fail> {
+    for turn in 0..300 {
+        let number = number_at(turn);
+        if deed.third.is_none_or(|third| number % 3 == third) {
+            let text = line_of(alloc, deed, number)?;
+            view.take(&item(alloc, text.as_str().as_bytes())?)?;
+        }
+    }
+    Ok(())
+}
+
+/// The members from a place on are those of this letter and of the numbers that leave this rest,
+/// divided by three, in order. Answers the place behind them.
+fn check_crowd<R: AllocGlobal + Abort, V: NetworkView>(
+    rt: &R,
+    view: &V,
+    place: usize,
+    letter: &str,
+    third: usize,
+) -> Result<usize, Fail> {
+    let mut place = place;
+    for number in 100..400 {
+        if number % 3 == third {
+            let nick = format!(in rt.alloc(); "{letter}{number}")?;
+            let member = view.member_at(0, place).ok_or("a member is there")?;
+            assert!(rt; member.nick == nick.as_str().as_bytes());
+            place = place.saturating_add(1);
+        }
+    }
+    Ok(place)
+}
+
+/// Three hundred persons come, a third of them goes, and another third takes other nicks.
+#[test]
+fn a_channel_of_three_hundred(rt: HostRuntime) -> Result<(), Fail> {
+    let alloc = rt.alloc();
+    let mut view = quick_of(alloc, &[b":s 001 Me :hi", b":Me!m@h JOIN #c"])?;
+    let deeds = [
+        ("n", None, "JOIN #c", false),
+        ("n", Some(0), "PART #c", false),
+        ("n", Some(1), "NICK o", true),
+    ];
+    for (letter, third, what, is_renamed) in deeds {
+        act(
+            alloc,
+            &mut view,
+            &Deed {
+                letter,
+                third,
+                what,
+                is_renamed,
+            },
+        )?;
+    }
+    assert!(rt; view.member_count(0) == 201);
+    let place = check_crowd(&rt, &view, 1, "n", 2)?;
+    assert!(rt; check_crowd(&rt, &view, place, "o", 1)? == 201);
+    Ok(())
 }
