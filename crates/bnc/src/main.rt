@@ -4,21 +4,12 @@
 ghost use Rattle.std.specs.Prelude.{◌≡◌};
 ghost use Rattle.std.specs.Process.{exit_status};
 
-mod attach;
-mod check;
-mod fault;
-mod input;
-mod report;
 mod serve;
-mod view;
-mod words;
 
-use crate::attach::run_attach;
-use crate::check::check_file;
-use crate::fault::Fault;
 use crate::serve::serve_file;
-use crate::view::run_view;
-use crate::words::{Command, WordsFault, explain_words, read_words};
+use commands::{
+    Command, Fault, WordsFault, check_file, explain_words, read_words, run_attach, run_view,
+};
 use std::alloc::{AllocError, Global};
 use std::io::ErrorKind;
 use std::net::{Net, TcpListener, TcpStream};

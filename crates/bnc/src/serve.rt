@@ -1,7 +1,7 @@
 //! `bnc serve FILE`: stays on the networks of a settings file, and serves their users' clients.
 
-use crate::fault::Fault;
 use bnc_config::Config;
+use commands::Fault;
 use serving::{Limits, Shared, accept, start_networks};
 use std::fs;
 use std::net::{Net, TcpListener, TcpStream};

@@ -4,15 +4,15 @@ use crate::peer::{Peer, same};
 use bnc_config::{Config, Place};
 use client_caps::Moment;
 use event_log::SystemClock;
-use hub_core::{Hub, Setup};
-use hub_threads::{FreeGate, Network, OutletEnd, PumpEnd, inlet, outlet, pump_loop, shared_bell};
+use hub_threads::{FreeGate, InletEnd, Network, PumpEnd, pump_loop};
 use irc_line::Line;
 use net_view::Item;
 use quick_view::QuickView;
+use serving::network_with_link;
 use sessions::{Served, serve_session};
 use std::alloc::Global;
 use std::net::{TcpListener, TcpStream};
-use std::sync::{Arc, Wait};
+use std::sync::Wait;
 use std::test::Fail;
 
 /// A network's lines: a channel with a topic, modes and members.
@@ -46,29 +46,25 @@ const SETTINGS: &str = "listen = \"h:1\"\n[[user]]\nname = \"ann\"\nsalt = \"61\
     [[user.network]]\nname = \"net\"\naddress = \"h:2\"\nnick = \"ann\"\nuser = \"ann\"\n\
     realname = \"Ann A\"\n";
 
-/// A network that has taken the lines, and the end of what goes to it.
-fn pumped<R: Wait + std::rt::Clock>(
-    rt: &R,
-    alloc: Global,
-) -> Result<(Network<QuickView>, OutletEnd), Fail> {
-    let pump = shared_bell(alloc)?;
-    let (mut end, items) = inlet(alloc, 16, Arc::try_clone(&pump)?)?;
-    let (upstream, up) = outlet(alloc, 8, Arc::try_clone(&pump)?)?;
-    let setup = Setup {
-        history: 500,
-        first_number: 1,
-        first_session: 0,
-    };
-    let hub = Hub::start(alloc, QuickView::new(alloc)?, items, upstream, setup)?;
-    let network = Network::new(hub, pump);
+/// Puts the lines.
+fn put_lines(alloc: Global, end: &mut InletEnd) -> Result<(), Fail> {
     for text in LINES {
         let line = Line::<Global>::read(alloc, text.as_bytes())?.ok_or("the text is a line")?;
         if end.put(Item::Line(line), Moment(0)).is_err() {
             return Err("the ring is full".into());
         }
     }
-    match pump_loop(rt, alloc, &network, &FreeGate, &SystemClock::of(rt), 8) {
-        PumpEnd::Turns => Ok((network, up)),
+    Ok(())
+}
+
+/// Has the network take what was put.
+fn take_all<R: Wait + std::rt::Clock>(
+    rt: &R,
+    alloc: Global,
+    network: &Network<QuickView>,
+) -> Result<(), Fail> {
+    match pump_loop(rt, alloc, network, &FreeGate, &SystemClock::of(rt), 8) {
+        PumpEnd::Turns => Ok(()),
         PumpEnd::Memory | PumpEnd::Spent => Err("the pump ended".into()),
     }
 }
@@ -86,7 +82,9 @@ fn connected<R: std::net::Net<Listener = TcpListener, Stream = TcpStream>>(
 #[test]
 fn a_client_is_served_from_its_login_to_quit(rt: HostRuntime) -> Result<(), Fail> {
     let alloc = rt.alloc();
-    let (network, mut up) = pumped(&rt, alloc)?;
+    let (network, mut link) = network_with_link(alloc, 500, 16)?;
+    put_lines(alloc, &mut link.inlet)?;
+    take_all(&rt, alloc, &network)?;
     let config = Config::read(alloc, SETTINGS.as_bytes())?;
     let place = config.find(b"ann", b"net").ok_or("the network is there")?;
     let mut networks: Vec<(Place, Network<QuickView>)> = Vec::new(alloc);
@@ -114,8 +112,8 @@ fn a_client_is_served_from_its_login_to_quit(rt: HostRuntime) -> Result<(), Fail
     drop(ended);
     drop(stream);
     client.ends_with(alloc, BURST)?;
-    let packet = up.take().ok_or("nothing went to the network")?;
+    let packet = link.outlet.take().ok_or("nothing went to the network")?;
     same(alloc, packet.bytes(), "PRIVMSG #c :hi all\r\n")?;
-    assert!(rt; up.take().is_none());
+    assert!(rt; link.outlet.take().is_none());
     Ok(())
 }

@@ -19,7 +19,7 @@ mod timed;
 
 pub use accepting::accept;
 pub use limits::Limits;
-pub use link::Link;
+pub use link::{Link, network_with_link};
 pub use recalling::Recalling;
 pub use shared::Shared;
 pub use starting::start_networks;

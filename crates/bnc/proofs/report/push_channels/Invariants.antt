@@ -1,7 +1,0 @@
-use Rattle.std.proofs.Common.{◌≡◌, ◌++◌}
-use Rattle.bnc.proofs.ReportLemmas.{channels_before}
-use Rattle.bnc.proofs.report.push_channels.Given as goal
-
-abbrev pub invariant-loop-i : goal.invariant-loop-i
-invariant-loop-i g l =
-    l.report.items ≡ l.fn.report.items ++ channels_before (g.V.NetworkView.view l.view) l.i

@@ -1,0 +1,10 @@
+use Rattle.std.proofs.Common.{◌∙◌}
+use Rattle.commands.proofs.ReportLemmas.{channel_pushed}
+use Rattle.commands.proofs.report.push_channels.Goals as goal
+
+pub loop-i-preserved : goal.loop-i-preserved
+loop-i-preserved g c =
+    let v = g.V.NetworkView.view c.args.view.now in
+    c.in_ok-push_channel.ensures
+    ∙ channel_pushed v c.loop-i.i c.args.report.now.items c.loop-i.report.items
+    c.loop-i.invariant

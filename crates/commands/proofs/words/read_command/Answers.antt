@@ -1,0 +1,32 @@
+use Rattle.std.proofs.Common.{ap, sym, ◌∙◌, codes, Some}
+use Rattle.clap.proofs.WalkLemmas.{first_value-rows}
+use Rattle.clap.specs.Words.{found_of, rows_of}
+use Rattle.commands.proofs.WordsLemmas.{no_check, no_serve}
+use Rattle.commands.proofs.words.read_command.Goals as goal
+
+pub returns-in_ok-from_str-in-Some-clause-read : goal.returns-in_ok-from_str-in-Some-clause-read
+returns-in_ok-from_str-in-Some-clause-read c = (
+  c.in-check.is,
+  sym (first_value-rows (found_of c.args.matches.now) (codes "file")) ∙ sym c.in-Some.ensures
+      ∙ ap Some (sym c.in_ok-from_str-in-Some.ensures.ok),
+)
+
+pub returns-in-None-clause-refused : goal.returns-in-None-clause-refused
+returns-in-None-clause-refused c =
+    let found = found_of c.args.matches.now in
+    no_check c.args.name.now (rows_of found) c.in-check.is
+    (c.in-None.ensures ∙ first_value-rows found (codes "file"))
+
+pub returns-in_ok-from_str-in-Some-get_str-clause-read :
+    goal.returns-in_ok-from_str-in-Some-get_str-clause-read
+returns-in_ok-from_str-in-Some-get_str-clause-read c = (
+  c.in-serve.is,
+  sym (first_value-rows (found_of c.args.matches.now) (codes "file"))
+      ∙ sym c.in-Some-get_str.ensures ∙ ap Some (sym c.in_ok-from_str-in-Some-get_str.ensures.ok),
+)
+
+pub returns-in-None-get_str-clause-refused : goal.returns-in-None-get_str-clause-refused
+returns-in-None-get_str-clause-refused c =
+    let found = found_of c.args.matches.now in
+    no_serve c.args.name.now (rows_of found) c.in-serve.is
+    (c.in-None-get_str.ensures ∙ first_value-rows found (codes "file"))

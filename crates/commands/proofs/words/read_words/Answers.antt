@@ -1,0 +1,36 @@
+use Rattle.std.proofs.Common.{ap, ◌∙◌, List, ℕ, map, Bor}
+use Rattle.clap.specs.Words.{Text, app_of, is_simple, is_simple_and_free, found_of, kind_of}
+use Rattle.clap.specs.Words.{rows_of}
+use Rattle.commands.proofs.WordsLemmas.{asked_at, cause_at, is_simple-bnc_app, is_free-bnc_app}
+use Rattle.commands.proofs.WordsLemmas.{pair_of_halves, words_ask, words_cause}
+use Rattle.commands.proofs.words.read_words.Goals as goal
+
+pub returns-in-Some-clause-read : goal.returns-in-Some-clause-read
+returns-in-Some-clause-read c =
+    let words : List Text = map (λ (w : Bor (List ℕ)). w.now) c.args.words.now in
+    let rows = rows_of (found_of c.in-Some.inner.now) in
+    let given =
+    (c.in-Ok.ensures.matches (ap is_simple c.in_ok-grammar.ensures ∙ is_simple-bnc_app)).1 in
+    let pair = pair_of_halves _ _ _ _ _ c.in-Some.ensures.name c.in-Some.ensures.rows in
+    words_ask words c.in-Some.name.now rows c.read_command.result
+    (asked_at (app_of c.in_ok-grammar.field-0) words _ _ rows c.in_ok-grammar.ensures given pair)
+    c.read_command.ensures.read
+
+pub returns-in-Some-clause-refused : goal.returns-in-Some-clause-refused
+returns-in-Some-clause-refused c =
+    let words : List Text = map (λ (w : Bor (List ℕ)). w.now) c.args.words.now in
+    let rows = rows_of (found_of c.in-Some.inner.now) in
+    let given =
+    (c.in-Ok.ensures.matches (ap is_simple c.in_ok-grammar.ensures ∙ is_simple-bnc_app)).1 in
+    let pair = pair_of_halves _ _ _ _ _ c.in-Some.ensures.name c.in-Some.ensures.rows in
+    words_cause words c.in-Some.name.now rows c.read_command.result
+    (asked_at (app_of c.in_ok-grammar.field-0) words _ _ rows c.in_ok-grammar.ensures given pair)
+    c.read_command.ensures.refused
+
+pub returns-in-Err-clause-refused : goal.returns-in-Err-clause-refused
+returns-in-Err-clause-refused c =
+    let words : List Text = map (λ (w : Bor (List ℕ)). w.now) c.args.words.now in
+    let kinds =
+    c.in-Err.ensures.kinds (ap is_simple_and_free c.in_ok-grammar.ensures ∙ is_free-bnc_app) in
+    cause_at (app_of c.in_ok-grammar.field-0) words (kind_of c.in-Err.error) c.fault_of.result
+    c.in_ok-grammar.ensures kinds c.fault_of.ensures

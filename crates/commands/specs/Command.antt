@@ -1,0 +1,135 @@
+-- The command line, as `clap`'s contract names its grammar.
+use Rattle.std.specs.Prelude.{◌≡◌, ◌≢◌, ◌⊎◌, ◌≤◌, ◌==◌, ℕ, List, [], ◌∷◌, Option, Some, None, true}
+use Rattle.std.specs.Prelude.{codes, if◌then◌else◌, map, string_bytes}
+use Rattle.std.specs.Str.Parse.{IsNumeral, digits_value, without_leading_plus}
+use Rattle.clap.specs.Words.{App, IsAmong, Row, Rule, Text, fault_of, first_of, new_app, new_rule}
+use Rattle.clap.specs.Words.{subcommand_of, with_rule, with_subcommand}
+use Rattle.clap.specs.declared.builder.action.ArgAction.TheVariants.{Set}
+use Rattle.clap.specs.declared.builder.value_parser.ValueParser.TheVariants.{Unsigned}
+use Rattle.clap.specs.declared.error.kind.ErrorKind.{ErrorKind}
+use Rattle.clap.specs.declared.error.kind.ErrorKind.TheVariants as kind
+use Rattle.commands.specs.declared.words.Command.{Command}
+use Rattle.client_caps.specs.declared.caps.Caps.{Caps}
+use Rattle.client_caps.specs.Caps.{no_caps}
+use Rattle.client_caps.specs.Request.{request_of}
+use Rattle.commands.specs.declared.words.Command.TheVariants.{Attach, Check, Serve, View}
+use Rattle.commands.specs.declared.words.WordsFault.{WordsFault}
+use Rattle.commands.specs.declared.words.WordsFault.TheVariants.{Bad, Help, OutOfMemory}
+
+-- FILE
+abbrev pub file_rule : Rule
+file_rule = record (new_rule (codes "file")) { required = true; action = Some Set; value_names = 1 }
+
+-- check FILE
+abbrev pub check_app : App
+check_app = with_rule (new_app (codes "check")) file_rule
+
+-- serve FILE
+abbrev pub serve_app : App
+serve_app = with_rule (new_app (codes "serve")) file_rule
+
+-- --caps LIST
+abbrev pub caps_rule : Rule
+caps_rule =
+    record (new_rule (codes "caps")) {
+      long = Some (codes "caps");
+      action = Some Set;
+      value_names = 1;
+      defaults = [] ∷ [];
+    }
+
+-- --history N, with N from 1 to 10,000
+abbrev pub history_rule : Rule
+history_rule =
+    record (new_rule (codes "history")) {
+      long = Some (codes "history");
+      action = Some Set;
+      value_names = 1;
+      parser = Some (Unsigned 1 10000);
+      defaults = codes "500" ∷ [];
+    }
+
+-- attach [--caps LIST] [--history N]
+abbrev pub attach_app : App
+attach_app = with_rule (with_rule (new_app (codes "attach")) caps_rule) history_rule
+
+-- view
+abbrev pub view_app : App
+view_app = new_app (codes "view")
+
+-- bnc COMMAND, where the words come without the program's name
+abbrev pub bare_app : App
+bare_app = let app = new_app (codes "bnc") in
+    record app { top = record app.top { no_binary_name = true; subcommand_required = true } }
+
+abbrev pub bnc_app : App
+bnc_app =
+    with_subcommand (with_subcommand (with_subcommand (with_subcommand bare_app view_app.top)
+    attach_app.top) check_app.top) serve_app.top
+
+-- LIST has the words of a request, with commas in place of spaces
+abbrev pub space_for_comma : ℕ → ℕ
+space_for_comma b = if b == 44 then 32 else b
+
+abbrev pub spaced : Text → Text
+spaced list = map space_for_comma list
+
+-- the text is this number, in decimal digits and with or without a plus, from 1 to 10,000
+abbrev pub IsHistory : Text → ℕ → Type 0
+IsHistory text n = IsNumeral 10 (without_leading_plus text)
+    × (digits_value 10 (without_leading_plus text) ≡ n)
+    × (1 ≤ n)
+    × (n ≤ 10000)
+
+-- the options ask for these capabilities and this number of messages
+abbrev pub IsAttach : List Row → Caps → ℕ → Type 0
+IsAttach rows caps n = (list : Text)
+    × (first_of (codes "caps") rows ≡ Some list)
+    × (request_of no_caps (spaced list) ≡ Some caps)
+    × (text : Text)
+    × (first_of (codes "history") rows ≡ Some text)
+    × IsHistory text n
+
+-- the command of this name asks for this with these options and arguments
+abbrev pub IsCommandOf : Text → List Row → Command → Type 0
+IsCommandOf name rows View = name ≡ codes "view"
+IsCommandOf name rows (Attach caps n) = (name ≡ codes "attach") × IsAttach rows caps n
+IsCommandOf name rows (Check file) =
+    (name ≡ codes "check") × (first_of (codes "file") rows ≡ Some (string_bytes file))
+IsCommandOf name rows (Serve file) =
+    (name ≡ codes "serve") × (first_of (codes "file") rows ≡ Some (string_bytes file))
+
+-- why it asks for nothing; want of memory is a fault of no words
+abbrev pub IsCommandCause : Text → List Row → WordsFault → Type 0
+IsCommandCause name rows Bad = (command : Command) → IsCommandOf name rows command → ⊥
+IsCommandCause name rows OutOfMemory = Unit {0}
+IsCommandCause name rows (Help text) = ⊥
+
+-- the words ask for the command, by the grammar
+abbrev pub AsksFor : List Text → Command → Type 0
+AsksFor words command = (name : Text) × (rows : List Row)
+    × (subcommand_of bnc_app words ≡ Some (name, rows))
+    × IsCommandOf name rows command
+
+-- an error of this kind is told so; want of memory may be told of any
+abbrev pub IsOfKind : ErrorKind → WordsFault → Type 0
+IsOfKind k (Help text) = k ≡ kind.DisplayHelp
+IsOfKind k Bad = (k ≢ kind.OutOfMemory) × (k ≢ kind.DisplayHelp)
+IsOfKind k OutOfMemory = Unit {0}
+
+-- the cause of a fault of the words: the grammar finds that they ask for help, or are at fault in
+-- another way, or they ask for nothing; want of memory is a fault of no words
+abbrev pub IsCauseOf : List Text → WordsFault → Type 0
+IsCauseOf words (Help text) = IsAmong kind.DisplayHelp (fault_of bnc_app words)
+IsCauseOf words Bad =
+    ((k : ErrorKind) × (k ≢ kind.DisplayHelp) × IsAmong k (fault_of bnc_app words))
+    ⊎ ((command : Command) → AsksFor words command → ⊥)
+IsCauseOf words OutOfMemory = Unit {0}
+
+-- why something, or nothing, is told of what is wrong with the words: the grammar finds a fault
+-- other than that they ask for help, or it finds no such fault
+abbrev pub IsExplained : {T : Type 0} → List Text → Option T → Type 0
+IsExplained words (Some text) =
+    (k : ErrorKind) × (k ≢ kind.DisplayHelp) × IsAmong k (fault_of bnc_app words)
+IsExplained words None =
+    (fault_of bnc_app words ≡ []) ⊎ IsAmong kind.DisplayHelp (fault_of bnc_app words)

@@ -1,0 +1,30 @@
+-- What a fault is told as, and which fault an error is. The texts are our own choice.
+use Rattle.std.specs.Prelude.{ℕ, List, codes}
+use Rattle.std.specs.declared.io.ErrorKind.{ErrorKind}
+use Rattle.std.specs.declared.io.ErrorKind.TheVariants as kind
+use Rattle.irc_line.specs.declared.splitter.FeedError.{FeedError}
+use Rattle.irc_line.specs.declared.splitter.FeedError.TheVariants as feed
+use Rattle.bnc_config.specs.ConfigFault as config
+use Rattle.commands.specs.declared.fault.Fault.{Fault}
+use Rattle.commands.specs.declared.fault.Fault.TheVariants.{CannotListen, CannotRead, CannotWrite}
+use Rattle.commands.specs.declared.fault.Fault.TheVariants.{LineTooLong, NotReady, OutOfMemory, Settings}
+
+-- the text that a fault is told as
+abbrev pub text_of : Fault → List ℕ
+text_of CannotListen = codes "cannot listen"
+text_of CannotRead = codes "cannot read"
+text_of CannotWrite = codes "cannot write"
+text_of LineTooLong = codes "line too long"
+text_of NotReady = codes "not ready"
+text_of OutOfMemory = codes "out of memory"
+text_of (Settings fault) = config.text_of fault
+
+-- the fault of a read that failed with an error of this kind
+abbrev pub reading_fault : ErrorKind → Fault
+reading_fault kind.OutOfMemory = OutOfMemory
+reading_fault _ = CannotRead
+
+-- the fault of a piece that was not taken
+abbrev pub piece_fault : FeedError → Fault
+piece_fault feed.TooLong = LineTooLong
+piece_fault feed.OutOfMemory = OutOfMemory

@@ -1,0 +1,89 @@
+//! What the program tells of a fault.
+
+ghost use Rattle.std.specs.Prelude.{◌≡◌};
+ghost use Rattle.std.specs.IoError.{error_kind};
+ghost use Rattle.commands.specs.Faults.{reading_fault};
+
+use bnc_config::ConfigFault;
+use irc_line::FeedError;
+use std::alloc::AllocError;
+use std::error::Error;
+use std::io::ErrorKind;
+use std::{fmt, io};
+
+/// A fault of what the program was given, told on standard error as `bnc: TEXT`; its status is 1.
+#[derive(Debug, Drop)]
+pub enum Fault {
+    /// The address for clients can't be listened at.
+    CannotListen,
+    /// An input can't be read.
+    CannotRead,
+    /// The output can't be written.
+    CannotWrite,
+    /// More than 16,384 bytes of the input stand without LF.
+    LineTooLong,
+    /// The network that the input tells of is not ready: no 376, 422 or JOIN came after its welcome.
+    NotReady,
+    /// An allocation was refused.
+    OutOfMemory,
+    /// The settings file has a fault, or memory for it was refused.
+    Settings(ConfigFault),
+}
+
+impl Fault {
+    /// The fault of an input that was not read.
+    pub fn of_reading(error: &io::Error) -> Fault
+        ensures { result ≡ reading_fault (error_kind error.now) }
+    {
+        match error.kind() {
+            ErrorKind::OutOfMemory => Fault::OutOfMemory,
+            _ => Fault::CannotRead,
+        }
+    }
+}
+
+impl From<AllocError> for Fault {
+    ghost use Rattle.std.specs.Prelude.{◌≡◌};
+    ghost use Rattle.commands.specs.declared.fault.Fault.TheVariants.{OutOfMemory as out_of_memory};
+
+    ghost from_gives = { λ _ fault. fault ≡ out_of_memory };
+
+    fn from(_refused: AllocError) -> Fault {
+        Fault::OutOfMemory
+    }
+}
+
+impl From<FeedError> for Fault {
+    ghost use Rattle.std.specs.Prelude.{◌≡◌};
+    ghost use Rattle.commands.specs.Faults.{piece_fault};
+
+    ghost from_gives = { λ error fault. fault ≡ piece_fault error };
+
+    fn from(error: FeedError) -> Fault {
+        match error {
+            FeedError::TooLong => Fault::LineTooLong,
+            FeedError::OutOfMemory => Fault::OutOfMemory,
+        }
+    }
+}
+
+impl fmt::Display for Fault {
+    ghost use Rattle.std.specs.Prelude.{Some};
+    ghost use Rattle.commands.specs.Faults.{text_of};
+
+    ghost output = { λ fault. Some (text_of fault) };
+
+    fn fmt<W: fmt::Write>(&self, f: &mut fmt::Formatter<W>) -> fmt::Result {
+        match self {
+            Fault::CannotListen => write!(f, "cannot listen"),
+            Fault::CannotRead => write!(f, "cannot read"),
+            Fault::CannotWrite => write!(f, "cannot write"),
+            Fault::LineTooLong => write!(f, "line too long"),
+            Fault::NotReady => write!(f, "not ready"),
+            Fault::OutOfMemory => write!(f, "out of memory"),
+            Fault::Settings(fault) => write!(f, "{fault}"),
+        }
+    }
+}
+
+impl Error for Fault {}

@@ -1,0 +1,18 @@
+//! What `bnc` does but for serving, over readers and writers: `view`, `attach` and `check`; and the
+//! words of its command line.
+#![tactic(auto)]
+
+mod attach;
+mod check;
+mod fault;
+mod input;
+mod report;
+mod view;
+mod words;
+
+pub use attach::{Attaching, attach_input, run_attach};
+pub use check::{check_file, run_check};
+pub use fault::Fault;
+pub use report::report_text;
+pub use view::{Viewing, report_input, run_view};
+pub use words::{Command, WordsFault, explain_words, read_words};
