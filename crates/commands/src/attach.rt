@@ -149,6 +149,3 @@ pub fn run_attach<R: Read, W: Write>(
     };
     attach_input(alloc, &mut attaching, reader, out, caps)
 }
-
-#[cfg(test)]
-mod tests;

@@ -92,8 +92,3 @@ pub fn run_view<R: Read, W: Write>(alloc: Global, reader: &mut R, out: &mut W) -
     };
     report_input(alloc, &mut viewing, reader, out)
 }
-
-#[cfg(test)]
-mod tests;
-#[cfg(test)]
-mod whole_sessions;

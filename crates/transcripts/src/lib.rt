@@ -33,6 +33,8 @@ mod read_back;
 #[cfg(test)]
 mod registration;
 #[cfg(test)]
+mod reports;
+#[cfg(test)]
 mod served;
 #[cfg(test)]
 mod settings;

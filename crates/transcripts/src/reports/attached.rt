@@ -1,8 +1,9 @@
 //! Tests of `run_attach`.
 
-use super::*;
-use client_caps::read_request;
-use std::io::{self, ErrorKind};
+use client_caps::{Caps, read_request};
+use commands::{Fault, run_attach};
+use std::alloc::Global;
+use std::io::{self, ErrorKind, Write};
 use std::test::Fail;
 
 const READY: &str =

@@ -1,6 +1,6 @@
 //! Reports of whole sessions, written in the words of two servers. The reports were read off the transcripts.
 
-use super::*;
+use commands::run_view;
 use std::test::Fail;
 
 /// As an ngIRCd server says it: names by `ascii`, one symbol in a name list, and no capabilities.

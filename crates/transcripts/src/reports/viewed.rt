@@ -1,9 +1,12 @@
 //! Tests of `run_view`.
 
-use super::*;
-use crate::input::PIECE;
-use std::io::{self, ErrorKind};
+use commands::{Fault, run_view};
+use std::alloc::Global;
+use std::io::{self, ErrorKind, Read, Write};
 use std::test::Fail;
+
+/// How many bytes one read asks for.
+const PIECE: usize = 65_536;
 
 const WELCOME: &str = ":s 001 Me :hi\r\n";
 
