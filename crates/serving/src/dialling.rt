@@ -187,6 +187,31 @@ fn cause_of(ended: ReadEnd) -> &'static str {
     }
 }
 
+/// Tells that a network did not take us in, and what it said at the end.
+fn tell_refusal<R: Clock + Eprint>(
+    rt: &R,
+    served: &Served<'_>,
+    fault: DialFault,
+    said: Option<Vec<u8>>,
+) {
+    let event = Event::NotRegistered {
+        fault,
+        said: said.as_deref(),
+        retry: served.limits.retry.as_secs(),
+    };
+    tell(rt, &served.who, &event);
+}
+
+/// Tells that a connection has ended, and what the network said then.
+fn tell_loss<R: Clock + Eprint>(rt: &R, served: &Served<'_>, parting: &Parting) {
+    let event = Event::Lost {
+        cause: cause_of(parting.ended),
+        said: parting.said.as_deref(),
+        retry: served.limits.retry.as_secs(),
+    };
+    tell(rt, &served.who, &event);
+}
+
 /// Dials once, and serves the connection to its end.
 fn dial<
     R: Threads + Wait + Clock + Eprint + Net<Listener = TcpListener, Stream = TcpStream> + Sync,
@@ -221,9 +246,7 @@ fn dial<
     tell(rt, &served.who, &Event::Connected { address, nick });
     rejoin(rt, alloc, served, &stream);
     let (link, parting) = run(rt, alloc, served, &stream, welcomed, link);
-    let cause = cause_of(parting.ended);
-    let said = parting.said.as_deref();
-    tell(rt, &served.who, &Event::Lost { cause, said, retry });
+    tell_loss(rt, served, &parting);
     link
 }
 
