@@ -45,12 +45,12 @@ pub record AsksLife (alone : Bool) (old new : HubState) : Type 0 where
   pub is : new ≡ with_upstream old given
 
 -- Asked; or not, since the network has not taken us in or its outlet is full; or not, for want of
--- memory.
+-- memory, which is needed only where we are in.
 abbrev pub KeepsAlive : {E : Type 0} → Bool → HubState → Result Bool E → HubState → Type 0
 KeepsAlive alone old (Ok true) new = AsksLife alone old new
 KeepsAlive alone old (Ok false) new =
     ((is_online (heard old) ≡ false) ⊎ (old.upstream.free ≡ 0)) × (new ≡ old)
-KeepsAlive alone old (Err e) new = Stays alone old new
+KeepsAlive alone old (Err e) new = (is_online (heard old) ≡ true) × Stays alone old new
 
 -- ---- who is nearly full
 

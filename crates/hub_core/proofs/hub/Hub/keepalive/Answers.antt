@@ -19,9 +19,11 @@ old g i =
 
 pub returns-in_default : goal.returns-in_default
 returns-in_default g c =
-    rw (← c.self.view_is)
-    (room_found g.O.Outlet.alone (old g c.self.inside) _ _ _ _ c.room.ensures.sent
-    c.room.ensures.closed c.room.ensures.capacity c.room.ensures.more c.room.ensures.alone)
+    rw (← c.self.view_is) (
+      sym c.self.invariant.online_is ∙ c.if-not-self.false,
+      room_found g.O.Outlet.alone (old g c.self.inside) _ _ _ _ c.room.ensures.sent
+          c.room.ensures.closed c.room.ensures.capacity c.room.ensures.more c.room.ensures.alone,
+    )
 
 sent : (g : Given.Over) (c : goal.In-Ok-offer g) → g.O.Outlet.sent c.offer.new.self
     ≡ (old g c.self.inside).upstream.sent ++ (life_asked ∷ []) ∷ []
