@@ -1,6 +1,6 @@
 //! Channels that we are on.
 
-ghost use Rattle.std.specs.Prelude.{◌≡◌, ◌≤◌, length, map, is_some, OnOk, OnErr, IfOk};
+ghost use Rattle.std.specs.Prelude.{◌≡◌, ◌≤◌, [], None, length, map, is_some, OnOk, OnErr, IfOk};
 ghost use Rattle.std.specs.Option.{option_map};
 ghost use Rattle.std.specs.List.{All, list_any};
 ghost use Rattle.std.specs.FinMap as fin;
@@ -41,7 +41,12 @@ pub struct Room<A: Allocator> {
 pub type Rooms<A> = Table<Room<A>, A>;
 
 /// A channel without a name, a mode or a member, which stands for one that is being changed.
-pub fn no_room<A: Allocator + Copy>(alloc: A) -> Room<A> {
+pub fn no_room<A: Allocator + Copy>(alloc: A) -> Room<A>
+    ensures name { result.name.items ≡ [] }
+    ensures topic { result.topic ≡ None }
+    ensures modes { result.modes ≡ fin.empty }
+    ensures members { result.members.all ≡ fin.empty }
+{
     Room {
         name: Vec::new(alloc),
         topic: None,
