@@ -1,6 +1,6 @@
 //! The two views beside one another, line by line.
 
-use crate::views::{check_rows, item, quick_of, show_the_same};
+use crate::views::{check_rows, item, quick_of, show_the_same, shown};
 use net_view::NetworkView;
 use quick_view::QuickView;
 use std::alloc::Global;
@@ -145,25 +145,24 @@ fn act<V: NetworkView>(alloc: Global, view: &mut V, deed: &Deed<'_>) -> Result<(
     Ok(())
 }
 
-/// The members from a place on are those of this letter and of the numbers that leave this rest,
-/// divided by three, in order. Answers the place behind them.
-fn check_crowd<R: AllocGlobal + Abort, V: NetworkView>(
-    rt: &R,
-    view: &V,
-    place: usize,
-    letter: &str,
-    third: usize,
-) -> Result<usize, Fail> {
-    let mut place = place;
+/// The nick of one of a crowd.
+fn nick_of(alloc: Global, letter: u8, number: usize) -> Result<Vec<u8>, Fail> {
+    let number = format!(in alloc; "{number}")?;
+    let mut nick = Vec::new(alloc);
+    nick.push(letter)?;
+    nick.extend_from_slice(number.as_str().as_bytes())?;
+    Ok(nick)
+}
+
+/// Adds those of a crowd whose numbers leave this rest, divided by three, in order.
+fn push_crowd(alloc: Global, text: &mut Vec<u8>, letter: u8, third: usize) -> Result<(), Fail> {
     for number in 100..400 {
         if number % 3 == third {
-            let nick = format!(in rt.alloc(); "{letter}{number}")?;
-            let member = view.member_at(0, place).ok_or("a member is there")?;
-            assert!(rt; member.nick == nick.as_str().as_bytes());
-            place = place.saturating_add(1);
+            text.push(b' ')?;
+            text.extend_from_slice(nick_of(alloc, letter, number)?.as_slice())?;
         }
     }
-    Ok(place)
+    Ok(())
 }
 
 /// Three hundred persons come, a third of them goes, and another third takes other nicks.
@@ -188,8 +187,9 @@ fn a_channel_of_three_hundred(rt: HostRuntime) -> Result<(), Fail> {
             },
         )?;
     }
-    assert!(rt; view.member_count(0) == 201);
-    let place = check_crowd(&rt, &view, 1, "n", 2)?;
-    assert!(rt; check_crowd(&rt, &view, place, "o", 1)? == 201);
+    let mut want = Vec::from_slice(alloc, b"Me / #c Me")?;
+    push_crowd(alloc, &mut want, b'n', 2)?;
+    push_crowd(alloc, &mut want, b'o', 1)?;
+    assert!(rt; shown(alloc, &view)? == want);
     Ok(())
 }
