@@ -60,6 +60,56 @@ fn settings(alloc: Global, address: SocketAddr) -> Result<Config, Fail> {
     Ok(Config::read(alloc, text.as_str().as_bytes())?)
 }
 
+/// What the bouncer's threads share, and those that serve the network at this address.
+fn serve_network<
+    R: Threads
+        + Wait
+        + Clock
+        + Eprint
+        + Net<Listener = TcpListener, Stream = TcpStream>
+        + Copy
+        + Send
+        + Sync
+        + Drop
+        + 'static,
+>(
+    rt: R,
+    alloc: Global,
+    limits: Limits,
+    address: SocketAddr,
+) -> Result<(Arc<Shared>, Vec<JoinHandle<()>>), Fail> {
+    let (shared, links) = Shared::new(alloc, settings(alloc, address)?, limits)?;
+    let shared = Arc::new(alloc, shared)?;
+    let threads = start_networks(rt, alloc, &shared, links)?;
+    Ok((shared, threads))
+}
+
+/// Starts the thread that lets clients in, and answers where they connect.
+fn serve_clients<
+    R: Threads
+        + Wait
+        + Clock
+        + Eprint
+        + Net<Listener = TcpListener, Stream = TcpStream>
+        + Copy
+        + Send
+        + Sync
+        + Drop
+        + 'static,
+>(
+    rt: R,
+    alloc: Global,
+    shared: &Arc<Shared>,
+    threads: &mut Vec<JoinHandle<()>>,
+) -> Result<SocketAddr, Fail> {
+    let clients = TcpListener::bind(&rt, "127.0.0.1:0")?;
+    let address = clients.local_addr()?;
+    let theirs = Arc::try_clone(shared)?;
+    let accepting = thread::spawn(&rt, move || accept(rt, alloc, &clients, &theirs))?;
+    threads.push(accepting)?;
+    Ok(address)
+}
+
 /// Starts the bouncer with these limits.
 pub fn start<
     R: Threads
@@ -74,15 +124,8 @@ pub fn start<
         + 'static,
 >(rt: R, alloc: Global, limits: Limits) -> Result<Bouncer, Fail> {
     let network = TcpListener::bind(&rt, "127.0.0.1:0")?;
-    let config = settings(alloc, network.local_addr()?)?;
-    let clients = TcpListener::bind(&rt, "127.0.0.1:0")?;
-    let address = clients.local_addr()?;
-    let (shared, links) = Shared::new(alloc, config, limits)?;
-    let shared = Arc::new(alloc, shared)?;
-    let mut threads = start_networks(rt, alloc, &shared, links)?;
-    let theirs = Arc::try_clone(&shared)?;
-    let accepting = thread::spawn(&rt, move || accept(rt, alloc, &clients, &theirs))?;
-    threads.push(accepting)?;
+    let (shared, mut threads) = serve_network(rt, alloc, limits, network.local_addr()?)?;
+    let address = serve_clients(rt, alloc, &shared, &mut threads)?;
     Ok(Bouncer {
         network,
         address,
@@ -104,18 +147,21 @@ impl Bouncer {
     /// welcome.
     pub fn registers(&self, alloc: Global) -> Result<Peer, Fail> {
         let mut network = Peer::accept(&self.network)?;
-        network.hears(alloc, "CAP LS 302\r\nNICK ann\r\nUSER ann 0 * :Ann A\r\n")?;
-        network.say(":s CAP * LS :multi-prefix sasl\r\n")?;
-        network.hears(alloc, "CAP REQ multi-prefix\r\n")?;
-        network.say(":s CAP * ACK :multi-prefix\r\n")?;
-        network.hears(alloc, "CAP END\r\n")?;
-        network.say(
-            ":s 001 ann :Welcome\r\n:s 005 ann PREFIX=(ov)@+ CHANTYPES=# :are supported\r\n",
-        )?;
-        network.say(":s 376 ann :End of MOTD\r\n")?;
-        network.hears(alloc, "JOIN #c\r\n")?;
+        register(alloc, &mut network)?;
         Ok(network)
     }
+}
+
+/// The network's part in a registration up to the welcome.
+fn register(alloc: Global, network: &mut Peer) -> Result<(), Fail> {
+    network.hears(alloc, "CAP LS 302\r\nNICK ann\r\nUSER ann 0 * :Ann A\r\n")?;
+    network.say(":s CAP * LS :multi-prefix sasl\r\n")?;
+    network.hears(alloc, "CAP REQ multi-prefix\r\n")?;
+    network.say(":s CAP * ACK :multi-prefix\r\n")?;
+    network.hears(alloc, "CAP END\r\n")?;
+    network.say(":s 001 ann :Welcome\r\n:s 005 ann PREFIX=(ov)@+ CHANTYPES=# :are supported\r\n")?;
+    network.say(":s 376 ann :End of MOTD\r\n")?;
+    network.hears(alloc, "JOIN #c\r\n")
 }
 
 /// Waits until the bouncer has taken all that the network said.

@@ -17,6 +17,29 @@ const GREETING: &str = ":bnc 001 ann :Welcome to the bouncer\r\n\
     :bnc 353 ann = #c :ann @bob\r\n\
     :bnc 366 ann #c :End of NAMES list\r\n";
 
+/// The login of one client of ann.
+const PHONE: &str = "PASS ann@phone/net:bc\r\nNICK x\r\nUSER x 0 * :x\r\n";
+
+/// The login of another.
+const DESK: &str = "PASS ann@desk/net:bc\r\nNICK x\r\nUSER x 0 * :x\r\n";
+
+/// What bob says while the phone is away.
+const MISSED: &str = ":bob!b@h PRIVMSG #c two\r\n:bob!b@h NOTICE #c three\r\n";
+
+/// What a client hears of a connection that is made anew.
+const ANEW: &str = ":s 001 ann Welcome\r\n\
+    :s 005 ann PREFIX=(ov)@+ CHANTYPES=# :are supported\r\n\
+    :s 376 ann :End of MOTD\r\n:ann!a@h JOIN #c\r\n:s 353 ann = #c :ann @bob\r\n\
+    :s 366 ann #c End\r\n";
+
+/// The network and two clients.
+#[derive(Drop)]
+pub struct Room {
+    pub network: Peer,
+    pub phone: Peer,
+    pub desk: Peer,
+}
+
 /// The bouncer is in a channel with bob from here on, and has taken it.
 fn enter(alloc: Global, network: &mut Peer) -> Result<(), Fail> {
     network.say(":ann!a@h JOIN #c\r\n:s 353 ann = #c :ann @bob\r\n:s 366 ann #c :End\r\n")?;
@@ -24,92 +47,140 @@ fn enter(alloc: Global, network: &mut Peer) -> Result<(), Fail> {
 }
 
 /// The network lets the bouncer in, to a channel with bob.
-pub fn let_in(alloc: Global, bouncer: &Bouncer) -> Result<Peer, Fail> {
+fn let_in(alloc: Global, bouncer: &Bouncer) -> Result<Peer, Fail> {
     let mut network = bouncer.registers(alloc)?;
     enter(alloc, &mut network)?;
     Ok(network)
 }
 
 /// A client logs in by one PASS, without capabilities.
-pub fn come<R: Net<Listener = TcpListener, Stream = TcpStream>>(
+fn come<R: Net<Listener = TcpListener, Stream = TcpStream>>(
     rt: &R,
     alloc: Global,
     bouncer: &Bouncer,
-    name: &str,
+    login: &str,
 ) -> Result<Peer, Fail> {
     let mut client = Peer::dial(rt, bouncer.address)?;
-    let pass = format!(in alloc; "PASS ann@{name}/net:bc\r\nNICK x\r\nUSER x 0 * :x\r\n")?;
-    client.say(pass.as_str())?;
-    client.hears(alloc, GREETING)?;
+    greeted(alloc, &mut client, login)?;
     Ok(client)
 }
 
+/// A client logs in and is greeted.
+fn greeted(alloc: Global, client: &mut Peer, login: &str) -> Result<(), Fail> {
+    client.say(login)?;
+    client.hears(alloc, GREETING)
+}
+
+/// The network lets the bouncer in, and two clients come.
+pub fn gather<R: Net<Listener = TcpListener, Stream = TcpStream>>(
+    rt: &R,
+    alloc: Global,
+    bouncer: &Bouncer,
+) -> Result<Room, Fail> {
+    let network = let_in(alloc, bouncer)?;
+    let phone = come(rt, alloc, bouncer, PHONE)?;
+    let desk = come(rt, alloc, bouncer, DESK)?;
+    Ok(Room {
+        network,
+        phone,
+        desk,
+    })
+}
+
 /// A client goes, and the bouncer has seen it.
-pub fn go(alloc: Global, client: Peer) -> Result<(), Fail> {
-    let mut client = client;
+pub fn leave(alloc: Global, client: &mut Peer) -> Result<(), Fail> {
     client.say("QUIT :bye\r\n")?;
     client.ends_with(alloc, "")
 }
 
 /// Two clients hear what the network says, and what one says goes to the network and the other.
+/// One goes, and the other hears more.
 fn talk(alloc: Global, network: &mut Peer, one: &mut Peer, two: &mut Peer) -> Result<(), Fail> {
     network.say(":bob!b@h PRIVMSG #c :one\r\n")?;
     one.hears(alloc, ":bob!b@h PRIVMSG #c one\r\n")?;
     two.hears(alloc, ":bob!b@h PRIVMSG #c one\r\n")?;
     one.say("PRIVMSG #c :hi all\r\n")?;
     network.hears(alloc, "PRIVMSG #c :hi all\r\n")?;
-    two.hears(alloc, ":ann PRIVMSG #c :hi all\r\n")
+    two.hears(alloc, ":ann PRIVMSG #c :hi all\r\n")?;
+    leave(alloc, one)?;
+    network.say(":bob!b@h PRIVMSG #c :two\r\n:bob!b@h NOTICE #c three\r\n")?;
+    two.hears(alloc, MISSED)
+}
+
+/// A client hears what it missed, and goes.
+fn catch_up(alloc: Global, client: &mut Peer) -> Result<(), Fail> {
+    client.hears(alloc, MISSED)?;
+    leave(alloc, client)
+}
+
+/// The phone goes, and comes back.
+fn go_and_come_back<R: Net<Listener = TcpListener, Stream = TcpStream>>(
+    rt: &R,
+    alloc: Global,
+    bouncer: &Bouncer,
+) -> Result<(), Fail> {
+    let mut room = gather(rt, alloc, bouncer)?;
+    talk(alloc, &mut room.network, &mut room.phone, &mut room.desk)?;
+    room.phone = come(rt, alloc, bouncer, PHONE)?;
+    catch_up(alloc, &mut room.phone)?;
+    leave(alloc, &mut room.desk)
 }
 
 #[test]
 fn a_client_that_comes_back_hears_what_it_missed(rt: HostRuntime) -> Result<(), Fail> {
     let alloc = rt.alloc();
     let bouncer = start(rt, alloc, limits(3, 1))?;
-    let mut network = let_in(alloc, &bouncer)?;
-    let mut phone = come(&rt, alloc, &bouncer, "phone")?;
-    let mut desk = come(&rt, alloc, &bouncer, "desk")?;
-    talk(alloc, &mut network, &mut phone, &mut desk)?;
-    go(alloc, phone)?;
-    network.say(":bob!b@h PRIVMSG #c :two\r\n:bob!b@h NOTICE #c three\r\n")?;
-    desk.hears(
-        alloc,
-        ":bob!b@h PRIVMSG #c two\r\n:bob!b@h NOTICE #c three\r\n",
-    )?;
-    let mut phone = come(&rt, alloc, &bouncer, "phone")?;
-    phone.hears(
-        alloc,
-        ":bob!b@h PRIVMSG #c two\r\n:bob!b@h NOTICE #c three\r\n",
-    )?;
-    go(alloc, phone)?;
-    go(alloc, desk)?;
-    drop(network);
+    go_and_come_back(&rt, alloc, &bouncer)?;
     bouncer.join(&rt);
     Ok(())
+}
+
+/// A client joins a channel with a key, and the connection is lost in the middle of a line.
+fn join_and_lose(alloc: Global, network: Peer, desk: &mut Peer) -> Result<(), Fail> {
+    let mut network = network;
+    join(alloc, &mut network, desk)
+}
+
+/// A client joins a channel with a key, and the network begins a line.
+fn join(alloc: Global, network: &mut Peer, desk: &mut Peer) -> Result<(), Fail> {
+    desk.say("JOIN #d key\r\n")?;
+    network.hears(alloc, "JOIN #d key\r\n")?;
+    network.say(":ann!a@h JOIN #d\r\n:s MODE #d +k key\r\n:bob!b@h PRIV")?;
+    desk.hears(alloc, ":ann!a@h JOIN #d\r\n:s MODE #d +k key\r\n")
+}
+
+/// The bouncer joins again the channel with a key, and the client hears of it all.
+fn join_again(alloc: Global, network: &mut Peer, desk: &mut Peer) -> Result<(), Fail> {
+    network.hears(alloc, "JOIN #d key\r\n")?;
+    enter(alloc, network)?;
+    desk.hears(alloc, ANEW)?;
+    leave(alloc, desk)
+}
+
+/// The client hears of the end, and the connection is made anew.
+fn made_anew(alloc: Global, bouncer: &Bouncer, desk: &mut Peer) -> Result<(), Fail> {
+    desk.hears(alloc, ":ann PART #c\r\n:ann PART #d\r\n")?;
+    let mut network = bouncer.registers(alloc)?;
+    join_again(alloc, &mut network, desk)
 }
 
 #[test]
 fn a_connection_lost_in_mid_line_is_made_anew(rt: HostRuntime) -> Result<(), Fail> {
     let alloc = rt.alloc();
     let bouncer = start(rt, alloc, limits(1, 2))?;
-    let mut network = let_in(alloc, &bouncer)?;
-    let mut desk = come(&rt, alloc, &bouncer, "desk")?;
-    desk.say("JOIN #d key\r\n")?;
-    network.hears(alloc, "JOIN #d key\r\n")?;
-    network.say(":ann!a@h JOIN #d\r\n:s MODE #d +k key\r\n:bob!b@h PRIV")?;
-    desk.hears(alloc, ":ann!a@h JOIN #d\r\n:s MODE #d +k key\r\n")?;
-    drop(network);
-    desk.hears(alloc, ":ann PART #c\r\n:ann PART #d\r\n")?;
-    let mut network = bouncer.registers(alloc)?;
-    network.hears(alloc, "JOIN #d key\r\n")?;
-    enter(alloc, &mut network)?;
-    desk.hears(
-        alloc,
-        ":s 001 ann Welcome\r\n:s 005 ann PREFIX=(ov)@+ CHANTYPES=# :are supported\r\n\
-        :s 376 ann :End of MOTD\r\n:ann!a@h JOIN #c\r\n:s 353 ann = #c :ann @bob\r\n\
-        :s 366 ann #c End\r\n",
-    )?;
-    go(alloc, desk)?;
-    drop(network);
+    lose_and_dial_again(&rt, alloc, &bouncer)?;
     bouncer.join(&rt);
     Ok(())
+}
+
+/// A connection is lost while a client is there, and is made anew.
+fn lose_and_dial_again<R: Net<Listener = TcpListener, Stream = TcpStream>>(
+    rt: &R,
+    alloc: Global,
+    bouncer: &Bouncer,
+) -> Result<(), Fail> {
+    let network = let_in(alloc, bouncer)?;
+    let mut desk = come(rt, alloc, bouncer, DESK)?;
+    join_and_lose(alloc, network, &mut desk)?;
+    made_anew(alloc, bouncer, &mut desk)
 }

@@ -1,15 +1,53 @@
 //! Connections that are turned away, and those that fall silent.
 
-use crate::bouncer::{limits, start};
+use crate::bouncer::{Bouncer, limits, start};
 use crate::peer::Peer;
-use keep::{keep_watch, watch_on};
+use keep::{Watch, keep_watch, watch_on};
 use serving::Limits;
-use std::net::{TcpListener, TcpStream};
+use std::alloc::Global;
+use std::net::{Net, SocketAddr, TcpListener, TcpStream};
+use std::rt::Clock;
 use std::test::Fail;
 use std::time::{Duration, Instant};
 
-/// A login with this password.
-const LOGIN: &str = "PASS ann@pc/net:bc\r\nNICK x\r\nUSER x 0 * :x\r\n";
+/// A client says this at once, and is turned away with an answer.
+fn turned_away<R: Net<Listener = TcpListener, Stream = TcpStream>>(
+    rt: &R,
+    alloc: Global,
+    address: SocketAddr,
+    says: &str,
+    answer: &str,
+) -> Result<(), Fail> {
+    let mut client = Peer::dial(rt, address)?;
+    client.say(says)?;
+    client.ends_with(alloc, answer)
+}
+
+/// Waits until the bouncer has a login.
+fn wait_for_a_login<R: Clock>(rt: &R, bouncer: &Bouncer) {
+    for _ in 0..10_000 {
+        if bouncer.shared.logins() == 1 {
+            break;
+        }
+        std::thread::sleep(rt, Duration::from_millis(1));
+    }
+}
+
+/// A client says nothing, and one that comes meanwhile is turned away. Answers how long it was
+/// until the first was left.
+fn silence<R: Clock + Net<Listener = TcpListener, Stream = TcpStream>>(
+    rt: &R,
+    alloc: Global,
+    bouncer: &Bouncer,
+) -> Result<Duration, Fail> {
+    let began = Instant::now(rt)?;
+    let mut silent = Peer::dial(rt, bouncer.address)?;
+    wait_for_a_login(rt, bouncer);
+    let full = "ERROR :too many connections\r\n";
+    turned_away(rt, alloc, bouncer.address, "", full)?;
+    silent.ends_with(alloc, "")?;
+    Ok(began.elapsed(rt)?)
+}
 
 #[test]
 fn a_login_has_its_time_and_its_place(rt: HostRuntime) -> Result<(), Fail> {
@@ -18,20 +56,28 @@ fn a_login_has_its_time_and_its_place(rt: HostRuntime) -> Result<(), Fail> {
     limits.logins = 1;
     limits.login = Duration::from_millis(500);
     let bouncer = start(rt, alloc, limits)?;
-    let began = Instant::now(&rt)?;
-    let mut silent = Peer::dial(&rt, bouncer.address)?;
-    for _ in 0..10_000 {
-        if bouncer.shared.logins() == 1 {
-            break;
-        }
-        std::thread::sleep(&rt, Duration::from_millis(1));
-    }
-    let mut late = Peer::dial(&rt, bouncer.address)?;
-    late.ends_with(alloc, "ERROR :too many connections\r\n")?;
-    silent.ends_with(alloc, "")?;
-    assert!(rt; began.elapsed(&rt)? >= Duration::from_millis(400));
+    let took = silence(&rt, alloc, &bouncer)?;
+    assert!(rt; took >= Duration::from_millis(400));
     bouncer.join(&rt);
     Ok(())
+}
+
+/// Three logins that fail. Answers how long the first took.
+fn wrong_logins<R: Clock + Net<Listener = TcpListener, Stream = TcpStream>>(
+    rt: &R,
+    alloc: Global,
+    address: SocketAddr,
+) -> Result<Duration, Fail> {
+    let wrong = ":bnc 464 * :Password incorrect\r\n";
+    let began = Instant::now(rt)?;
+    let says = "PASS ann@pc/net:bd\r\nNICK x\r\nUSER x 0 * :x\r\n";
+    turned_away(rt, alloc, address, says, wrong)?;
+    let took = began.elapsed(rt)?;
+    let says = "PASS ann@pc/other:bc\r\nNICK x\r\nUSER x 0 * :x\r\n";
+    turned_away(rt, alloc, address, says, wrong)?;
+    let says = "PASS ann@pc/net:bc\r\nNICK x\r\nUSER x 0 * :x\r\n";
+    turned_away(rt, alloc, address, says, "ERROR :not ready\r\n")?;
+    Ok(took)
 }
 
 #[test]
@@ -40,18 +86,17 @@ fn a_wrong_password_is_answered_late(rt: HostRuntime) -> Result<(), Fail> {
     let mut limits = limits(3, 0);
     limits.wrong_password = Duration::from_millis(300);
     let bouncer = start(rt, alloc, limits)?;
-    let began = Instant::now(&rt)?;
-    let mut client = Peer::dial(&rt, bouncer.address)?;
-    client.say("PASS ann@pc/net:bd\r\nNICK x\r\nUSER x 0 * :x\r\n")?;
-    client.ends_with(alloc, ":bnc 464 * :Password incorrect\r\n")?;
-    assert!(rt; began.elapsed(&rt)? >= Duration::from_millis(300));
-    let mut client = Peer::dial(&rt, bouncer.address)?;
-    client.say("PASS ann@pc/other:bc\r\nNICK x\r\nUSER x 0 * :x\r\n")?;
-    client.ends_with(alloc, ":bnc 464 * :Password incorrect\r\n")?;
-    let mut client = Peer::dial(&rt, bouncer.address)?;
-    client.say(LOGIN)?;
-    client.ends_with(alloc, "ERROR :not ready\r\n")?;
+    let took = wrong_logins(&rt, alloc, bouncer.address)?;
+    assert!(rt; took >= Duration::from_millis(300));
     bouncer.join(&rt);
+    Ok(())
+}
+
+/// The network falls silent once it is registered with, is asked, and is left for a new connection.
+fn left_and_dialled_again(alloc: Global, bouncer: &Bouncer) -> Result<(), Fail> {
+    let mut network = bouncer.registers(alloc)?;
+    network.ends_with(alloc, "PING bnc\r\n")?;
+    let _again = bouncer.registers(alloc)?;
     Ok(())
 }
 
@@ -61,21 +106,24 @@ fn a_silent_network_is_asked_and_then_left(rt: HostRuntime) -> Result<(), Fail> 
     let mut limits = limits(0, 2);
     limits.silence = Duration::from_millis(200);
     let bouncer = start(rt, alloc, limits)?;
-    let mut network = bouncer.registers(alloc)?;
-    network.ends_with(alloc, "PING bnc\r\n")?;
-    let network = bouncer.registers(alloc)?;
-    drop(network);
+    left_and_dialled_again(alloc, &bouncer)?;
     bouncer.join(&rt);
     Ok(())
+}
+
+/// How a connection is watched before it is told so, and then.
+fn watches(stream: &TcpStream, how: Watch) -> Result<(Option<Watch>, Option<Watch>), Fail> {
+    let before = watch_on(stream)?;
+    keep_watch(stream, how)?;
+    Ok((before, watch_on(stream)?))
 }
 
 #[test]
 fn the_system_watches_a_connection_as_it_was_told(rt: HostRuntime) -> Result<(), Fail> {
     let listener = TcpListener::bind(&rt, "127.0.0.1:0")?;
     let stream = TcpStream::connect(&rt, listener.local_addr()?)?;
-    assert_eq!(rt; watch_on(&stream)?, None);
     let how = Limits::of_program(30).watch;
-    keep_watch(&stream, how)?;
-    assert_eq!(rt; watch_on(&stream)?, Some(how));
+    let watches = watches(&stream, how)?;
+    assert_eq!(rt; watches, (None, Some(how)));
     Ok(())
 }

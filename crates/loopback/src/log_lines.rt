@@ -1,26 +1,32 @@
 //! What stands in the log.
 
+use crate::peer::same;
 use client_caps::Caps;
 use event_log::{Event, Shown, Who};
 use hub_core::AttachError;
 use serving::Recalling;
+use std::alloc::Global;
 use std::io::Read;
 use std::net::SocketAddr;
 use std::test::Fail;
 
+/// Fails where an event is not written like this.
+fn told(alloc: Global, event: &Event, want: &str) -> Result<(), Fail> {
+    let text = format!(in alloc; "{event}")?;
+    same(alloc, text.as_str().as_bytes(), want)
+}
+
 #[test]
 fn what_comes_from_outside_is_no_line_of_the_log(rt: HostRuntime) -> Result<(), Fail> {
+    let alloc = rt.alloc();
     let shown = Shown(b"a\r\nb c\x1b[0m\xff");
-    let text = format!(in rt.alloc(); "{shown}")?;
-    assert_eq!(rt; text.as_str(), "a??b?c?[0m?");
     let who = Who {
         user: b"ann",
         client: Some(b"pc"),
         network: b"net",
     };
-    let text = format!(in rt.alloc(); "{who}")?;
-    assert_eq!(rt; text.as_str(), "ann@pc/net");
-    Ok(())
+    let text = format!(in alloc; "{shown} {who}")?;
+    same(alloc, text.as_str().as_bytes(), "a??b?c?[0m? ann@pc/net")
 }
 
 #[test]
@@ -48,8 +54,7 @@ fn what_the_log_tells(rt: HostRuntime) -> Result<(), Fail> {
         ),
     ];
     for (event, want) in rows {
-        let text = format!(in rt.alloc(); "{event}")?;
-        assert_eq!(rt; text.as_str(), want);
+        told(rt.alloc(), &event, want)?;
     }
     Ok(())
 }
@@ -75,10 +80,21 @@ fn what_the_log_tells_of_an_end(rt: HostRuntime) -> Result<(), Fail> {
         ),
     ];
     for (event, want) in rows {
-        let text = format!(in rt.alloc(); "{event}")?;
-        assert_eq!(rt; text.as_str(), want);
+        told(rt.alloc(), &event, want)?;
     }
     Ok(())
+}
+
+/// What a reader of this text, ten bytes at a time, keeps as the network's last words.
+fn last_words(alloc: Global, text: &[u8]) -> Result<Option<Vec<u8>>, Fail> {
+    let mut reader = Recalling::new(alloc, text);
+    let mut buffer = [0u8; 10];
+    for _ in 0..text.len() {
+        if reader.read(&mut buffer)? == 0 {
+            break;
+        }
+    }
+    Ok(reader.parting(alloc))
 }
 
 #[test]
@@ -94,14 +110,7 @@ fn the_last_words_of_a_network(rt: HostRuntime) -> Result<(), Fail> {
         (b":b PRIVMSG a :ERROR x\r\n", None),
     ];
     for (text, want) in rows {
-        let mut reader = Recalling::new(alloc, text);
-        let mut buffer = [0u8; 10];
-        for _ in 0..text.len() {
-            if reader.read(&mut buffer)? == 0 {
-                break;
-            }
-        }
-        assert!(rt; reader.parting(alloc).as_deref() == want);
+        assert!(rt; last_words(alloc, text)?.as_deref() == want);
     }
     Ok(())
 }

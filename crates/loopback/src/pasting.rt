@@ -1,8 +1,9 @@
 //! A client that says much at once.
 
-use crate::bouncer::{limits, start};
-use crate::coming_back::{come, go, let_in};
+use crate::bouncer::{Bouncer, limits, start};
+use crate::coming_back::{Room, gather, leave};
 use std::alloc::Global;
+use std::net::{Net, TcpListener, TcpStream};
 use std::test::Fail;
 
 /// How many lines are said at once: more than may wait for the network or for a session.
@@ -18,21 +19,32 @@ fn lines(alloc: Global, source: &str) -> Result<String, Fail> {
     Ok(text)
 }
 
+/// One client says the lines, and the network and the other client hear them.
+fn paste(alloc: Global, room: &mut Room, said: &str, heard: &str) -> Result<(), Fail> {
+    room.phone.say(said)?;
+    room.network.hears(alloc, said)?;
+    room.desk.hears(alloc, heard)?;
+    leave(alloc, &mut room.phone)?;
+    leave(alloc, &mut room.desk)
+}
+
+/// Two clients come, and one says the lines.
+fn come_and_paste<R: Net<Listener = TcpListener, Stream = TcpStream>>(
+    rt: &R,
+    alloc: Global,
+    bouncer: &Bouncer,
+) -> Result<(), Fail> {
+    let said = lines(alloc, "")?;
+    let heard = lines(alloc, ":ann ")?;
+    let mut room = gather(rt, alloc, bouncer)?;
+    paste(alloc, &mut room, said.as_str(), heard.as_str())
+}
+
 #[test]
 fn what_is_pasted_goes_whole_to_the_network_and_to_the_others(rt: HostRuntime) -> Result<(), Fail> {
     let alloc = rt.alloc();
     let bouncer = start(rt, alloc, limits(2, 1))?;
-    let mut network = let_in(alloc, &bouncer)?;
-    let mut phone = come(&rt, alloc, &bouncer, "phone")?;
-    let mut desk = come(&rt, alloc, &bouncer, "desk")?;
-    let said = lines(alloc, "")?;
-    let heard = lines(alloc, ":ann ")?;
-    phone.say(said.as_str())?;
-    network.hears(alloc, said.as_str())?;
-    desk.hears(alloc, heard.as_str())?;
-    go(alloc, phone)?;
-    go(alloc, desk)?;
-    drop(network);
+    come_and_paste(&rt, alloc, &bouncer)?;
     bouncer.join(&rt);
     Ok(())
 }

@@ -4,16 +4,18 @@ use crate::peer::{Peer, same};
 use bnc_config::{Config, Place};
 use client_caps::Moment;
 use event_log::SystemClock;
-use hub_threads::{FreeGate, InletEnd, Network, PumpEnd, pump_loop};
+use hub_threads::{FreeGate, InletEnd, Network, OutletEnd, PumpEnd, pump_loop};
 use irc_line::Line;
 use net_view::Item;
 use quick_view::QuickView;
-use serving::network_with_link;
+use serving::{Link, network_with_link};
 use sessions::{Served, serve_session};
 use std::alloc::Global;
-use std::net::{TcpListener, TcpStream};
+use std::net::{Net, TcpListener, TcpStream};
+use std::rt::Clock;
 use std::sync::Wait;
 use std::test::Fail;
+use std::thread::Threads;
 
 /// A network's lines: a channel with a topic, modes and members.
 const LINES: [&str; 8] = [
@@ -58,7 +60,7 @@ fn put_lines(alloc: Global, end: &mut InletEnd) -> Result<(), Fail> {
 }
 
 /// Has the network take what was put.
-fn take_all<R: Wait + std::rt::Clock>(
+fn take_all<R: Wait + Clock>(
     rt: &R,
     alloc: Global,
     network: &Network<QuickView>,
@@ -70,7 +72,7 @@ fn take_all<R: Wait + std::rt::Clock>(
 }
 
 /// The two ends of a connection.
-fn connected<R: std::net::Net<Listener = TcpListener, Stream = TcpStream>>(
+fn connected<R: Net<Listener = TcpListener, Stream = TcpStream>>(
     rt: &R,
 ) -> Result<(Peer, TcpStream), Fail> {
     let listener = TcpListener::bind(rt, "127.0.0.1:0")?;
@@ -79,41 +81,84 @@ fn connected<R: std::net::Net<Listener = TcpListener, Stream = TcpStream>>(
     Ok((client, stream))
 }
 
+/// A network that has taken the lines, and the end of its link where its packets come from.
+fn network_of_lines<R: Wait + Clock>(
+    rt: &R,
+    alloc: Global,
+) -> Result<(Network<QuickView>, OutletEnd), Fail> {
+    let (network, mut link) = network_with_link(alloc, 500, 16)?;
+    put_lines(alloc, &mut link.inlet)?;
+    take_all(rt, alloc, &network)?;
+    let Link { outlet, .. } = link;
+    Ok((network, outlet))
+}
+
+/// The network as the one of ann's.
+fn of_ann(
+    alloc: Global,
+    config: &Config,
+    network: Network<QuickView>,
+) -> Result<Vec<(Place, Network<QuickView>)>, Fail> {
+    let place = config.find(b"ann", b"net").ok_or("the network is there")?;
+    let mut networks = Vec::new(alloc);
+    networks.push((place, network))?;
+    Ok(networks)
+}
+
+/// Serves a session, which ends once all of the burst is written.
+fn serve<R: Threads + Wait + Clock + Send + Copy + 'static>(
+    rt: R,
+    alloc: Global,
+    stream: TcpStream,
+    config: &Config,
+    networks: &[(Place, Network<QuickView>)],
+) -> Result<(), Fail> {
+    let out = stream.try_clone()?;
+    let clock = SystemClock::of(&rt);
+    let input = &mut &stream;
+    match serve_session(rt, alloc, input, out, config, networks, &FreeGate, &clock)? {
+        Served::Ended(ended) if ended.token && ended.written == Ok(BURST.len() as u64) => Ok(()),
+        _ => Err("the session has not ended with all written".into()),
+    }
+}
+
+/// A client logs in, says something and quits, and is sent the burst.
+fn say_and_quit<
+    R: Threads
+        + Wait
+        + Clock
+        + Net<Listener = TcpListener, Stream = TcpStream>
+        + Send
+        + Copy
+        + 'static,
+>(
+    rt: R,
+    alloc: Global,
+    config: &Config,
+    networks: &[(Place, Network<QuickView>)],
+) -> Result<(), Fail> {
+    let (mut client, stream) = connected(&rt)?;
+    client.say("PASS ann@pc/net:bc\r\nNICK x\r\nUSER x 0 * :A\r\nPRIVMSG #c :hi all\r\nQUIT\r\n")?;
+    serve(rt, alloc, stream, config, networks)?;
+    client.ends_with(alloc, BURST)
+}
+
+/// Fails where what went to the network is not what the client said.
+fn said(alloc: Global, outlet: &mut OutletEnd) -> Result<(), Fail> {
+    let packet = outlet.take().ok_or("nothing went to the network")?;
+    same(alloc, packet.bytes(), "PRIVMSG #c :hi all\r\n")?;
+    match outlet.take() {
+        None => Ok(()),
+        Some(_) => Err("more went to the network".into()),
+    }
+}
+
 #[test]
 fn a_client_is_served_from_its_login_to_quit(rt: HostRuntime) -> Result<(), Fail> {
     let alloc = rt.alloc();
-    let (network, mut link) = network_with_link(alloc, 500, 16)?;
-    put_lines(alloc, &mut link.inlet)?;
-    take_all(&rt, alloc, &network)?;
     let config = Config::read(alloc, SETTINGS.as_bytes())?;
-    let place = config.find(b"ann", b"net").ok_or("the network is there")?;
-    let mut networks: Vec<(Place, Network<QuickView>)> = Vec::new(alloc);
-    networks.push((place, network))?;
-    let (mut client, stream) = connected(&rt)?;
-    client.say("PASS ann@pc/net:bc\r\nNICK x\r\nUSER x 0 * :A\r\n")?;
-    client.say("PRIVMSG #c :hi all\r\nQUIT\r\n")?;
-    let out = stream.try_clone()?;
-    let clock = SystemClock::of(&rt);
-    let served = serve_session(
-        rt,
-        alloc,
-        &mut &stream,
-        out,
-        &config,
-        networks.as_slice(),
-        &FreeGate,
-        &clock,
-    )?;
-    let Served::Ended(ended) = served else {
-        return Err("the session has not ended".into());
-    };
-    assert!(rt; ended.token);
-    assert!(rt; ended.written == Ok(BURST.len() as u64));
-    drop(ended);
-    drop(stream);
-    client.ends_with(alloc, BURST)?;
-    let packet = link.outlet.take().ok_or("nothing went to the network")?;
-    same(alloc, packet.bytes(), "PRIVMSG #c :hi all\r\n")?;
-    assert!(rt; link.outlet.take().is_none());
-    Ok(())
+    let (network, mut outlet) = network_of_lines(&rt, alloc)?;
+    let networks = of_ann(alloc, &config, network)?;
+    say_and_quit(rt, alloc, &config, networks.as_slice())?;
+    said(alloc, &mut outlet)
 }
