@@ -81,16 +81,15 @@ fn connected<R: Net<Listener = TcpListener, Stream = TcpStream>>(
     Ok((client, stream))
 }
 
-/// A network that has taken the lines, and the end of its link where its packets come from.
+/// A network that has taken the lines, and its link.
 fn network_of_lines<R: Wait + Clock>(
     rt: &R,
     alloc: Global,
-) -> Result<(Network<QuickView>, OutletEnd), Fail> {
+) -> Result<(Network<QuickView>, Link), Fail> {
     let (network, mut link) = network_with_link(alloc, 500, 16)?;
     put_lines(alloc, &mut link.inlet)?;
     take_all(rt, alloc, &network)?;
-    let Link { outlet, .. } = link;
-    Ok((network, outlet))
+    Ok((network, link))
 }
 
 /// The network as the one of ann's.
@@ -138,7 +137,8 @@ fn say_and_quit<
     networks: &[(Place, Network<QuickView>)],
 ) -> Result<(), Fail> {
     let (mut client, stream) = connected(&rt)?;
-    client.say("PASS ann@pc/net:bc\r\nNICK x\r\nUSER x 0 * :A\r\nPRIVMSG #c :hi all\r\nQUIT\r\n")?;
+    client.say("PASS ann@pc/net:bc\r\nNICK x\r\nUSER x 0 * :A\r\n")?;
+    client.say("PRIVMSG #c :hi all\r\nQUIT\r\n")?;
     serve(rt, alloc, stream, config, networks)?;
     client.ends_with(alloc, BURST)
 }
@@ -157,8 +157,8 @@ fn said(alloc: Global, outlet: &mut OutletEnd) -> Result<(), Fail> {
 fn a_client_is_served_from_its_login_to_quit(rt: HostRuntime) -> Result<(), Fail> {
     let alloc = rt.alloc();
     let config = Config::read(alloc, SETTINGS.as_bytes())?;
-    let (network, mut outlet) = network_of_lines(&rt, alloc)?;
+    let (network, mut link) = network_of_lines(&rt, alloc)?;
     let networks = of_ann(alloc, &config, network)?;
     say_and_quit(rt, alloc, &config, networks.as_slice())?;
-    said(alloc, &mut outlet)
+    said(alloc, &mut link.outlet)
 }
