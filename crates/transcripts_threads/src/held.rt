@@ -4,18 +4,17 @@ ghost use Rattle.std.specs.Prelude.{◌<◌};
 
 use crate::gates::{Held, SharedDoor, shut_door};
 use crate::stage::{
-    BURST, JOINED, Stage, attach, joined, put, stage_after, take_all, waiting_text,
+    BURST, JOINED, Stage, attach, is_joined, is_sent, put_and_take, say, stage_after,
 };
 use crate::streams::Sink;
-use client_caps::Moment;
 use hub_core::Said;
 use hub_ends::SessionId;
 use hub_threads::{
     FreeGate, Network, OutletEnd, Stopper, Writer, Written, end_session, spawn_writer,
 };
-use irc_line::Line;
 use quick_view::QuickView;
 use std::alloc::Global;
+use std::process::Abort;
 use std::sync::{Arc, Wait};
 use std::test::Fail;
 use std::thread::Threads;
@@ -74,13 +73,22 @@ fn writers_do_not_wait_for_one_another(rt: HostRuntime) -> Result<(), Fail> {
     let stage = stage_after(&rt, rt.alloc(), 1, &JOINED)?;
     let door = shut_door(rt.alloc())?;
     let (id, writer) = held(rt, rt.alloc(), &stage.network, 8, &door)?;
-    let other = bytes_of_another(rt, rt.alloc(), &stage.network)?;
-    assert!(&rt; other.as_slice() == BURST);
+    another_is_written(rt, &stage.network)?;
     assert!(&rt; !door.was_forced());
     door.let_go();
     let bytes = bytes_at_end(&rt, &stage.network, id, writer)?;
     assert!(&rt; bytes.as_slice() == BURST);
     assert!(&rt; !door.was_forced());
+    Ok(())
+}
+
+/// A session comes and goes, and its burst is written.
+fn another_is_written<R: AllocGlobal + Threads + Wait + Abort + Send + Copy + 'static>(
+    rt: R,
+    network: &Network<QuickView>,
+) -> Result<(), Fail> {
+    let bytes = bytes_of_another(rt, rt.alloc(), network)?;
+    assert!(&rt; bytes.as_slice() == BURST);
     Ok(())
 }
 
@@ -98,8 +106,7 @@ fn cut_at_each<R: Wait>(
 ) -> Result<[usize; 3], Fail> {
     let mut cut = [0, 0, 0];
     for (count, message) in cut.iter_mut().zip(&MESSAGES) {
-        put(alloc, &mut stage.end, &[*message])?;
-        *count = take_all(rt, &stage.network)?.1;
+        *count = put_and_take(rt, alloc, stage, &[*message])?.1;
     }
     Ok(cut)
 }
@@ -111,9 +118,7 @@ fn is_gone<R: Wait>(
     network: &Network<QuickView>,
     id: SessionId,
 ) -> Result<bool, Fail> {
-    let line = Line::<Global>::read(alloc, b"PING x")?.ok_or("a line")?;
-    let said = network.lock(rt).said(id, &line, Moment(0))?;
-    Ok(said == Said::NoSession)
+    Ok(say(rt, alloc, network, id, b"PING x")? == Said::NoSession)
 }
 
 /// A session whose writer is held is cut at the message that finds no room; another one is not.
@@ -122,16 +127,25 @@ fn a_session_that_is_cut(rt: HostRuntime) -> Result<(), Fail> {
     let mut stage = stage_after(&rt, rt.alloc(), 1, &JOINED)?;
     let door = shut_door(rt.alloc())?;
     let (id, writer) = held(rt, rt.alloc(), &stage.network, 2, &door)?;
-    let (_, mut other) = attach(&rt, rt.alloc(), &stage.network, b"", 8)?;
-    assert!(&rt; cut_at_each(&rt, rt.alloc(), &mut stage)? == [0, 0, 1]);
-    assert!(&rt; is_gone(&rt, rt.alloc(), &stage.network, id)?);
-    let sent = waiting_text(rt.alloc(), &mut other)?;
-    assert!(&rt; sent == joined(rt.alloc(), &[BURST, THREE])?);
+    only_this_is_cut(&rt, &mut stage, id)?;
     door.let_go();
     let written = writer.join(&rt);
-    assert!(&rt; written.out.bytes == joined(rt.alloc(), &[BURST, TWO])?);
+    assert!(&rt; is_joined(rt.alloc(), &written.out.bytes, &[BURST, TWO])?);
     assert!(&rt; written.end.closed().is_none());
     assert!(&rt; !door.was_forced());
+    Ok(())
+}
+
+/// Of this session, which has room for two packets, and another one the third message cuts this.
+fn only_this_is_cut<R: AllocGlobal + Wait + Abort>(
+    rt: &R,
+    stage: &mut Stage<QuickView>,
+    id: SessionId,
+) -> Result<(), Fail> {
+    let (_, mut other) = attach(rt, rt.alloc(), &stage.network, b"", 8)?;
+    assert!(rt; cut_at_each(rt, rt.alloc(), stage)? == [0, 0, 1]);
+    assert!(rt; is_gone(rt, rt.alloc(), &stage.network, id)?);
+    assert!(rt; is_sent(rt.alloc(), &mut other, &[BURST, THREE])?);
     Ok(())
 }
 
@@ -151,7 +165,7 @@ fn started<R: Threads + Wait + Send + Copy + 'static>(
     Ok((stopper, writer))
 }
 
-/// A writer is told to stop, and another one goes on with its end: the bytes of both.
+/// A writer is told to stop, and another one goes on with its end: all that was written.
 fn bytes_of_two<R: Threads + Wait + Send + Copy + 'static>(
     rt: R,
     alloc: Global,
@@ -161,22 +175,16 @@ fn bytes_of_two<R: Threads + Wait + Send + Copy + 'static>(
     let (stopper, writer) = started(rt, alloc, end)?;
     stopper.stop();
     let Written { end, out, .. } = writer.join(&rt);
-    put(alloc, &mut stage.end, &MESSAGES)?;
-    take_all(&rt, &stage.network)?;
+    put_and_take(&rt, alloc, stage, &MESSAGES)?;
     end.go_on();
-    let (_, writer) = started(rt, alloc, end)?;
-    let mut bytes = out.bytes;
-    match end_session(&rt, &stage.network, id, writer) {
-        Ok(ended) => bytes.extend_from_slice(&ended.out.bytes)?,
-        Err(_) => return Err("no session")?,
-    }
-    Ok(bytes)
+    let writer = spawn_writer(rt, end, out, FreeGate, u64::MAX)?;
+    bytes_at_end(&rt, &stage.network, id, writer)
 }
 
 #[test]
 fn a_writer_that_is_told_to_stop(rt: HostRuntime) -> Result<(), Fail> {
     let mut stage = stage_after(&rt, rt.alloc(), 1, &JOINED)?;
     let bytes = bytes_of_two(rt, rt.alloc(), &mut stage)?;
-    assert!(&rt; bytes == joined(rt.alloc(), &[BURST, THREE])?);
+    assert!(&rt; is_joined(rt.alloc(), &bytes, &[BURST, THREE])?);
     Ok(())
 }

@@ -3,16 +3,17 @@
 use crate::gates::{Stepping, Steps, Still};
 use crate::refusing::Refusing;
 use crate::stage::{
-    BURST, JOINED, Stage, attach, empty_stage, joined, put, stage_after, waiting_text,
+    BURST, JOINED, Stage, attach, empty_stage, is_sent, put, say, stage_after, waiting_text,
 };
-use client_caps::Moment;
 use hub_core::Said;
 use hub_ends::SessionId;
-use hub_threads::{FreeGate, Network, Patience, PumpEnd, pump_loop, shared_bell};
-use irc_line::Line;
+use hub_threads::{
+    FreeGate, Network, OutletEnd, Patience, PumpEnd, SharedBell, pump_loop, shared_bell,
+};
 use net_view::NetworkView;
 use quick_view::QuickView;
 use std::alloc::Global;
+use std::process::Abort;
 use std::sync::Wait;
 use std::test::Fail;
 
@@ -30,32 +31,33 @@ fn pump<V: NetworkView + Drop, R: Wait>(
 #[test]
 fn items_go_to_the_sessions(rt: HostRuntime) -> Result<(), Fail> {
     let mut stage = stage_after(&rt, rt.alloc(), 1, &[])?;
-    put(rt.alloc(), &mut stage.end, &JOINED)?;
-    assert!(&rt; pump(&rt, rt.alloc(), &stage.network, 4) == PumpEnd::Turns);
+    put_and_pump(&rt, &mut stage, &JOINED, 4)?;
     let (_, mut end) = attach(&rt, rt.alloc(), &stage.network, b"", 8)?;
-    put(
-        rt.alloc(),
-        &mut stage.end,
-        &[b":bob!b@h PRIVMSG #c m1", b":s PING x"],
-    )?;
-    assert!(&rt; pump(&rt, rt.alloc(), &stage.network, 10) == PumpEnd::Turns);
-    let sent = waiting_text(rt.alloc(), &mut end)?;
-    assert!(&rt; sent == joined(rt.alloc(), &[BURST, b":bob!b@h PRIVMSG #c m1\r\n"])?);
-    let upward = waiting_text(rt.alloc(), &mut stage.upward)?;
-    assert!(&rt; upward.as_slice() == b"PONG x\r\n".as_slice());
+    two_items_go(&rt, &mut stage, &mut end)
+}
+
+/// Puts lines, and pumps so often; turns that are more than the lines find nothing.
+fn put_and_pump<V: NetworkView + Drop, R: AllocGlobal + Wait + Abort>(
+    rt: &R,
+    stage: &mut Stage<V>,
+    texts: &[&[u8]],
+    turns: u64,
+) -> Result<(), Fail> {
+    put(rt.alloc(), &mut stage.end, texts)?;
+    assert!(rt; pump(rt, rt.alloc(), &stage.network, turns) == PumpEnd::Turns);
     Ok(())
 }
 
-/// What a client says.
-fn say<R: Wait>(
+/// A message goes to the session, and a PING is answered.
+fn two_items_go<R: AllocGlobal + Wait + Abort>(
     rt: &R,
-    alloc: Global,
-    network: &Network<QuickView>,
-    id: SessionId,
-    text: &[u8],
-) -> Result<Said, Fail> {
-    let line = Line::<Global>::read(alloc, text)?.ok_or("the text is a line")?;
-    Ok(network.lock(rt).said(id, &line, Moment(0))?)
+    stage: &mut Stage<QuickView>,
+    end: &mut OutletEnd,
+) -> Result<(), Fail> {
+    put_and_pump(rt, stage, &[b":bob!b@h PRIVMSG #c m1", b":s PING x"], 10)?;
+    assert!(rt; is_sent(rt.alloc(), end, &[BURST, b":bob!b@h PRIVMSG #c m1\r\n"])?);
+    assert!(rt; is_sent(rt.alloc(), &mut stage.upward, &[b"PONG x\r\n"])?);
+    Ok(())
 }
 
 /// A message goes to the network and to the other session.
@@ -64,13 +66,22 @@ fn a_message_said(rt: HostRuntime) -> Result<(), Fail> {
     let mut stage = stage_after(&rt, rt.alloc(), 1, &JOINED)?;
     let (id, mut first) = attach(&rt, rt.alloc(), &stage.network, b"", 8)?;
     let (_, mut second) = attach(&rt, rt.alloc(), &stage.network, b"", 8)?;
-    let said = say(&rt, rt.alloc(), &stage.network, id, b"PRIVMSG #c :hi all")?;
-    assert!(&rt; said == Said::Forwarded);
-    assert!(&rt; waiting_text(rt.alloc(), &mut first)?.as_slice() == BURST);
-    let sent = waiting_text(rt.alloc(), &mut second)?;
-    assert!(&rt; sent == joined(rt.alloc(), &[BURST, b":Me PRIVMSG #c :hi all\r\n"])?);
-    let upward = waiting_text(rt.alloc(), &mut stage.upward)?;
-    assert!(&rt; upward.as_slice() == b"PRIVMSG #c :hi all\r\n".as_slice());
+    a_message_goes(&rt, &mut stage, id, &mut first, &mut second)
+}
+
+/// What the first session says goes to the second one and to the network.
+fn a_message_goes<R: AllocGlobal + Wait + Abort>(
+    rt: &R,
+    stage: &mut Stage<QuickView>,
+    id: SessionId,
+    first: &mut OutletEnd,
+    second: &mut OutletEnd,
+) -> Result<(), Fail> {
+    let said = say(rt, rt.alloc(), &stage.network, id, b"PRIVMSG #c :hi all")?;
+    assert!(rt; said == Said::Forwarded);
+    assert!(rt; is_sent(rt.alloc(), first, &[BURST])?);
+    assert!(rt; is_sent(rt.alloc(), second, &[BURST, b":Me PRIVMSG #c :hi all\r\n"])?);
+    assert!(rt; is_sent(rt.alloc(), &mut stage.upward, &[b"PRIVMSG #c :hi all\r\n"])?);
     Ok(())
 }
 
@@ -95,18 +106,27 @@ fn a_session_that_stands_still(rt: HostRuntime) -> Result<(), Fail> {
     let mut stage = stage_after(&rt, rt.alloc(), 1, &JOINED)?;
     let (still, _end) = attach(&rt, rt.alloc(), &stage.network, b"", 12)?;
     let (_, mut other) = attach(&rt, rt.alloc(), &stage.network, b"", 64)?;
-    // behind these it has room for two packets of twelve
-    put_messages(rt.alloc(), &mut stage, 9)?;
-    let clock = Stepping::new();
-    let ended = pump_loop(&rt, rt.alloc(), &stage.network, &FreeGate, &clock, 9);
-    assert!(&rt; ended == PumpEnd::Turns && clock.looks() == 0);
-    put_messages(rt.alloc(), &mut stage, 3)?;
-    let ended = pump_loop(&rt, rt.alloc(), &stage.network, &FreeGate, &clock, 3);
-    assert!(&rt; ended == PumpEnd::Turns && clock.looks() == 51);
+    time_is_given_once(&rt, &mut stage)?;
     let said = say(&rt, rt.alloc(), &stage.network, still, b"PING x")?;
     assert!(&rt; said == Said::NoSession);
-    let sent = waiting_text(rt.alloc(), &mut other)?;
-    assert!(&rt; sent.len() == BURST.len() + 12 * (MESSAGE.len() + 2));
+    let length = waiting_text(rt.alloc(), &mut other)?.len();
+    assert!(&rt; length == BURST.len() + 12 * (MESSAGE.len() + 2));
+    Ok(())
+}
+
+/// Puts and pumps twelve messages while a session with room for twelve packets stands still.
+fn time_is_given_once<R: AllocGlobal + Wait + Abort>(
+    rt: &R,
+    stage: &mut Stage<QuickView>,
+) -> Result<(), Fail> {
+    // behind these it has room for two packets of twelve
+    put_messages(rt.alloc(), stage, 9)?;
+    let clock = Stepping::new();
+    let ended = pump_loop(rt, rt.alloc(), &stage.network, &FreeGate, &clock, 9);
+    assert!(rt; ended == PumpEnd::Turns && clock.looks() == 0);
+    put_messages(rt.alloc(), stage, 3)?;
+    let ended = pump_loop(rt, rt.alloc(), &stage.network, &FreeGate, &clock, 3);
+    assert!(rt; ended == PumpEnd::Turns && clock.looks() == 51);
     Ok(())
 }
 
@@ -115,20 +135,28 @@ fn a_session_that_stands_still(rt: HostRuntime) -> Result<(), Fail> {
 fn a_session_that_reads_again(rt: HostRuntime) -> Result<(), Fail> {
     let mut stage = stage_after(&rt, rt.alloc(), 1, &JOINED)?;
     let (_, mut end) = attach(&rt, rt.alloc(), &stage.network, b"", 4)?;
-    put_messages(rt.alloc(), &mut stage, 3)?;
-    assert!(&rt; pump(&rt, rt.alloc(), &stage.network, 3) == PumpEnd::Turns);
     let bell = shared_bell(rt.alloc())?;
+    time_is_given_again(&rt, &mut stage, &mut end, &bell)
+}
+
+/// A session with room for four packets is given time, takes a packet, and is given time again.
+fn time_is_given_again<R: AllocGlobal + Wait + Abort>(
+    rt: &R,
+    stage: &mut Stage<QuickView>,
+    end: &mut OutletEnd,
+    bell: &SharedBell,
+) -> Result<(), Fail> {
     let clock = Stepping::new();
     let mut patience = Patience::new(rt.alloc());
-    patience.give_time(&rt, &stage.network, &bell, &clock);
-    assert!(&rt; clock.looks() == 51);
-    patience.give_time(&rt, &stage.network, &bell, &clock);
-    assert!(&rt; clock.looks() == 51);
-    assert!(&rt; end.take().is_some());
-    put_messages(rt.alloc(), &mut stage, 1)?;
-    assert!(&rt; pump(&rt, rt.alloc(), &stage.network, 1) == PumpEnd::Turns);
-    patience.give_time(&rt, &stage.network, &bell, &clock);
-    assert!(&rt; clock.looks() == 102);
+    put_and_pump(rt, stage, &[MESSAGE; 3], 3)?;
+    patience.give_time(rt, &stage.network, bell, &clock);
+    assert!(rt; clock.looks() == 51);
+    patience.give_time(rt, &stage.network, bell, &clock);
+    assert!(rt; clock.looks() == 51);
+    assert!(rt; end.take().is_some());
+    put_and_pump(rt, stage, &[MESSAGE], 1)?;
+    patience.give_time(rt, &stage.network, bell, &clock);
+    assert!(rt; clock.looks() == 102);
     Ok(())
 }
 
@@ -155,12 +183,20 @@ const TOPIC: &[u8] = b":s TOPIC #c x";
 fn a_line_that_is_refused_three_times(rt: HostRuntime) -> Result<(), Fail> {
     let mut stage = refusing(&rt, rt.alloc(), 3)?;
     let (_, mut end) = attach(&rt, rt.alloc(), &stage.network, b"", 8)?;
-    put(rt.alloc(), &mut stage.end, &[TOPIC])?;
-    assert!(&rt; pump(&rt, rt.alloc(), &stage.network, 3) == PumpEnd::Turns);
-    assert!(&rt; waiting_text(rt.alloc(), &mut end)?.as_slice() == BURST);
-    assert!(&rt; pump(&rt, rt.alloc(), &stage.network, 3) == PumpEnd::Turns);
-    let sent = waiting_text(rt.alloc(), &mut end)?;
-    assert!(&rt; sent.as_slice() == b":s TOPIC #c x\r\n".as_slice());
+    put_and_pump(&rt, &mut stage, &[TOPIC], 3)?;
+    the_topic_is_sent_late(&rt, &stage.network, &mut end, 3)
+}
+
+/// A session was not sent the topic that is held, and is sent it after so many turns.
+fn the_topic_is_sent_late<R: AllocGlobal + Wait + Abort>(
+    rt: &R,
+    network: &Network<Refusing<QuickView>>,
+    end: &mut OutletEnd,
+    turns: u64,
+) -> Result<(), Fail> {
+    assert!(rt; is_sent(rt.alloc(), end, &[BURST])?);
+    assert!(rt; pump(rt, rt.alloc(), network, turns) == PumpEnd::Turns);
+    assert!(rt; is_sent(rt.alloc(), end, &[b":s TOPIC #c x\r\n"])?);
     Ok(())
 }
 
@@ -173,11 +209,7 @@ fn a_line_that_is_refused_on_and_on(rt: HostRuntime) -> Result<(), Fail> {
     let gate = Steps::new();
     let ended = pump_loop(&rt, rt.alloc(), &stage.network, &gate, &Still, 5_000);
     assert!(&rt; ended == PumpEnd::Memory && gate.count() == 1_000);
-    assert!(&rt; waiting_text(rt.alloc(), &mut end)?.as_slice() == BURST);
-    assert!(&rt; pump(&rt, rt.alloc(), &stage.network, 2) == PumpEnd::Turns);
-    let sent = waiting_text(rt.alloc(), &mut end)?;
-    assert!(&rt; sent.as_slice() == b":s TOPIC #c x\r\n".as_slice());
-    Ok(())
+    the_topic_is_sent_late(&rt, &stage.network, &mut end, 2)
 }
 
 /// The pump ends at the first message for which there is no number.

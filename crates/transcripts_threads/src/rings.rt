@@ -2,14 +2,16 @@
 
 use crate::gates::Still;
 use crate::stage::{
-    BURST, JOINED, Stage, attach, joined, put, quick_stage, stage_after, take_all, waiting_text,
+    BURST, JOINED, Stage, attach, is_sent, joined, put, put_and_take, quick_stage, stage_after,
+    take_all,
 };
 use crate::streams::Pieces;
-use hub_threads::{FreeGate, InletEnd, Network, PumpEnd, Reading, pump_loop, read_in};
+use hub_threads::{FreeGate, InletEnd, Network, OutletEnd, PumpEnd, Reading, pump_loop, read_in};
 use irc_line::Splitter;
 use net_view::NetworkView;
 use quick_view::QuickView;
 use std::alloc::Global;
+use std::process::Abort;
 use std::sync::{Arc, Wait};
 use std::test::Fail;
 use std::thread;
@@ -22,23 +24,41 @@ fn packets_that_wait(rt: HostRuntime) -> Result<(), Fail> {
     let mut stage = stage_after(&rt, rt.alloc(), 1, &JOINED)?;
     let (_, mut reads) = attach(&rt, rt.alloc(), &stage.network, b"", 1)?;
     let (_, mut stands) = attach(&rt, rt.alloc(), &stage.network, b"", 1)?;
-    assert!(&rt; waiting_text(rt.alloc(), &mut reads)?.as_slice() == BURST);
-    put(rt.alloc(), &mut stage.end, &[b":bob!b@h PRIVMSG #c m1"])?;
-    assert!(&rt; take_all(&rt, &stage.network)? == (1, 1));
-    let sent = waiting_text(rt.alloc(), &mut reads)?;
-    assert!(&rt; sent.as_slice() == b":bob!b@h PRIVMSG #c m1\r\n".as_slice());
-    assert!(&rt; waiting_text(rt.alloc(), &mut stands)?.as_slice() == BURST);
+    one_is_cut(&rt, &mut stage, &mut reads, &mut stands)
+}
+
+/// Of two sessions with room for one packet the one that takes its burst is not cut.
+fn one_is_cut<R: AllocGlobal + Wait + Abort>(
+    rt: &R,
+    stage: &mut Stage<QuickView>,
+    reads: &mut OutletEnd,
+    stands: &mut OutletEnd,
+) -> Result<(), Fail> {
+    assert!(rt; is_sent(rt.alloc(), reads, &[BURST])?);
+    let taken = put_and_take(rt, rt.alloc(), stage, &[b":bob!b@h PRIVMSG #c m1"])?;
+    assert!(rt; taken == (1, 1));
+    assert!(rt; is_sent(rt.alloc(), reads, &[b":bob!b@h PRIVMSG #c m1\r\n"])?);
+    assert!(rt; is_sent(rt.alloc(), stands, &[BURST])?);
     Ok(())
 }
 
 /// A network with room for one item at a time, which took a welcome and a JOIN of ours.
 fn narrow_stage<R: Wait>(rt: &R, alloc: Global) -> Result<Stage<QuickView>, Fail> {
     let mut stage = quick_stage(alloc, 1, 1)?;
-    for text in &JOINED {
-        put(alloc, &mut stage.end, &[*text])?;
-        take_all(rt, &stage.network)?;
-    }
+    take_one_by_one(rt, alloc, &mut stage)?;
     Ok(stage)
+}
+
+/// Has a hub take a welcome and a JOIN of ours, one line at a time.
+fn take_one_by_one<R: Wait>(
+    rt: &R,
+    alloc: Global,
+    stage: &mut Stage<QuickView>,
+) -> Result<(), Fail> {
+    for text in &JOINED {
+        put_and_take(rt, alloc, stage, &[*text])?;
+    }
+    Ok(())
 }
 
 /// A thread that reads this text into a network.
@@ -79,15 +99,25 @@ const MESSAGE: &[u8] = b":bob!b@h PRIVMSG #c m\r\n";
 /// A thread that reads waits for room with each of its lines, and none is lost.
 #[test]
 fn a_thread_that_reads(rt: HostRuntime) -> Result<(), Fail> {
-    let stage = narrow_stage(&rt, rt.alloc())?;
-    let Stage { network, end, .. } = stage;
-    let (_, mut out) = attach(&rt, rt.alloc(), &network, b"", 64)?;
     let text = joined(rt.alloc(), &[MESSAGE; 20])?;
-    let reading = reader(rt, rt.alloc(), end, &text)?;
-    take_so_many(&rt, &network, 21)?;
+    let Stage { network, end, .. } = narrow_stage(&rt, rt.alloc())?;
+    let (_, mut out) = attach(&rt, rt.alloc(), &network, b"", 64)?;
+    read_and_taken(rt, rt.alloc(), end, &text, &network)?;
+    assert!(&rt; is_sent(rt.alloc(), &mut out, &[BURST, &text, b":Me PART #c\r\n"])?);
+    Ok(())
+}
+
+/// A thread reads this text of 20 lines into a network, which takes them and the end.
+fn read_and_taken<R: Threads + Wait + Clock + Send + Copy + 'static>(
+    rt: R,
+    alloc: Global,
+    end: InletEnd,
+    text: &[u8],
+    network: &Network<QuickView>,
+) -> Result<(), Fail> {
+    let reading = reader(rt, alloc, end, text)?;
+    take_so_many(&rt, network, 21)?;
     reading.join(&rt);
-    let sent = waiting_text(rt.alloc(), &mut out)?;
-    assert!(&rt; sent == joined(rt.alloc(), &[BURST, &text, b":Me PART #c\r\n"])?);
     Ok(())
 }
 
@@ -126,16 +156,26 @@ fn a_thread_that_pumps(rt: HostRuntime) -> Result<(), Fail> {
     } = stage;
     let network = Arc::new(rt.alloc(), network)?;
     let pump = pump(rt, rt.alloc(), &network)?;
-    put(rt.alloc(), &mut end, &JOINED)?;
-    wait_for_a_channel(&rt, &network)?;
-    let (_, mut out) = attach(&rt, rt.alloc(), &network, b"", 8)?;
+    let mut out = attached_while_pumped(&rt, rt.alloc(), &network, &mut end)?;
+    assert!(&rt; pump.join(&rt) == PumpEnd::Spent);
+    assert!(&rt; is_sent(rt.alloc(), &mut out, &[BURST, MESSAGE])?);
+    Ok(())
+}
+
+/// A client attaches once we are in a channel, and two messages are put behind that.
+fn attached_while_pumped<R: Wait + Clock>(
+    rt: &R,
+    alloc: Global,
+    network: &Network<QuickView>,
+    end: &mut InletEnd,
+) -> Result<OutletEnd, Fail> {
+    put(alloc, end, &JOINED)?;
+    wait_for_a_channel(rt, network)?;
+    let (_, out) = attach(rt, alloc, network, b"", 8)?;
     put(
-        rt.alloc(),
-        &mut end,
+        alloc,
+        end,
         &[b":bob!b@h PRIVMSG #c m", b":eve!b@h PRIVMSG #c m"],
     )?;
-    assert!(&rt; pump.join(&rt) == PumpEnd::Spent);
-    let sent = waiting_text(rt.alloc(), &mut out)?;
-    assert!(&rt; sent == joined(rt.alloc(), &[BURST, MESSAGE])?);
-    Ok(())
+    Ok(out)
 }

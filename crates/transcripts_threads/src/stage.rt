@@ -5,7 +5,7 @@ ghost use Rattle.std.specs.Prelude.{◌≡◌, ◌<◌};
 ghost use Rattle.net_view.specs.View.{empty_view};
 
 use client_caps::{Caps, Moment, read_request};
-use hub_core::{Hub, Pumped, Setup};
+use hub_core::{Hub, Pumped, Said, Setup};
 use hub_ends::SessionId;
 use hub_threads::{InletEnd, Network, OutletEnd, inlet, outlet, shared_bell};
 use irc_line::Line;
@@ -83,13 +83,34 @@ pub(crate) fn quick_stage(
 /// Puts lines.
 pub(crate) fn put(alloc: Global, end: &mut InletEnd, texts: &[&[u8]]) -> Result<(), Fail> {
     for text in texts {
-        let line = Line::<Global>::read(alloc, text)?.ok_or("the text is a line")?;
-        match end.put(Item::Line(line), Moment(0)) {
-            Ok(()) => {}
-            Err(_) => return Err("no room")?,
+        if !has_room(end, line(alloc, text)?) {
+            return Err("no room")?;
         }
     }
     Ok(())
+}
+
+/// Puts a line, if there is room for it; whether there was.
+fn has_room(end: &mut InletEnd, line: Line<Global>) -> bool {
+    end.put(Item::Line(line), Moment(0)).is_ok()
+}
+
+/// The line of this text.
+fn line(alloc: Global, text: &[u8]) -> Result<Line<Global>, Fail> {
+    Ok(Line::<Global>::read(alloc, text)?.ok_or("the text is a line")?)
+}
+
+/// What a client says.
+pub(crate) fn say<R: Wait>(
+    rt: &R,
+    alloc: Global,
+    network: &Network<QuickView>,
+    id: SessionId,
+    text: &[u8],
+) -> Result<Said, Fail> {
+    let line = line(alloc, text)?;
+    let said = network.lock(rt).said(id, &line, Moment(0));
+    Ok(said?)
 }
 
 /// Has the hub take all items that wait; answers how many it took, and how many sessions were cut.
@@ -119,9 +140,19 @@ pub(crate) fn stage_after<R: Wait>(
     texts: &[&[u8]],
 ) -> Result<Stage<QuickView>, Fail> {
     let mut stage = quick_stage(alloc, first_number, 64)?;
-    put(alloc, &mut stage.end, texts)?;
-    take_all(rt, &stage.network)?;
+    put_and_take(rt, alloc, &mut stage, texts)?;
     Ok(stage)
+}
+
+/// Puts lines, and has the hub take them.
+pub(crate) fn put_and_take<R: Wait>(
+    rt: &R,
+    alloc: Global,
+    stage: &mut Stage<QuickView>,
+    texts: &[&[u8]],
+) -> Result<(u64, usize), Fail> {
+    put(alloc, &mut stage.end, texts)?;
+    take_all(rt, &stage.network)
 }
 
 /// A client with these capabilities attaches, with room for so many packets.
@@ -152,6 +183,17 @@ pub(crate) fn waiting_text(alloc: Global, end: &mut OutletEnd) -> Result<Vec<u8>
         text.extend_from_slice(packet.bytes())?;
     }
     Ok(text)
+}
+
+/// Whether the bytes that wait are these texts, one behind the other.
+pub(crate) fn is_sent(alloc: Global, end: &mut OutletEnd, texts: &[&[u8]]) -> Result<bool, Fail> {
+    let sent = waiting_text(alloc, end)?;
+    is_joined(alloc, &sent, texts)
+}
+
+/// Whether a text is these, one behind the other.
+pub(crate) fn is_joined(alloc: Global, text: &[u8], parts: &[&[u8]]) -> Result<bool, Fail> {
+    Ok(joined(alloc, parts)?.as_slice() == text)
 }
 
 /// These texts, one behind the other.
