@@ -187,21 +187,6 @@ fn cause_of(ended: ReadEnd) -> &'static str {
     }
 }
 
-/// Tells that a network did not take us in, and what it said at the end.
-fn tell_refusal<R: Clock + Eprint>(
-    rt: &R,
-    served: &Served<'_>,
-    fault: DialFault,
-    said: Option<Vec<u8>>,
-) {
-    let event = Event::NotRegistered {
-        fault,
-        said: said.as_deref(),
-        retry: served.limits.retry.as_secs(),
-    };
-    tell(rt, &served.who, &event);
-}
-
 /// Tells that a connection has ended, and what the network said then.
 fn tell_loss<R: Clock + Eprint>(rt: &R, served: &Served<'_>, parting: &Parting) {
     let event = Event::Lost {
