@@ -2,11 +2,16 @@
 use Rattle.std.specs.Prelude.{◌≡◌, ℕ, IsTrue, List, [], ◌∷◌, ◌++◌, Option, map}
 use Rattle.std.specs.List.{concat}
 use Rattle.std.specs.Io.KnownBytes.{Consumes, IsAtEnd}
+use Rattle.irc_line.specs.Line.{Parts}
 use Rattle.irc_line.specs.Lines.{Pending, fed_all, lines_all, is_too_long}
 use Rattle.net_view.specs.Arrival.{Lost, Received}
 use Rattle.hub_ends.specs.Came.{Came, arrivals}
 use Rattle.hub_threads.specs.declared.reading.ReadEnd.{ReadEnd}
 use Rattle.hub_threads.specs.declared.reading.ReadEnd.TheVariants as cause
+
+-- lines as they come at a moment, in milliseconds since 1970-01-01T00:00:00Z
+abbrev pub received_at : ℕ → List Parts → List Came
+received_at moment lines = map (λ (line : Parts). (Received line, moment)) lines
 
 -- Why it ended: what the splitter held then, the piece that was refused, if any, and what is left
 -- to read.

@@ -4,7 +4,7 @@ ghost use Rattle.std.specs.Prelude.{◌≡◌, ◌↔◌, ◌++◌, ◌∷◌, [
 ghost use Rattle.irc_line.specs.Lines.{fed, is_too_long, lines_of};
 ghost use Rattle.net_view.specs.Arrival.{Lost, Received};
 ghost use Rattle.hub_ends.specs.Came.{arrivals, came};
-ghost use Rattle.hub_threads.specs.Reads.{IsReadIn};
+ghost use Rattle.hub_threads.specs.Reads.{IsReadIn, received_at};
 ghost use Rattle.hub_threads.specs.Rings.{put_of};
 
 use crate::gate::{Clock, Gate, Point};
@@ -63,10 +63,12 @@ fn put_waiting<R: Wait>(rt: &R, end: &mut InletEnd, item: Item, moment: Moment)
     unreachable!()
 }
 
-/// Puts lines, in order, and wakes the pump. Where the ring is full it sleeps until there is room.
+/// Puts lines, in order, each with this moment, and wakes the pump. Where the ring is full it sleeps
+/// until there is room.
 pub fn put_lines<R: Wait>(rt: &R, end: &mut InletEnd, lines: Vec<Line>, moment: Moment)
-    ensures { arrivals (put_of end.new)
+    ensures lines { arrivals (put_of end.new)
         ≡ arrivals (put_of end.old) ++ map Received lines.items }
+    ensures at { put_of end.new ≡ put_of end.old ++ received_at moment.0 lines.items }
 {
     for line in lines {
         put_waiting(rt, end, Item::Line(line), moment);
