@@ -73,46 +73,43 @@ fn check_told<R: AllocGlobal + Abort>(
     check_after(rt, texts, &arrivals)
 }
 
+const A_CHANNEL_WITH_ALL_THAT_IS_KNOWN: [(&[u8], &[u8]); 2] = [
+    (
+        b"",
+        b":bnc 001 Me :Welcome to the bouncer\r\n\
+        :bnc 002 Me :Your host is bnc, running version 1\r\n\
+        :bnc 003 Me :This server was created for you\r\n\
+        :bnc 004 Me bnc 1 i biklmnopstv\r\n\
+        :bnc 005 Me PREFIX=(ov)@+ CHANTYPES=# :are supported by this server\r\n\
+        :bnc 422 Me :MOTD File is missing\r\n\
+        :Me JOIN #c\r\n\
+        :bnc 332 Me #c :Hello all\r\n\
+        :bnc 324 Me #c +kl key 9\r\n\
+        :bnc 353 Me = #c :@bob +eve Me\r\n\
+        :bnc 366 Me #c :End of NAMES list\r\n",
+    ),
+    (
+        b"multi-prefix extended-join account-notify away-notify server-time batch",
+        b":bnc 001 Me :Welcome to the bouncer\r\n\
+        :bnc 002 Me :Your host is bnc, running version 1\r\n\
+        :bnc 003 Me :This server was created for you\r\n\
+        :bnc 004 Me bnc 1 i biklmnopstv\r\n\
+        :bnc 005 Me PREFIX=(ov)@+ CHANTYPES=# :are supported by this server\r\n\
+        :bnc 422 Me :MOTD File is missing\r\n\
+        :Me JOIN #c * :\r\n\
+        :bnc 332 Me #c :Hello all\r\n\
+        :bnc 324 Me #c +kl key 9\r\n\
+        :bnc 353 Me = #c :@+bob +eve Me\r\n\
+        :bnc 366 Me #c :End of NAMES list\r\n\
+        :bob ACCOUNT bobacc\r\n\
+        :bob AWAY :gone fishing\r\n",
+    ),
+];
+
 /// No capabilities, and all six.
 #[test]
 fn a_channel_with_all_that_is_known(rt: HostRuntime) -> Result<(), Fail> {
-    check_told(
-        &rt,
-        &TOLD,
-        &[],
-        &[
-            (
-                b"",
-                b":bnc 001 Me :Welcome to the bouncer\r\n\
-                :bnc 002 Me :Your host is bnc, running version 1\r\n\
-                :bnc 003 Me :This server was created for you\r\n\
-                :bnc 004 Me bnc 1 i biklmnopstv\r\n\
-                :bnc 005 Me PREFIX=(ov)@+ CHANTYPES=# :are supported by this server\r\n\
-                :bnc 422 Me :MOTD File is missing\r\n\
-                :Me JOIN #c\r\n\
-                :bnc 332 Me #c :Hello all\r\n\
-                :bnc 324 Me #c +kl key 9\r\n\
-                :bnc 353 Me = #c :@bob +eve Me\r\n\
-                :bnc 366 Me #c :End of NAMES list\r\n",
-            ),
-            (
-                b"multi-prefix extended-join account-notify away-notify server-time batch",
-                b":bnc 001 Me :Welcome to the bouncer\r\n\
-                :bnc 002 Me :Your host is bnc, running version 1\r\n\
-                :bnc 003 Me :This server was created for you\r\n\
-                :bnc 004 Me bnc 1 i biklmnopstv\r\n\
-                :bnc 005 Me PREFIX=(ov)@+ CHANTYPES=# :are supported by this server\r\n\
-                :bnc 422 Me :MOTD File is missing\r\n\
-                :Me JOIN #c * :\r\n\
-                :bnc 332 Me #c :Hello all\r\n\
-                :bnc 324 Me #c +kl key 9\r\n\
-                :bnc 353 Me = #c :@+bob +eve Me\r\n\
-                :bnc 366 Me #c :End of NAMES list\r\n\
-                :bob ACCOUNT bobacc\r\n\
-                :bob AWAY :gone fishing\r\n",
-            ),
-        ],
-    )
+    check_told(&rt, &TOLD, &[], &A_CHANNEL_WITH_ALL_THAT_IS_KNOWN)
 }
 
 /// Without channels, before the settings are fixed and behind that.
@@ -134,22 +131,24 @@ fn no_channel(rt: HostRuntime) -> Result<(), Fail> {
     )
 }
 
+const PERSONS_OF_SEVERAL_CHANNELS_TEXTS: [&[u8]; 9] = [
+    b":s 001 Me :hi",
+    b":s 376 Me :end",
+    b":Me!m@h JOIN #b",
+    b":s 353 Me = #b :Me bob Al",
+    b":Me!m@h JOIN #a",
+    b":s 353 Me = #a :Me BOB",
+    b":bob!b@h ACCOUNT bobacc",
+    b":bob!b@h AWAY :gone fishing",
+    b":al!a@h AWAY :lunch",
+];
+
 /// Persons on two channels: each is told once, in the order of their keys, and then a message.
 #[test]
 fn persons_of_several_channels(rt: HostRuntime) -> Result<(), Fail> {
     check_told(
         &rt,
-        &[
-            b":s 001 Me :hi",
-            b":s 376 Me :end",
-            b":Me!m@h JOIN #b",
-            b":s 353 Me = #b :Me bob Al",
-            b":Me!m@h JOIN #a",
-            b":s 353 Me = #a :Me BOB",
-            b":bob!b@h ACCOUNT bobacc",
-            b":bob!b@h AWAY :gone fishing",
-            b":al!a@h AWAY :lunch",
-        ],
+        &PERSONS_OF_SEVERAL_CHANNELS_TEXTS,
         &[b":bob!b@h PRIVMSG #A :hi all"],
         &[(
             b"account-notify away-notify batch",

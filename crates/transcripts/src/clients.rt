@@ -78,24 +78,25 @@ fn names_held(alloc: Global, caps: Option<Caps>) -> Result<Vec<u8>, Fail> {
     Ok(text)
 }
 
+const CAPABILITIES_ASKED_FOR: [(&[u8], &[u8]); 8] = [
+    (b"", b"multi-prefix "),
+    (b"  ", b"multi-prefix "),
+    (b"batch", b"multi-prefix batch "),
+    (b"-multi-prefix", b""),
+    (b"-batch  batch -multi-prefix", b"batch "),
+    (b"batch -batch", b"multi-prefix "),
+    (b"batch sasl", b"-"),
+    (
+        b"away-notify server-time extended-join account-notify batch",
+        b"multi-prefix extended-join account-notify away-notify server-time batch ",
+    ),
+];
+
 /// Requests, and the names held after them.
 #[test]
 fn capabilities_asked_for(rt: HostRuntime) -> Result<(), Fail> {
-    let rows: [(&[u8], &[u8]); 8] = [
-        (b"", b"multi-prefix "),
-        (b"  ", b"multi-prefix "),
-        (b"batch", b"multi-prefix batch "),
-        (b"-multi-prefix", b""),
-        (b"-batch  batch -multi-prefix", b"batch "),
-        (b"batch -batch", b"multi-prefix "),
-        (b"batch sasl", b"-"),
-        (
-            b"away-notify server-time extended-join account-notify batch",
-            b"multi-prefix extended-join account-notify away-notify server-time batch ",
-        ),
-    ];
     let before = asked(b"multi-prefix")?;
-    for (text, wanted) in &rows {
+    for (text, wanted) in &CAPABILITIES_ASKED_FOR {
         let held = names_held(rt.alloc(), read_request(before, text))?;
         assert!(&rt; held.as_slice() == *wanted);
     }
@@ -154,58 +155,86 @@ fn lines_of_persons_as_clients_are_sent_them(rt: HostRuntime) -> Result<(), Fail
     check_images(&rt, &JOINED, &OF_PERSONS)
 }
 
+const OTHER_LINES: [(&[u8], &[u8], &[u8]); 8] = [
+    (
+        b"",
+        b"@a=1 :bob!b@h PRIVMSG #c :hi all",
+        b":bob!b@h PRIVMSG #c :hi all\r\n",
+    ),
+    (b"", b"PING x", b"-"),
+    (b"", b"batch +a", b"-"),
+    (
+        b"",
+        b":s 353 Me = #c :Me  @+bob!b@h +eve @",
+        b":s 353 Me = #c :Me @bob!b@h +eve @\r\n",
+    ),
+    (
+        b"multi-prefix",
+        b":s 353 Me = #c :Me  @+bob",
+        b":s 353 Me = #c :Me  @+bob\r\n",
+    ),
+    (b"", b":bob!b@h NICK Me", b":bob!b@h NICK Me\r\n"),
+    (b"", b":@x!u@h JOIN #c", b":@x!u@h JOIN #c\r\n"),
+    (b"", b":s MODE #c +k :a b", b":s MODE #c +k :a b\r\n"),
+];
+
 /// Messages, name lists, changes of names, and lines that no client is sent.
 #[test]
 fn other_lines_as_clients_are_sent_them(rt: HostRuntime) -> Result<(), Fail> {
-    check_images(
-        &rt,
-        &JOINED,
-        &[
-            (
-                b"",
-                b"@a=1 :bob!b@h PRIVMSG #c :hi all",
-                b":bob!b@h PRIVMSG #c :hi all\r\n",
-            ),
-            (b"", b"PING x", b"-"),
-            (b"", b"batch +a", b"-"),
-            (
-                b"",
-                b":s 353 Me = #c :Me  @+bob!b@h +eve @",
-                b":s 353 Me = #c :Me @bob!b@h +eve @\r\n",
-            ),
-            (
-                b"multi-prefix",
-                b":s 353 Me = #c :Me  @+bob",
-                b":s 353 Me = #c :Me  @+bob\r\n",
-            ),
-            (b"", b":bob!b@h NICK Me", b":bob!b@h NICK Me\r\n"),
-            (b"", b":@x!u@h JOIN #c", b":@x!u@h JOIN #c\r\n"),
-            (b"", b":s MODE #c +k :a b", b":s MODE #c +k :a b\r\n"),
-        ],
-    )
+    check_images(&rt, &JOINED, &OTHER_LINES)
 }
+
+const A_JOIN_OF_A_PERSON_WHO_LEFT_TEXTS: [&[u8]; 4] = [
+    b":s 001 Me :hi",
+    b":Me!m@h JOIN #c",
+    b":bob!b@h JOIN #c bobacc :Bob",
+    b":bob!b@h PART #c",
+];
+
+const A_JOIN_OF_A_PERSON_WHO_LEFT: [(&[u8], &[u8], &[u8]); 2] = [
+    (
+        b"extended-join",
+        b":bob!b@h JOIN #c",
+        b":bob!b@h JOIN #c * :\r\n",
+    ),
+    (b"", b":bob!b@h JOIN #c", b":bob!b@h JOIN #c\r\n"),
+];
 
 /// The JOIN of a person whose account was forgotten with the last shared channel.
 #[test]
 fn a_join_of_a_person_who_left(rt: HostRuntime) -> Result<(), Fail> {
     check_images(
         &rt,
-        &[
-            b":s 001 Me :hi",
-            b":Me!m@h JOIN #c",
-            b":bob!b@h JOIN #c bobacc :Bob",
-            b":bob!b@h PART #c",
-        ],
-        &[
-            (
-                b"extended-join",
-                b":bob!b@h JOIN #c",
-                b":bob!b@h JOIN #c * :\r\n",
-            ),
-            (b"", b":bob!b@h JOIN #c", b":bob!b@h JOIN #c\r\n"),
-        ],
+        &A_JOIN_OF_A_PERSON_WHO_LEFT_TEXTS,
+        &A_JOIN_OF_A_PERSON_WHO_LEFT,
     )
 }
+
+const NAME_LISTS_BY_OTHER_RANKS: [(&[u8], &[u8], &[u8]); 2] = [
+    (
+        b"",
+        b":s 353 Me = #c :~&@%+bob!b@h +%eve Me",
+        b":s 353 Me = #c :~bob!b@h %eve Me\r\n",
+    ),
+    (
+        b"multi-prefix",
+        b":s 353 Me = #c :~&@%+bob!b@h +%eve Me",
+        b":s 353 Me = #c :~&@%+bob!b@h +%eve Me\r\n",
+    ),
+];
+
+const NAME_LISTS_BY_OTHER_RANKS_THEN: [(&[u8], &[u8], &[u8]); 2] = [
+    (
+        b"",
+        b":s 353 Me = #c :@+bob!b@h  +eve Me",
+        b":s 353 Me = #c :@+bob!b@h +eve Me\r\n",
+    ),
+    (
+        b"multi-prefix",
+        b":s 353 Me = #c :@+bob!b@h  +eve Me",
+        b":s 353 Me = #c :@+bob!b@h  +eve Me\r\n",
+    ),
+];
 
 /// The names of a 353, by five ranks and by none.
 #[test]
@@ -216,34 +245,12 @@ fn name_lists_by_other_ranks(rt: HostRuntime) -> Result<(), Fail> {
             b":s 001 Me :hi",
             b":s 005 Me PREFIX=(qaohv)~&@%+ :are supported",
         ],
-        &[
-            (
-                b"",
-                b":s 353 Me = #c :~&@%+bob!b@h +%eve Me",
-                b":s 353 Me = #c :~bob!b@h %eve Me\r\n",
-            ),
-            (
-                b"multi-prefix",
-                b":s 353 Me = #c :~&@%+bob!b@h +%eve Me",
-                b":s 353 Me = #c :~&@%+bob!b@h +%eve Me\r\n",
-            ),
-        ],
+        &NAME_LISTS_BY_OTHER_RANKS,
     )?;
     check_images(
         &rt,
         &[b":s 001 Me :hi", b":s 005 Me PREFIX= :are supported"],
-        &[
-            (
-                b"",
-                b":s 353 Me = #c :@+bob!b@h  +eve Me",
-                b":s 353 Me = #c :@+bob!b@h +eve Me\r\n",
-            ),
-            (
-                b"multi-prefix",
-                b":s 353 Me = #c :@+bob!b@h  +eve Me",
-                b":s 353 Me = #c :@+bob!b@h  +eve Me\r\n",
-            ),
-        ],
+        &NAME_LISTS_BY_OTHER_RANKS_THEN,
     )
 }
 
@@ -262,17 +269,19 @@ impl Rows for Parts<'_> {
     }
 }
 
+const CHANNELS_LEFT_FOR_A_LOSS: [&[u8]; 4] = [
+    b":s 001 Me :hi",
+    b":Me!m@h JOIN #c",
+    b":Me!m@h JOIN #b",
+    b":Me!m@h JOIN #A",
+];
+
 /// Three channels are left for a loss.
 #[test]
 fn channels_left_for_a_loss(rt: HostRuntime) -> Result<(), Fail> {
     check_after(
         &rt,
-        &[
-            b":s 001 Me :hi",
-            b":Me!m@h JOIN #c",
-            b":Me!m@h JOIN #b",
-            b":Me!m@h JOIN #A",
-        ],
+        &CHANNELS_LEFT_FOR_A_LOSS,
         &Parts(b":Me PART #A\r\n:Me PART #b\r\n:Me PART #c\r\n"),
     )
 }

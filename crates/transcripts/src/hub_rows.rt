@@ -34,240 +34,303 @@ const STORY: Story = Story {
     images: false,
 };
 
+const MESSAGES_THAT_WERE_MISSED: [&[u8]; 9] = [
+    b"attach - pc 8",
+    b"up :bob!b@h PRIVMSG #c m1",
+    b"up :bob!b@h PRIVMSG #c m2",
+    b"detach 0",
+    b"up :bob!b@h PRIVMSG #c m3",
+    b"up :bob!b@h PRIVMSG #c m4",
+    b"up :bob!b@h PRIVMSG #c m5",
+    b"attach batch pc 8",
+    b"up :bob!b@h PRIVMSG #d m6",
+];
+
+const MESSAGES_THAT_WERE_MISSED_TOLD: [&[u8]; 17] = [
+    b"session 0",
+    b"session 1",
+    b":bnc 001 Me :Welcome to the bouncer",
+    b":bnc 002 Me :Your host is bnc, running version 1",
+    b":bnc 003 Me :This server was created for you",
+    b":bnc 004 Me bnc 1 i biklmnopstv",
+    b":bnc 005 Me PREFIX=(ov)@+ CHANTYPES=# :are supported by this server",
+    b":bnc 422 Me :MOTD File is missing",
+    b":Me JOIN #c",
+    b":bnc 353 Me = #c Me",
+    b":bnc 366 Me #c :End of NAMES list",
+    b":bnc BATCH +h0 chathistory #c",
+    b"@batch=h0 :bob!b@h PRIVMSG #c m3",
+    b"@batch=h0 :bob!b@h PRIVMSG #c m4",
+    b"@batch=h0 :bob!b@h PRIVMSG #c m5",
+    b":bnc BATCH -h0",
+    b":bob!b@h PRIVMSG #d m6",
+];
+
 /// What somebody missed who was away for three messages, and nothing where none came.
 #[test]
 fn messages_that_were_missed(rt: HostRuntime) -> Result<(), Fail> {
-    let events: [&[u8]; 9] = [
-        b"attach - pc 8",
-        b"up :bob!b@h PRIVMSG #c m1",
-        b"up :bob!b@h PRIVMSG #c m2",
-        b"detach 0",
-        b"up :bob!b@h PRIVMSG #c m3",
-        b"up :bob!b@h PRIVMSG #c m4",
-        b"up :bob!b@h PRIVMSG #c m5",
-        b"attach batch pc 8",
-        b"up :bob!b@h PRIVMSG #d m6",
-    ];
-    let told: [&[u8]; 17] = [
-        b"session 0",
-        b"session 1",
-        b":bnc 001 Me :Welcome to the bouncer",
-        b":bnc 002 Me :Your host is bnc, running version 1",
-        b":bnc 003 Me :This server was created for you",
-        b":bnc 004 Me bnc 1 i biklmnopstv",
-        b":bnc 005 Me PREFIX=(ov)@+ CHANTYPES=# :are supported by this server",
-        b":bnc 422 Me :MOTD File is missing",
-        b":Me JOIN #c",
-        b":bnc 353 Me = #c Me",
-        b":bnc 366 Me #c :End of NAMES list",
-        b":bnc BATCH +h0 chathistory #c",
-        b"@batch=h0 :bob!b@h PRIVMSG #c m3",
-        b"@batch=h0 :bob!b@h PRIVMSG #c m4",
-        b"@batch=h0 :bob!b@h PRIVMSG #c m5",
-        b":bnc BATCH -h0",
-        b":bob!b@h PRIVMSG #d m6",
-    ];
-    check(&rt, Story { from: 0, ..STORY }, &events, &told)
+    check(
+        &rt,
+        Story { from: 0, ..STORY },
+        &MESSAGES_THAT_WERE_MISSED,
+        &MESSAGES_THAT_WERE_MISSED_TOLD,
+    )
 }
+
+const NOTHING_WAS_MISSED: [&[u8]; 4] = [
+    b"up :bob!b@h PRIVMSG #c m1",
+    b"attach batch pc 8",
+    b"detach 0",
+    b"attach batch pc 8",
+];
 
 /// Who comes again at once missed nothing.
 #[test]
 fn nothing_was_missed(rt: HostRuntime) -> Result<(), Fail> {
-    let events: [&[u8]; 4] = [
-        b"up :bob!b@h PRIVMSG #c m1",
-        b"attach batch pc 8",
-        b"detach 0",
-        b"attach batch pc 8",
-    ];
     let mut told: Vec<&[u8]> = Vec::new(rt.alloc());
     told.push(b"session 0")?;
     told.push(b"session 1")?;
     told.extend_from_slice(&BURST)?;
-    check(&rt, Story { from: 0, ..STORY }, &events, &told)
+    check(&rt, Story { from: 0, ..STORY }, &NOTHING_WAS_MISSED, &told)
 }
+
+const A_MESSAGE_SAID: [&[u8]; 4] = [
+    b"attach - - 8",
+    b"attach - - 8",
+    b"said 0 PRIVMSG #c :hi all",
+    b"said 0 @a=1 :x NOTICE bob m",
+];
+
+const A_MESSAGE_SAID_TOLD: [&[u8]; 8] = [
+    b"session 0",
+    b"session 1",
+    b"forwarded",
+    b"forwarded",
+    b":Me PRIVMSG #c :hi all",
+    b":Me NOTICE bob m",
+    b"> PRIVMSG #c :hi all",
+    b"> NOTICE bob m",
+];
+
+const A_MESSAGE_SAID_QUIET: [&[u8]; 6] = [
+    b"session 0",
+    b"session 1",
+    b"forwarded",
+    b"forwarded",
+    b"> PRIVMSG #c :hi all",
+    b"> NOTICE bob m",
+];
 
 /// A message goes to the network and to the other session.
 #[test]
 fn a_message_said(rt: HostRuntime) -> Result<(), Fail> {
-    let events: [&[u8]; 4] = [
-        b"attach - - 8",
-        b"attach - - 8",
-        b"said 0 PRIVMSG #c :hi all",
-        b"said 0 @a=1 :x NOTICE bob m",
-    ];
-    let told: [&[u8]; 8] = [
-        b"session 0",
-        b"session 1",
-        b"forwarded",
-        b"forwarded",
-        b":Me PRIVMSG #c :hi all",
-        b":Me NOTICE bob m",
-        b"> PRIVMSG #c :hi all",
-        b"> NOTICE bob m",
-    ];
-    check(&rt, STORY, &events, &told)?;
-    let quiet: [&[u8]; 6] = [
-        b"session 0",
-        b"session 1",
-        b"forwarded",
-        b"forwarded",
-        b"> PRIVMSG #c :hi all",
-        b"> NOTICE bob m",
-    ];
-    check(&rt, Story { of: 0, ..STORY }, &events, &quiet)
+    check(&rt, STORY, &A_MESSAGE_SAID, &A_MESSAGE_SAID_TOLD)?;
+    check(
+        &rt,
+        Story { of: 0, ..STORY },
+        &A_MESSAGE_SAID,
+        &A_MESSAGE_SAID_QUIET,
+    )
 }
+
+const A_LOSS_WITH_TWO_CHANNELS: [&[u8]; 7] = [
+    b"up :Me!m@h JOIN #b",
+    b"attach - - 8",
+    b"piece :s 001 Yo",
+    b"lost",
+    b"said 0 PRIVMSG x y",
+    b"up :t 001 You :hi",
+    b"attach - - 8",
+];
+
+const A_LOSS_WITH_TWO_CHANNELS_TOLD: [&[u8]; 6] = [
+    b"session 0",
+    b"offline",
+    b"not ready",
+    b":Me PART #b",
+    b":Me PART #c",
+    b":t 001 You hi",
+];
 
 /// The connection is lost and comes again.
 #[test]
 fn a_loss_with_two_channels(rt: HostRuntime) -> Result<(), Fail> {
-    let events: [&[u8]; 7] = [
-        b"up :Me!m@h JOIN #b",
-        b"attach - - 8",
-        b"piece :s 001 Yo",
-        b"lost",
-        b"said 0 PRIVMSG x y",
-        b"up :t 001 You :hi",
-        b"attach - - 8",
-    ];
-    let told: [&[u8]; 6] = [
-        b"session 0",
-        b"offline",
-        b"not ready",
-        b":Me PART #b",
-        b":Me PART #c",
-        b":t 001 You hi",
-    ];
-    check(&rt, Story { of: 0, ..STORY }, &events, &told)
+    check(
+        &rt,
+        Story { of: 0, ..STORY },
+        &A_LOSS_WITH_TWO_CHANNELS,
+        &A_LOSS_WITH_TWO_CHANNELS_TOLD,
+    )
 }
+
+const A_SESSION_THAT_IS_CUT: [&[u8]; 7] = [
+    b"attach - - 2",
+    b"attach - - 8",
+    b"drained 0 1",
+    b"up :bob!b@h PRIVMSG #c m1",
+    b"up :bob!b@h PRIVMSG #c m2",
+    b"up :bob!b@h PRIVMSG #c m3",
+    b"said 0 PING x",
+];
+
+const A_SESSION_THAT_IS_CUT_TOLD: [&[u8]; 8] = [
+    b"session 0",
+    b"session 1",
+    b"drained 1",
+    b"cut 1",
+    b"no session",
+    b":bob!b@h PRIVMSG #c m1",
+    b":bob!b@h PRIVMSG #c m2",
+    b":bob!b@h PRIVMSG #c m3",
+];
 
 /// A session that is not drained is cut at the packet that finds no room, and the other is not.
 #[test]
 fn a_session_that_is_cut(rt: HostRuntime) -> Result<(), Fail> {
-    let events: [&[u8]; 7] = [
-        b"attach - - 2",
-        b"attach - - 8",
-        b"drained 0 1",
-        b"up :bob!b@h PRIVMSG #c m1",
-        b"up :bob!b@h PRIVMSG #c m2",
-        b"up :bob!b@h PRIVMSG #c m3",
-        b"said 0 PING x",
-    ];
-    let told: [&[u8]; 8] = [
-        b"session 0",
-        b"session 1",
-        b"drained 1",
-        b"cut 1",
-        b"no session",
-        b":bob!b@h PRIVMSG #c m1",
-        b":bob!b@h PRIVMSG #c m2",
-        b":bob!b@h PRIVMSG #c m3",
-    ];
-    check(&rt, STORY, &events, &told)
+    check(
+        &rt,
+        STORY,
+        &A_SESSION_THAT_IS_CUT,
+        &A_SESSION_THAT_IS_CUT_TOLD,
+    )
 }
+
+const LINES_THAT_ARE_ANSWERED: [&[u8]; 8] = [
+    b"attach - - 8",
+    b"said 0 CAP REQ :batch",
+    b"said 0 CAP LIST",
+    b"said 0 PING a b",
+    b"said 0 PONG x",
+    b"said 0 CAP END",
+    b"said 0 QUIT :bye",
+    b"detach 99",
+];
+
+const LINES_THAT_ARE_ANSWERED_TOLD: [&[u8]; 11] = [
+    b"session 0",
+    b"answered",
+    b"answered",
+    b"answered",
+    b"answered",
+    b"answered",
+    b"quit",
+    b"no session",
+    b":bnc CAP Me NAK batch",
+    b":bnc CAP Me LIST :",
+    b":bnc PONG bnc a",
+];
 
 /// What a client asks of us.
 #[test]
 fn lines_that_are_answered(rt: HostRuntime) -> Result<(), Fail> {
-    let events: [&[u8]; 8] = [
-        b"attach - - 8",
-        b"said 0 CAP REQ :batch",
-        b"said 0 CAP LIST",
-        b"said 0 PING a b",
-        b"said 0 PONG x",
-        b"said 0 CAP END",
-        b"said 0 QUIT :bye",
-        b"detach 99",
-    ];
-    let told: [&[u8]; 11] = [
-        b"session 0",
-        b"answered",
-        b"answered",
-        b"answered",
-        b"answered",
-        b"answered",
-        b"quit",
-        b"no session",
-        b":bnc CAP Me NAK batch",
-        b":bnc CAP Me LIST :",
-        b":bnc PONG bnc a",
-    ];
-    check(&rt, Story { of: 0, ..STORY }, &events, &told)
+    check(
+        &rt,
+        Story { of: 0, ..STORY },
+        &LINES_THAT_ARE_ANSWERED,
+        &LINES_THAT_ARE_ANSWERED_TOLD,
+    )
 }
+
+const WHAT_HAS_NO_ROOM: [&[u8]; 4] = [
+    b"attach - pc 0",
+    b"attach - - 8",
+    b"said 0 PRIVMSG #c m",
+    b"said 0 TIME",
+];
+
+const WHAT_HAS_NO_ROOM_TOLD: [&[u8]; 5] = [
+    b"outlet full",
+    b"session 0",
+    b"forwarded",
+    b"busy",
+    b"> PRIVMSG #c m",
+];
 
 /// An outlet without room, and then a network that takes no more.
 #[test]
 fn what_has_no_room(rt: HostRuntime) -> Result<(), Fail> {
-    let events: [&[u8]; 4] = [
-        b"attach - pc 0",
-        b"attach - - 8",
-        b"said 0 PRIVMSG #c m",
-        b"said 0 TIME",
-    ];
-    let told: [&[u8]; 5] = [
-        b"outlet full",
-        b"session 0",
-        b"forwarded",
-        b"busy",
-        b"> PRIVMSG #c m",
-    ];
     let one_place = Story {
         upstream: 1,
         of: 0,
         ..STORY
     };
-    check(&rt, one_place, &events, &told)
+    check(&rt, one_place, &WHAT_HAS_NO_ROOM, &WHAT_HAS_NO_ROOM_TOLD)
 }
+
+const A_SESSION_WITHOUT_A_NUMBER: [&[u8]; 2] = [b"attach - - 8", b"attach - - 8"];
+
+const A_SESSION_WITHOUT_A_NUMBER_TOLD: [&[u8]; 2] = [
+    b"session 18446744073709551615",
+    b"numbers spent",
+];
 
 /// The last number of a session.
 #[test]
 fn a_session_without_a_number(rt: HostRuntime) -> Result<(), Fail> {
-    let events: [&[u8]; 2] = [b"attach - - 8", b"attach - - 8"];
-    let told: [&[u8]; 2] = [b"session 18446744073709551615", b"numbers spent"];
     let last_session = Story {
         first_session: u64::MAX,
         ..STORY
     };
-    check(&rt, last_session, &events, &told)
+    check(
+        &rt,
+        last_session,
+        &A_SESSION_WITHOUT_A_NUMBER,
+        &A_SESSION_WITHOUT_A_NUMBER_TOLD,
+    )
 }
+
+const A_MESSAGE_WITHOUT_A_NUMBER: [&[u8]; 3] = [
+    b"attach - - 8",
+    b"up :bob!b@h PRIVMSG #c m1",
+    b"up :bob!b@h PRIVMSG #c m2",
+];
+
+const A_MESSAGE_WITHOUT_A_NUMBER_TOLD: [&[u8]; 3] = [
+    b"session 0",
+    b"stopped: numbers spent",
+    b":bob!b@h PRIVMSG #c m1",
+];
 
 /// The last number of a message.
 #[test]
 fn a_message_without_a_number(rt: HostRuntime) -> Result<(), Fail> {
-    let events: [&[u8]; 3] = [
-        b"attach - - 8",
-        b"up :bob!b@h PRIVMSG #c m1",
-        b"up :bob!b@h PRIVMSG #c m2",
-    ];
-    let told: [&[u8]; 3] = [
-        b"session 0",
-        b"stopped: numbers spent",
-        b":bob!b@h PRIVMSG #c m1",
-    ];
     let last_number = Story {
         first_number: u64::MAX,
         of: 0,
         ..STORY
     };
-    check(&rt, last_number, &events, &told)
+    check(
+        &rt,
+        last_number,
+        &A_MESSAGE_WITHOUT_A_NUMBER,
+        &A_MESSAGE_WITHOUT_A_NUMBER_TOLD,
+    )
 }
+
+const LINES_IN_PIECES: [&[u8]; 5] = [
+    b"attach - - 8",
+    b"piece :bob!b@h PRIV",
+    b"up MSG #c m1",
+    b"up :s PING x",
+    b"up PING a b",
+];
+
+const LINES_IN_PIECES_TOLD: [&[u8]; 4] = [
+    b"session 0",
+    b":bob!b@h PRIVMSG #c m1",
+    b"> PONG x",
+    b"> PONG a b",
+];
 
 /// Lines that come in pieces, one of them in the middle of a line.
 #[test]
 fn lines_in_pieces(rt: HostRuntime) -> Result<(), Fail> {
-    let events: [&[u8]; 5] = [
-        b"attach - - 8",
-        b"piece :bob!b@h PRIV",
-        b"up MSG #c m1",
-        b"up :s PING x",
-        b"up PING a b",
-    ];
-    let told: [&[u8]; 4] = [
-        b"session 0",
-        b":bob!b@h PRIVMSG #c m1",
-        b"> PONG x",
-        b"> PONG a b",
-    ];
-    check(&rt, Story { of: 0, ..STORY }, &events, &told)
+    check(
+        &rt,
+        Story { of: 0, ..STORY },
+        &LINES_IN_PIECES,
+        &LINES_IN_PIECES_TOLD,
+    )
 }
 
 /// A network has room for 64 sessions, and again for one once one of them is gone.
@@ -309,50 +372,53 @@ const COUNTED: Story = Story {
     images: true,
 };
 
+const A_MESSAGE_COMES: [&[u8]; 5] = [
+    b"session 0",
+    b"session 1",
+    b"session 2",
+    b":bob!b@h PRIVMSG #c m1",
+    b"images 2",
+];
+
 /// What is sent to sessions of the same capabilities is made once.
 #[test]
 fn images_of_a_message_that_comes(rt: HostRuntime) -> Result<(), Fail> {
-    let told: [&[u8]; 5] = [
-        b"session 0",
-        b"session 1",
-        b"session 2",
-        b":bob!b@h PRIVMSG #c m1",
-        b"images 2",
-    ];
-    check(&rt, COUNTED, &OF_THREE[..4], &told)
+    check(&rt, COUNTED, &OF_THREE[..4], &A_MESSAGE_COMES)
 }
+
+const ONE_OF_TWO_SPEAKS: [&[u8]; 8] = [
+    b"session 0",
+    b"session 1",
+    b"session 2",
+    b"forwarded",
+    b":bob!b@h PRIVMSG #c m1",
+    b":Me PRIVMSG #c m",
+    b"> PRIVMSG #c m",
+    b"images 4",
+];
 
 /// The first says something, and the others are of two sets.
 #[test]
 fn images_of_a_message_of_one_of_two(rt: HostRuntime) -> Result<(), Fail> {
-    let told: [&[u8]; 8] = [
-        b"session 0",
-        b"session 1",
-        b"session 2",
-        b"forwarded",
-        b":bob!b@h PRIVMSG #c m1",
-        b":Me PRIVMSG #c m",
-        b"> PRIVMSG #c m",
-        b"images 4",
-    ];
-    check(&rt, COUNTED, &OF_THREE[..5], &told)
+    check(&rt, COUNTED, &OF_THREE[..5], &ONE_OF_TWO_SPEAKS)
 }
+
+const THE_THIRD_SPEAKS: [&[u8]; 11] = [
+    b"session 0",
+    b"session 1",
+    b"session 2",
+    b"forwarded",
+    b"forwarded",
+    b":bob!b@h PRIVMSG #c m1",
+    b":Me PRIVMSG #c m",
+    b":Me PRIVMSG #c m",
+    b"> PRIVMSG #c m",
+    b"> PRIVMSG #c m",
+    b"images 5",
+];
 
 /// The third says something, and the others are of one set.
 #[test]
 fn images_of_a_message_of_the_third(rt: HostRuntime) -> Result<(), Fail> {
-    let told: [&[u8]; 11] = [
-        b"session 0",
-        b"session 1",
-        b"session 2",
-        b"forwarded",
-        b"forwarded",
-        b":bob!b@h PRIVMSG #c m1",
-        b":Me PRIVMSG #c m",
-        b":Me PRIVMSG #c m",
-        b"> PRIVMSG #c m",
-        b"> PRIVMSG #c m",
-        b"images 5",
-    ];
-    check(&rt, COUNTED, &OF_THREE, &told)
+    check(&rt, COUNTED, &OF_THREE, &THE_THIRD_SPEAKS)
 }

@@ -46,17 +46,18 @@ fn the_last_number(rt: HostRuntime) -> Result<(), Fail> {
     Ok(())
 }
 
+const THREE_OF_FIVE_SAID: [&[u8]; 5] = [
+    b":bob!b@h PRIVMSG #c m1",
+    b":bob!b@h PRIVMSG #c m2",
+    b":bob!b@h PRIVMSG #c m3",
+    b":bob!b@h PRIVMSG #c m4",
+    b":bob!b@h PRIVMSG #c m5",
+];
+
 /// A history of three that five messages came to.
 fn three_of_five(alloc: Global) -> Result<History, Fail> {
     let mut history = History::new(alloc, 3, 1)?;
-    let said: [&[u8]; 5] = [
-        b":bob!b@h PRIVMSG #c m1",
-        b":bob!b@h PRIVMSG #c m2",
-        b":bob!b@h PRIVMSG #c m3",
-        b":bob!b@h PRIVMSG #c m4",
-        b":bob!b@h PRIVMSG #c m5",
-    ];
-    for text in &said {
+    for text in &THREE_OF_FIVE_SAID {
         let _number = add(alloc, &mut history, text)?;
     }
     Ok(history)
@@ -71,33 +72,45 @@ fn is_of_bob(entry: &Entry, text: &[u8]) -> bool {
         && entry.command() == b"PRIVMSG".as_slice()
 }
 
+/// Places, the texts there, and their numbers.
+const THE_LAST_THREE: [(usize, &[u8], u64); 3] = [(0, b"m3", 3), (1, b"m4", 4), (2, b"m5", 5)];
+
+/// At these places are these messages of bob's.
+fn has_messages<R: AllocGlobal + Abort>(
+    rt: &R,
+    history: &History,
+    rows: &[(usize, &[u8], u64)],
+) -> Result<(), Fail> {
+    for (place, text, number) in rows {
+        let entry = history.entry(*place).ok_or("three are kept")?;
+        assert!(rt; is_of_bob(entry, text));
+        assert!(rt; history.number_of(*place) == Some(*number));
+    }
+    Ok(())
+}
+
 /// The last three of five messages.
 #[test]
 fn the_last_three_of_five(rt: HostRuntime) -> Result<(), Fail> {
-    let rows: [(usize, &[u8], u64); 3] = [(0, b"m3", 3), (1, b"m4", 4), (2, b"m5", 5)];
     let history = three_of_five(rt.alloc())?;
     assert!(&rt; history.len() == 3 && history.last_number() == Some(5));
-    for (place, text, number) in &rows {
-        let entry = history.entry(*place).ok_or("three are kept")?;
-        assert!(&rt; is_of_bob(entry, text));
-        assert!(&rt; history.number_of(*place) == Some(*number));
-    }
     assert!(&rt; history.entry(3).is_none() && history.number_of(3).is_none());
-    Ok(())
+    has_messages(&rt, &history, &THE_LAST_THREE)
 }
+
+const HOW_MANY_STAND_ABOVE_A_MARK: [(Option<u64>, usize); 5] = [
+    (None, 3),
+    (Some(0), 3),
+    (Some(2), 3),
+    (Some(4), 1),
+    (Some(5), 0),
+];
 
 /// Those of them that stand above a mark.
 #[test]
 fn how_many_stand_above_a_mark(rt: HostRuntime) -> Result<(), Fail> {
-    let rows: [(Option<u64>, usize); 5] = [
-        (None, 3),
-        (Some(0), 3),
-        (Some(2), 3),
-        (Some(4), 1),
-        (Some(5), 0),
-    ];
     let history = three_of_five(rt.alloc())?;
-    for (mark, count) in &rows {
+    for (mark, count) in &HOW_MANY_STAND_ABOVE_A_MARK {
         assert!(&rt; history.missed(rt.alloc(), *mark)?.len() == *count);
     }
     Ok(())
@@ -114,24 +127,43 @@ fn a_message_made_beforehand(rt: HostRuntime) -> Result<(), Fail> {
     Ok(())
 }
 
+/// A message that is made by its parts.
+fn made(alloc: Global) -> Result<Entry, Fail> {
+    let time = b"2020-01-02T03:04:05.678Z";
+    Ok(Entry::make(alloc, time, b"Me", b"privmsg", b"#c", b"m 1")?)
+}
+
+/// Pushes a message as its readers give it; its number.
+fn push_read(history: &mut History, entry: &Entry) -> Option<u64> {
+    let number = history.push(
+        entry.time(),
+        entry.source(),
+        entry.command(),
+        entry.target(),
+        entry.text(),
+    );
+    number.ok()
+}
+
+/// Whether it is the message made by its parts.
+fn is_made(entry: Option<&Entry>) -> bool {
+    let Some(entry) = entry else {
+        return false;
+    };
+    entry.time() == b"2020-01-02T03:04:05.678Z".as_slice()
+        && entry.source() == b"Me".as_slice()
+        && entry.command() == b"privmsg".as_slice()
+        && entry.target() == b"#c".as_slice()
+        && entry.text() == b"m 1".as_slice()
+}
+
 /// A message that is made by its parts, and pushed as its readers give them back.
 #[test]
 fn a_message_by_its_parts(rt: HostRuntime) -> Result<(), Fail> {
     let mut history = History::<Global>::new(rt.alloc(), 2, u64::MAX)?;
-    let time = b"2020-01-02T03:04:05.678Z";
-    let made = Entry::<Global>::make(rt.alloc(), time, b"Me", b"privmsg", b"#c", b"m 1")?;
-    let number = history.push(
-        made.time(),
-        made.source(),
-        made.command(),
-        made.target(),
-        made.text(),
-    );
-    assert!(&rt; matches!(number, Ok(u64::MAX)));
-    let kept = history.entry(0).ok_or("it is kept")?;
-    assert!(&rt; kept.time() == time.as_slice() && kept.source() == b"Me".as_slice());
-    assert!(&rt; kept.command() == b"privmsg".as_slice() && kept.target() == b"#c".as_slice());
-    assert!(&rt; kept.text() == b"m 1".as_slice());
+    let number = push_read(&mut history, &made(rt.alloc())?);
+    assert!(&rt; number == Some(u64::MAX));
+    assert!(&rt; is_made(history.entry(0)));
     Ok(())
 }
 
@@ -162,18 +194,50 @@ fn is_said_by_us(entry: Option<&Entry>) -> bool {
     }
 }
 
+const MESSAGES_THAT_A_CLIENT_SAYS: [(&[u8], bool); 4] = [
+    (b"PRIVMSG #c :hi all", true),
+    (b":other NOTICE #c :hi all", true),
+    (b"PRIVMSG #c", false),
+    (b"TOPIC #c :hi all", false),
+];
+
+/// Each row holds.
+fn check_messages_that_a_client_says<R: AllocGlobal + Abort>(
+    rt: &R,
+    rows: &[(&[u8], bool)],
+) -> Result<(), Fail> {
+    for (text, is_said) in rows {
+        let entry = said_entry(rt.alloc(), text)?;
+        assert!(rt; is_said_by_us(entry.as_ref()) == *is_said && entry.is_some() == *is_said);
+    }
+    Ok(())
+}
+
 /// What a client says, as a message of ours: the line, and whether it is one.
 #[test]
 fn messages_that_a_client_says(rt: HostRuntime) -> Result<(), Fail> {
-    let rows: [(&[u8], bool); 4] = [
-        (b"PRIVMSG #c :hi all", true),
-        (b":other NOTICE #c :hi all", true),
-        (b"PRIVMSG #c", false),
-        (b"TOPIC #c :hi all", false),
-    ];
-    for (text, is_said) in &rows {
-        let entry = said_entry(rt.alloc(), text)?;
-        assert!(&rt; is_said_by_us(entry.as_ref()) == *is_said && entry.is_some() == *is_said);
+    check_messages_that_a_client_says(&rt, &MESSAGES_THAT_A_CLIENT_SAYS)
+}
+
+const LINES_THAT_ARE_MESSAGES: [(&[u8], bool, bool); 8] = [
+    (b":bob!b@h PRIVMSG #c :hi all", true, true),
+    (b":bob!b@h notice Me hi", true, true),
+    (b"PRIVMSG #c hi", false, true),
+    (b":bob!b@h PRIVMSG #c", false, false),
+    (b":bob!b@h PRIVMSG #c hi all", false, false),
+    (b":bob!b@h TOPIC #c :hi all", false, false),
+    (b":bob!b@h PRIVMSGS #c :hi all", false, false),
+    (b"@a=b :bob PRIVMSG #c :", true, true),
+];
+
+/// Each row holds.
+fn check_lines_that_are_messages<R: AllocGlobal + Abort>(
+    rt: &R,
+    rows: &[(&[u8], bool, bool)],
+) -> Result<(), Fail> {
+    for (text, of_network, of_client) in rows {
+        assert!(rt; is_message(&line(rt.alloc(), text)?) == *of_client);
+        assert!(rt; entry_of(rt.alloc(), text)?.is_some() == *of_network);
     }
     Ok(())
 }
@@ -181,21 +245,7 @@ fn messages_that_a_client_says(rt: HostRuntime) -> Result<(), Fail> {
 /// Lines, and whether they are messages: of the network, and of a client.
 #[test]
 fn lines_that_are_messages(rt: HostRuntime) -> Result<(), Fail> {
-    let rows: [(&[u8], bool, bool); 8] = [
-        (b":bob!b@h PRIVMSG #c :hi all", true, true),
-        (b":bob!b@h notice Me hi", true, true),
-        (b"PRIVMSG #c hi", false, true),
-        (b":bob!b@h PRIVMSG #c", false, false),
-        (b":bob!b@h PRIVMSG #c hi all", false, false),
-        (b":bob!b@h TOPIC #c :hi all", false, false),
-        (b":bob!b@h PRIVMSGS #c :hi all", false, false),
-        (b"@a=b :bob PRIVMSG #c :", true, true),
-    ];
-    for (text, of_network, of_client) in &rows {
-        assert!(&rt; is_message(&line(rt.alloc(), text)?) == *of_client);
-        assert!(&rt; entry_of(rt.alloc(), text)?.is_some() == *of_network);
-    }
-    Ok(())
+    check_lines_that_are_messages(&rt, &LINES_THAT_ARE_MESSAGES)
 }
 
 /// Marks of 64 names of a byte each.
@@ -207,13 +257,18 @@ fn full_marks<R: AllocGlobal + Abort>(rt: &R) -> Result<Marks, Fail> {
     Ok(marks)
 }
 
+/// A known name is admitted again, and no further one.
+fn admits_the_known<R: AllocGlobal + Abort>(rt: &R, marks: &mut Marks) {
+    assert!(rt; marks.is_full_for(b"pc") && !marks.is_full_for(&[0]));
+    assert!(rt; matches!(marks.admit(b"pc"), Err(AdmitError::NamesFull)));
+    assert!(rt; matches!(marks.admit(&[0]), Ok(false)));
+}
+
 /// Names up to the 64th, and their marks.
 #[test]
 fn names_and_their_marks(rt: HostRuntime) -> Result<(), Fail> {
     let mut marks = full_marks(&rt)?;
-    assert!(&rt; marks.is_full_for(b"pc") && !marks.is_full_for(&[0]));
-    assert!(&rt; matches!(marks.admit(b"pc"), Err(AdmitError::NamesFull)));
-    assert!(&rt; matches!(marks.admit(&[0]), Ok(false)));
+    admits_the_known(&rt, &mut marks);
     marks.set_mark(&[0], 5);
     marks.set_mark(b"pc", 6);
     assert!(&rt; marks.mark(&[0]) == Some(5) && marks.mark(b"pc").is_none());

@@ -109,19 +109,20 @@ fn check_names<R: AllocGlobal + Abort>(
     )
 }
 
+const NAMES_UP_TO_400_BYTES: [(&[u8], &[u8], &[u8], usize, &[u8]); 6] = [
+    (b"", b"", b"", 37, b" "),
+    (b"", b"", b"", 38, b"\r\n:bnc 353 Me = #c "),
+    (b"multi-prefix", b"@+", b"@+", 35, b" "),
+    (b"multi-prefix", b"@+", b"@+", 36, b"\r\n:bnc 353 Me = #c "),
+    (b"", b"@+", b"@", 36, b" "),
+    (b"", b"@+", b"@", 37, b"\r\n:bnc 353 Me = #c "),
+];
+
 /// A 353 of 400 bytes of words is one line, and one of 401 bytes two: capabilities, the last
 /// member's symbols, those that are shown, the length of its nick, what stands before it.
 #[test]
 fn names_up_to_400_bytes(rt: HostRuntime) -> Result<(), Fail> {
-    let rows: [(&[u8], &[u8], &[u8], usize, &[u8]); 6] = [
-        (b"", b"", b"", 37, b" "),
-        (b"", b"", b"", 38, b"\r\n:bnc 353 Me = #c "),
-        (b"multi-prefix", b"@+", b"@+", 35, b" "),
-        (b"multi-prefix", b"@+", b"@+", 36, b"\r\n:bnc 353 Me = #c "),
-        (b"", b"@+", b"@", 36, b" "),
-        (b"", b"@+", b"@", 37, b"\r\n:bnc 353 Me = #c "),
-    ];
-    for (names, symbols, shown, len, gap) in &rows {
+    for (names, symbols, shown, len, gap) in &NAMES_UP_TO_400_BYTES {
         let told = name_list(rt.alloc(), b":s 353 Me = #c :", (b" ", symbols), *len, b"")?;
         let start = b":bnc 353 Me = #c :";
         let wanted = name_list(rt.alloc(), start, (gap, shown), *len, b"\r\n")?;
@@ -151,21 +152,22 @@ fn check_tokens<R: AllocGlobal + Abort>(rt: &R, told: &[u8], wanted: &[u8]) -> R
     )
 }
 
+const TOKENS_UP_TO_TWELVE: [(&[u8], &[u8]); 2] = [
+    (
+        b":s 005 Me A B C D E F G H I J K L=1 :are supported",
+        b":bnc 005 Me A B C D E F G H I J K L=1 :are supported by this server\r\n",
+    ),
+    (
+        b":s 005 Me A B C D E F G H I J K L M=1 :are supported",
+        b":bnc 005 Me A B C D E F G H I J K L :are supported by this server\r\n\
+        :bnc 005 Me M=1 :are supported by this server\r\n",
+    ),
+];
+
 /// Twelve tokens are one line, and thirteen two.
 #[test]
 fn tokens_up_to_twelve(rt: HostRuntime) -> Result<(), Fail> {
-    let rows: [(&[u8], &[u8]); 2] = [
-        (
-            b":s 005 Me A B C D E F G H I J K L=1 :are supported",
-            b":bnc 005 Me A B C D E F G H I J K L=1 :are supported by this server\r\n",
-        ),
-        (
-            b":s 005 Me A B C D E F G H I J K L M=1 :are supported",
-            b":bnc 005 Me A B C D E F G H I J K L :are supported by this server\r\n\
-            :bnc 005 Me M=1 :are supported by this server\r\n",
-        ),
-    ];
-    for (told, wanted) in &rows {
+    for (told, wanted) in &TOKENS_UP_TO_TWELVE {
         check_tokens(&rt, told, wanted)?;
     }
     Ok(())
@@ -201,51 +203,60 @@ fn check_four_tokens<R: AllocGlobal + Abort>(rt: &R, len: usize, gap: &[u8]) -> 
     check_tokens(rt, &told, &wanted)
 }
 
+const TOKENS_UP_TO_400_BYTES: [(usize, &[u8]); 3] = [
+    (100, b" "),
+    (101, b" :are supported by this server\r\n:bnc 005 Me "),
+    (450, b" :are supported by this server\r\n:bnc 005 Me "),
+];
+
 /// Tokens of 400 bytes are one line, those of 401 bytes two; one that is longer has its own.
 #[test]
 fn tokens_up_to_400_bytes(rt: HostRuntime) -> Result<(), Fail> {
-    let rows: [(usize, &[u8]); 3] = [
-        (100, b" "),
-        (101, b" :are supported by this server\r\n:bnc 005 Me "),
-        (450, b" :are supported by this server\r\n:bnc 005 Me "),
-    ];
-    for (len, gap) in &rows {
+    for (len, gap) in &TOKENS_UP_TO_400_BYTES {
         check_four_tokens(&rt, *len, gap)?;
     }
     Ok(())
 }
+
+const MEMBERS_BY_OTHER_RANKS_TEXTS: [&[u8]; 5] = [
+    b":s 001 Me :hi",
+    b":s 005 Me PREFIX= :are supported",
+    b":Me!m@h JOIN #c",
+    b":s 353 Me = #c :Me bob @eve",
+    b":s MODE #c +o bob",
+];
+
+const MEMBERS_BY_OTHER_RANKS: [(&[u8], &[u8]); 2] = [
+    (b"", b":bnc 353 Me = #c :bob Me\r\n"),
+    (b"multi-prefix", b":bnc 353 Me = #c :bob Me\r\n"),
+];
+
+const MEMBERS_BY_OTHER_RANKS_SAID: [&[u8]; 5] = [
+    b":s 001 Me :hi",
+    b":s 005 Me PREFIX=(qaohv)~&@%+ :are supported",
+    b":Me!m@h JOIN #c",
+    b":s 353 Me = #c :Me +%@&~bob %+eve",
+    b":s MODE #c -q+v bob Me",
+];
+
+const MEMBERS_BY_OTHER_RANKS_THEN: [(&[u8], &[u8]); 2] = [
+    (b"", b":bnc 353 Me = #c :&bob %eve +Me\r\n"),
+    (b"multi-prefix", b":bnc 353 Me = #c :&@%+bob %+eve +Me\r\n"),
+];
 
 /// A network without ranks, and one of five.
 #[test]
 fn members_by_other_ranks(rt: HostRuntime) -> Result<(), Fail> {
     check_lines(
         &rt,
-        &[
-            b":s 001 Me :hi",
-            b":s 005 Me PREFIX= :are supported",
-            b":Me!m@h JOIN #c",
-            b":s 353 Me = #c :Me bob @eve",
-            b":s MODE #c +o bob",
-        ],
+        &MEMBERS_BY_OTHER_RANKS_TEXTS,
         b"353",
-        &[
-            (b"", b":bnc 353 Me = #c :bob Me\r\n"),
-            (b"multi-prefix", b":bnc 353 Me = #c :bob Me\r\n"),
-        ],
+        &MEMBERS_BY_OTHER_RANKS,
     )?;
     check_lines(
         &rt,
-        &[
-            b":s 001 Me :hi",
-            b":s 005 Me PREFIX=(qaohv)~&@%+ :are supported",
-            b":Me!m@h JOIN #c",
-            b":s 353 Me = #c :Me +%@&~bob %+eve",
-            b":s MODE #c -q+v bob Me",
-        ],
+        &MEMBERS_BY_OTHER_RANKS_SAID,
         b"353",
-        &[
-            (b"", b":bnc 353 Me = #c :&bob %eve +Me\r\n"),
-            (b"multi-prefix", b":bnc 353 Me = #c :&@%+bob %+eve +Me\r\n"),
-        ],
+        &MEMBERS_BY_OTHER_RANKS_THEN,
     )
 }

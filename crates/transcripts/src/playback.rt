@@ -113,42 +113,92 @@ const OF_TWO_CHANNELS: [(&[u8], &[u8]); 4] = [
     ),
 ];
 
+const MESSAGES_OF_TWO_CHANNELS_AND_OTHERS_TEXTS: [&[u8]; 5] = [
+    b":s 001 Me :hi",
+    b":Me!m@h JOIN #c",
+    b":Me!m@h JOIN #b",
+    b":Me!m@h JOIN #gone",
+    b":Me!m@h PART #gone",
+];
+
+const MESSAGES_OF_TWO_CHANNELS_AND_OTHERS: [&[u8]; 5] = [
+    b":bob!b@h PRIVMSG #C m1",
+    b":bob!b@h PRIVMSG Me :hi there",
+    b":eve!e@h NOTICE #b m3",
+    b":bob!b@h PRIVMSG #c :m 4",
+    b":Me PRIVMSG #gone ::5",
+];
+
 /// Messages to two channels, to us and to a channel that we left.
 #[test]
 fn messages_of_two_channels_and_others(rt: HostRuntime) -> Result<(), Fail> {
     check_played(
         &rt,
-        &[
-            b":s 001 Me :hi",
-            b":Me!m@h JOIN #c",
-            b":Me!m@h JOIN #b",
-            b":Me!m@h JOIN #gone",
-            b":Me!m@h PART #gone",
-        ],
-        &[
-            b":bob!b@h PRIVMSG #C m1",
-            b":bob!b@h PRIVMSG Me :hi there",
-            b":eve!e@h NOTICE #b m3",
-            b":bob!b@h PRIVMSG #c :m 4",
-            b":Me PRIVMSG #gone ::5",
-        ],
+        &MESSAGES_OF_TWO_CHANNELS_AND_OTHERS_TEXTS,
+        &MESSAGES_OF_TWO_CHANNELS_AND_OTHERS,
         None,
         &OF_TWO_CHANNELS,
     )
 }
 
+const TWO_CHANNELS: [&[u8]; 3] = [b":s 001 Me :hi", b":Me!m@h JOIN #a", b":Me!m@h JOIN #c"];
+
+const ONE_MESSAGE: [&[u8]; 1] = [b":bob PRIVMSG #c m1"];
+
 /// A channel without messages takes a place all the same, and has no batch.
 #[test]
 fn a_batch_is_named_after_its_channels_place(rt: HostRuntime) -> Result<(), Fail> {
-    let texts: [&[u8]; 3] = [b":s 001 Me :hi", b":Me!m@h JOIN #a", b":Me!m@h JOIN #c"];
-    let said: [&[u8]; 1] = [b":bob PRIVMSG #c m1"];
     let wanted: &[u8] = b":bnc BATCH +h1 chathistory #c\r\n\
         @batch=h1 :bob PRIVMSG #c m1\r\n\
         :bnc BATCH -h1\r\n";
-    check_played(&rt, &texts, &said, None, &[(b"batch", wanted)])?;
-    check_played(&rt, &texts, &said, Some(0), &[(b"batch", wanted)])?;
-    check_played(&rt, &texts, &said, Some(1), &[(b"batch", b"")])
+    check_played(
+        &rt,
+        &TWO_CHANNELS,
+        &ONE_MESSAGE,
+        None,
+        &[(b"batch", wanted)],
+    )?;
+    check_played(
+        &rt,
+        &TWO_CHANNELS,
+        &ONE_MESSAGE,
+        Some(0),
+        &[(b"batch", wanted)],
+    )?;
+    check_played(
+        &rt,
+        &TWO_CHANNELS,
+        &ONE_MESSAGE,
+        Some(1),
+        &[(b"batch", b"")],
+    )
 }
+
+const MESSAGES_ABOVE_A_MARK_TEXTS: [&[u8]; 4] = [
+    b":bob!b@h PRIVMSG #c m1",
+    b":bob!b@h PRIVMSG #c m2",
+    b":bob!b@h PRIVMSG Me :hi there",
+    b":bob!b@h PRIVMSG #c m3",
+];
+
+const MESSAGES_ABOVE_A_MARK: [(&[u8], &[u8]); 2] = [
+    (
+        b"batch",
+        b":bnc BATCH +h0 chathistory #c\r\n\
+        @batch=h0 :bob!b@h PRIVMSG #c m2\r\n\
+        @batch=h0 :bob!b@h PRIVMSG #c m3\r\n\
+        :bnc BATCH -h0\r\n\
+        :bob!b@h PRIVMSG Me :hi there\r\n",
+    ),
+    (
+        b"batch server-time",
+        b":bnc BATCH +h0 chathistory #c\r\n\
+        @batch=h0;time=1970-01-01T00:00:02.000Z :bob!b@h PRIVMSG #c m2\r\n\
+        @batch=h0;time=1970-01-01T00:00:04.000Z :bob!b@h PRIVMSG #c m3\r\n\
+        :bnc BATCH -h0\r\n\
+        @time=1970-01-01T00:00:03.000Z :bob!b@h PRIVMSG Me :hi there\r\n",
+    ),
+];
 
 /// Those of the last messages that stand above the mark, one of them for us.
 #[test]
@@ -156,30 +206,8 @@ fn messages_above_a_mark(rt: HostRuntime) -> Result<(), Fail> {
     check_played(
         &rt,
         &[b":s 001 Me :hi", b":Me!m@h JOIN #c"],
-        &[
-            b":bob!b@h PRIVMSG #c m1",
-            b":bob!b@h PRIVMSG #c m2",
-            b":bob!b@h PRIVMSG Me :hi there",
-            b":bob!b@h PRIVMSG #c m3",
-        ],
+        &MESSAGES_ABOVE_A_MARK_TEXTS,
         Some(1),
-        &[
-            (
-                b"batch",
-                b":bnc BATCH +h0 chathistory #c\r\n\
-                @batch=h0 :bob!b@h PRIVMSG #c m2\r\n\
-                @batch=h0 :bob!b@h PRIVMSG #c m3\r\n\
-                :bnc BATCH -h0\r\n\
-                :bob!b@h PRIVMSG Me :hi there\r\n",
-            ),
-            (
-                b"batch server-time",
-                b":bnc BATCH +h0 chathistory #c\r\n\
-                @batch=h0;time=1970-01-01T00:00:02.000Z :bob!b@h PRIVMSG #c m2\r\n\
-                @batch=h0;time=1970-01-01T00:00:04.000Z :bob!b@h PRIVMSG #c m3\r\n\
-                :bnc BATCH -h0\r\n\
-                @time=1970-01-01T00:00:03.000Z :bob!b@h PRIVMSG Me :hi there\r\n",
-            ),
-        ],
+        &MESSAGES_ABOVE_A_MARK,
     )
 }

@@ -92,20 +92,19 @@ fn both_views_show_the_same(rt: HostRuntime) -> Result<(), Fail> {
     Ok(())
 }
 
+const A_RENAME_ONTO_A_PERSON_WHO_IS_THERE: [(&[u8], &[u8]); 7] = [
+    (b":s 001 Me :hi", b"Me"),
+    (b":Me!m@h JOIN #c", b"Me / #c Me"),
+    (b":bob!b@h JOIN #c", b"Me / #c bob Me"),
+    (b":eve!e@h JOIN #c", b"Me / #c bob eve Me"),
+    (b":s MODE #c +o eve", b"Me / #c bob @eve Me"),
+    (b":bob!b@h NICK eve", b"Me / #c eve Me"),
+    (b":eve!b@h NICK EVE", b"Me / #c EVE Me"),
+];
+
 #[test]
 fn a_rename_onto_a_person_who_is_there(rt: HostRuntime) -> Result<(), Fail> {
-    check_rows(
-        &rt,
-        &[
-            (b":s 001 Me :hi", b"Me"),
-            (b":Me!m@h JOIN #c", b"Me / #c Me"),
-            (b":bob!b@h JOIN #c", b"Me / #c bob Me"),
-            (b":eve!e@h JOIN #c", b"Me / #c bob eve Me"),
-            (b":s MODE #c +o eve", b"Me / #c bob @eve Me"),
-            (b":bob!b@h NICK eve", b"Me / #c eve Me"),
-            (b":eve!b@h NICK EVE", b"Me / #c EVE Me"),
-        ],
-    )
+    check_rows(&rt, &A_RENAME_ONTO_A_PERSON_WHO_IS_THERE)
 }
 
 /// What the persons of a crowd do, one after the other: all three hundred, or those whose number
@@ -118,10 +117,14 @@ struct Deed<'a> {
     is_renamed: bool,
 }
 
-/// The numbers of a crowd, from 100 to 399, in the order in which they act: each 77 places behind
-/// the one before.
-fn number_at(turn: usize) -> usize {
-    100 + turn.wrapping_mul(77) % 300
+/// The number of a crowd, from 100 to 399, that acts behind this one: 77 places further, round and
+/// round.
+fn number_behind(number: usize) -> usize {
+    if number < 323 {
+        number + 77
+    } else {
+        number - 223
+    }
 }
 
 /// The line of one of a crowd.
@@ -135,8 +138,9 @@ fn line_of(alloc: Global, deed: &Deed<'_>, number: usize) -> Result<String, Fail
 
 /// A crowd does this.
 fn act<V: NetworkView>(alloc: Global, view: &mut V, deed: &Deed<'_>) -> Result<(), Fail> {
-    for turn in 0..300 {
-        let number = number_at(turn);
+    let mut number = 100;
+    for _ in 0..300 {
+        number = number_behind(number);
         if deed.third.is_none_or(|third| number % 3 == third) {
             let text = line_of(alloc, deed, number)?;
             view.take(&item(alloc, text.as_str().as_bytes())?)?;
@@ -165,17 +169,18 @@ fn push_crowd(alloc: Global, text: &mut Vec<u8>, letter: u8, third: usize) -> Re
     Ok(())
 }
 
+const DEEDS: [(&str, Option<usize>, &str, bool); 3] = [
+    ("n", None, "JOIN #c", false),
+    ("n", Some(0), "PART #c", false),
+    ("n", Some(1), "NICK o", true),
+];
+
 /// Three hundred persons come, a third of them goes, and another third takes other nicks.
 #[test]
 fn a_channel_of_three_hundred(rt: HostRuntime) -> Result<(), Fail> {
     let alloc = rt.alloc();
     let mut view = quick_of(alloc, &[b":s 001 Me :hi", b":Me!m@h JOIN #c"])?;
-    let deeds = [
-        ("n", None, "JOIN #c", false),
-        ("n", Some(0), "PART #c", false),
-        ("n", Some(1), "NICK o", true),
-    ];
-    for (letter, third, what, is_renamed) in deeds {
+    for (letter, third, what, is_renamed) in DEEDS {
         act(
             alloc,
             &mut view,

@@ -6,6 +6,7 @@ use crate::lines::line;
 use crate::views::{item, quick_of, show_the_same, shown, tape_of};
 use crate::whole_sessions::{INSPIRCD, NGIRCD};
 use client_caps::{Caps, Moment, image};
+use irc_line::Line;
 use net_view::{Item, NetworkView};
 use quick_view::QuickView;
 use std::alloc::Global;
@@ -117,6 +118,20 @@ fn a_client_that_comes_after_the_last_line_of_inspircd(rt: HostRuntime) -> Resul
     tells_a_client(&rt, &tape_of(rt.alloc(), &INSPIRCD)?)
 }
 
+/// The client takes the image of a line, if there is one.
+fn tell<V: NetworkView, C: NetworkView>(
+    alloc: Global,
+    view: &V,
+    client: &mut C,
+    caps: Caps,
+    line: &Line,
+) -> Result<(), Fail> {
+    match image(alloc, view, caps, line, Moment(0))? {
+        Some(image) => Ok(client.take(&Item::Line(image))?),
+        None => Ok(()),
+    }
+}
+
 /// Takes a line, whose image the client is sent before.
 fn send<V: NetworkView, C: NetworkView>(
     alloc: Global,
@@ -125,12 +140,8 @@ fn send<V: NetworkView, C: NetworkView>(
     caps: Caps,
     text: &[u8],
 ) -> Result<(), Fail> {
-    let line = line(alloc, text)?;
-    if let Some(image) = image(alloc, &*view, caps, &line, Moment(0))? {
-        client.take(&Item::Line(image))?;
-    }
-    view.take(&Item::Line(line))?;
-    Ok(())
+    tell(alloc, &*view, client, caps, &line(alloc, text)?)?;
+    Ok(view.take(&item(alloc, text)?)?)
 }
 
 /// What the view of a client shows that came now, and was then sent these lines.
@@ -179,50 +190,44 @@ fn check_since<R: AllocGlobal + Abort>(
     Ok(())
 }
 
+const IN_THE_MIDDLE_OF_NGIRCD: [(&[u8], &[u8]); 2] = [
+    // who was shown as an operator alone was voiced too, which such a client can't know
+    (
+        b"",
+        b"anna / #garden {n} [Roses, thyme and sage] anna ~bob %+eve \
+        / &local {l12} @anna Dana",
+    ),
+    (
+        ALL,
+        b"anna / #garden {n} [Roses, thyme and sage] +anna ~bob %+eve \
+        / &local {l12} @anna Dana",
+    ),
+];
+
 #[test]
 fn clients_that_come_in_the_middle_of_ngircd(rt: HostRuntime) -> Result<(), Fail> {
-    check_since(
-        &rt,
-        &NGIRCD,
-        18,
-        &[
-            // who was shown as an operator alone was voiced too, which such a client can't know
-            (
-                b"",
-                b"anna / #garden {n} [Roses, thyme and sage] anna ~bob %+eve \
-                / &local {l12} @anna Dana",
-            ),
-            (
-                ALL,
-                b"anna / #garden {n} [Roses, thyme and sage] +anna ~bob %+eve \
-                / &local {l12} @anna Dana",
-            ),
-        ],
-    )
+    check_since(&rt, &NGIRCD, 18, &IN_THE_MIDDLE_OF_NGIRCD)
 }
+
+const IN_THE_MIDDLE_OF_INSPIRCD: [(&[u8], &[u8]); 3] = [
+    (
+        b"",
+        b"IvyG / #Harbour {f10:5 m n t} [Boats in at dusk] @IvyG !Ruth Uma +Vic \
+        / #pier {n t} @IvyG %+Uma",
+    ),
+    (
+        b"multi-prefix away-notify",
+        b"IvyG / #Harbour {f10:5 m n t} [Boats in at dusk] @IvyG !~@Ruth Uma \
+        +Vic~Asleep until six / #pier {n t} @IvyG %+Uma",
+    ),
+    (
+        ALL,
+        b"IvyG / #Harbour {f10:5 m n t} [Boats in at dusk] @IvyG=ivy !~@Ruth Uma=una \
+        +Vic=victor~Asleep until six / #pier {n t} @IvyG=ivy %+Uma=una",
+    ),
+];
 
 #[test]
 fn clients_that_come_in_the_middle_of_inspircd(rt: HostRuntime) -> Result<(), Fail> {
-    check_since(
-        &rt,
-        &INSPIRCD,
-        16,
-        &[
-            (
-                b"",
-                b"IvyG / #Harbour {f10:5 m n t} [Boats in at dusk] @IvyG !Ruth Uma +Vic \
-                / #pier {n t} @IvyG %+Uma",
-            ),
-            (
-                b"multi-prefix away-notify",
-                b"IvyG / #Harbour {f10:5 m n t} [Boats in at dusk] @IvyG !~@Ruth Uma \
-                +Vic~Asleep until six / #pier {n t} @IvyG %+Uma",
-            ),
-            (
-                ALL,
-                b"IvyG / #Harbour {f10:5 m n t} [Boats in at dusk] @IvyG=ivy !~@Ruth Uma=una \
-                +Vic=victor~Asleep until six / #pier {n t} @IvyG=ivy %+Uma=una",
-            ),
-        ],
-    )
+    check_since(&rt, &INSPIRCD, 16, &IN_THE_MIDDLE_OF_INSPIRCD)
 }

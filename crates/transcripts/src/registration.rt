@@ -94,61 +94,65 @@ fn registers(
     registers_at(rt, alloc, network_of(&config)?, rows)
 }
 
+const CAPABILITIES_OFFERED: [(&str, &str); 9] = [
+    ("", "CAP LS 302 / NICK ann / USER ann 0 * :Ann A"),
+    (":s CAP * LS * :sasl batch", ""),
+    (
+        ":s CAP * LS :account-notify=1 multi-prefix",
+        "CAP REQ :multi-prefix account-notify",
+    ),
+    (":s CAP * ACK :multi-prefix account-notify", "CAP END"),
+    (":s 433 * ann :in use", "NICK ann_"),
+    (":s 001 ann_ :hi", "done: "),
+    (":s 433 * ann_ :in use", ""),
+    ("PING x", ""),
+    (":s 001 ann :hi", ""),
+];
+
 #[test]
 fn capabilities_that_are_offered_are_asked_for(rt: HostRuntime) -> Result<(), Fail> {
-    let rows = [
-        ("", "CAP LS 302 / NICK ann / USER ann 0 * :Ann A"),
-        (":s CAP * LS * :sasl batch", ""),
-        (
-            ":s CAP * LS :account-notify=1 multi-prefix",
-            "CAP REQ :multi-prefix account-notify",
-        ),
-        (":s CAP * ACK :multi-prefix account-notify", "CAP END"),
-        (":s 433 * ann :in use", "NICK ann_"),
-        (":s 001 ann_ :hi", "done: "),
-        (":s 433 * ann_ :in use", ""),
-        ("PING x", ""),
-        (":s 001 ann :hi", ""),
-    ];
-    registers(&rt, rt.alloc(), PLAIN, &rows)
+    registers(&rt, rt.alloc(), PLAIN, &CAPABILITIES_OFFERED)
 }
+
+const NAMES_OF_SEVERAL_LISTS_ARE_KEPT: [(&str, &str); 6] = [
+    (":s CAP * LS * :server-time away-notify=x", ""),
+    (":s CAP * LS * :", ""),
+    (":s CAP * LS extended-join :multi-prefix", ""),
+    (":s CAP * NEW :multi-prefix", ""),
+    (
+        ":s cap ann ls :multi-prefixes =multi-prefix extended-join",
+        "CAP REQ :extended-join away-notify server-time",
+    ),
+    (
+        ":s CAP * NAK :extended-join away-notify server-time",
+        "CAP END",
+    ),
+];
 
 #[test]
 fn names_of_several_lists_are_kept(rt: HostRuntime) -> Result<(), Fail> {
-    let rows = [
-        (":s CAP * LS * :server-time away-notify=x", ""),
-        (":s CAP * LS * :", ""),
-        (":s CAP * LS extended-join :multi-prefix", ""),
-        (":s CAP * NEW :multi-prefix", ""),
-        (
-            ":s cap ann ls :multi-prefixes =multi-prefix extended-join",
-            "CAP REQ :extended-join away-notify server-time",
-        ),
-        (
-            ":s CAP * NAK :extended-join away-notify server-time",
-            "CAP END",
-        ),
-    ];
-    registers(&rt, rt.alloc(), PLAIN, &rows)
+    registers(&rt, rt.alloc(), PLAIN, &NAMES_OF_SEVERAL_LISTS_ARE_KEPT)
 }
+
+const A_NETWORK_THAT_OFFERS_NOTHING: [(&str, &str); 6] = [
+    (":s CAP * LS :", "CAP END"),
+    (":s 421 ann CAP :Unknown command", ""),
+    ("PING", "PONG"),
+    ("PING :a b", "PONG :a b"),
+    (":s PING x y", "PONG x y"),
+    (":s 001 9 :digits begin nicks", "done: "),
+];
+
+const A_NETWORK_THAT_OFFERS_NOTHING_THEN: [(&str, &str); 3] = [
+    (":s 001", ""),
+    (":s 001 * :no nick", ""),
+    (":s 001 ann :hi", "done: "),
+];
 
 #[test]
 fn a_network_that_offers_nothing(rt: HostRuntime) -> Result<(), Fail> {
-    let rows = [
-        (":s CAP * LS :", "CAP END"),
-        (":s 421 ann CAP :Unknown command", ""),
-        ("PING", "PONG"),
-        ("PING :a b", "PONG :a b"),
-        (":s PING x y", "PONG x y"),
-        (":s 001 9 :digits begin nicks", "done: "),
-    ];
-    registers(&rt, rt.alloc(), PLAIN, &rows)?;
-    let rows = [
-        (":s 001", ""),
-        (":s 001 * :no nick", ""),
-        (":s 001 ann :hi", "done: "),
-    ];
-    registers(&rt, rt.alloc(), PLAIN, &rows)
+    registers(&rt, rt.alloc(), PLAIN, &A_NETWORK_THAT_OFFERS_NOTHING)?;
+    registers(&rt, rt.alloc(), PLAIN, &A_NETWORK_THAT_OFFERS_NOTHING_THEN)
 }
 
 /// What comes first with a password and channels.
@@ -175,30 +179,40 @@ fn channels_that_are_no_words(rt: HostRuntime) -> Result<(), Fail> {
     Ok(())
 }
 
+const FOUR_NICKS_ARE_TRIED: [(&str, &str); 6] = [
+    (":s 433 * ann :in use", "NICK ann_"),
+    (":s 433 * ann_ :in use", "NICK ann__"),
+    (":s 433 * ann__ :in use", "NICK ann___"),
+    (":s 433 * ann___ :in use", "nick in use"),
+    (":s 433 * ann___ :in use", ""),
+    (":s 001 ann :hi", ""),
+];
+
 #[test]
 fn four_nicks_are_tried(rt: HostRuntime) -> Result<(), Fail> {
-    let rows = [
-        (":s 433 * ann :in use", "NICK ann_"),
-        (":s 433 * ann_ :in use", "NICK ann__"),
-        (":s 433 * ann__ :in use", "NICK ann___"),
-        (":s 433 * ann___ :in use", "nick in use"),
-        (":s 433 * ann___ :in use", ""),
-        (":s 001 ann :hi", ""),
-    ];
-    registers(&rt, rt.alloc(), PLAIN, &rows)
+    registers(&rt, rt.alloc(), PLAIN, &FOUR_NICKS_ARE_TRIED)
+}
+
+const A_NETWORK_THAT_REFUSES: [(&str, &str); 3] = [
+    (":s 432 * ann :bad", "bad nick"),
+    (":s 464 * :no", "refused"),
+    ("ERROR :Closing Link", "refused"),
+];
+
+/// Each row holds.
+fn check_a_network_that_refuses<R: AllocGlobal + Abort>(
+    rt: &R,
+    rows: &[(&str, &str)],
+) -> Result<(), Fail> {
+    for row in rows {
+        registers(rt, rt.alloc(), PLAIN, &[*row, ("PING x", "")])?;
+    }
+    Ok(())
 }
 
 #[test]
 fn a_network_that_refuses(rt: HostRuntime) -> Result<(), Fail> {
-    let rows = [
-        (":s 432 * ann :bad", "bad nick"),
-        (":s 464 * :no", "refused"),
-        ("ERROR :Closing Link", "refused"),
-    ];
-    for row in rows {
-        registers(&rt, rt.alloc(), PLAIN, &[row, ("PING x", "")])?;
-    }
-    Ok(())
+    check_a_network_that_refuses(&rt, &A_NETWORK_THAT_REFUSES)
 }
 
 /// What is told of a line that comes behind 9,999 others.
@@ -230,17 +244,18 @@ fn ends_at(
     Ok(())
 }
 
+const THE_10000TH_LINE: [(&str, &str); 4] = [
+    ("PING x", "no welcome"),
+    (":s 433 * ann :in use", "no welcome"),
+    (":s 001 ann :hi", "done: "),
+    (":s 432 * ann :bad", "bad nick"),
+];
+
 #[test]
 fn the_10000th_line(rt: HostRuntime) -> Result<(), Fail> {
-    let rows = [
-        ("PING x", "no welcome"),
-        (":s 433 * ann :in use", "no welcome"),
-        (":s 001 ann :hi", "done: "),
-        (":s 432 * ann :bad", "bad nick"),
-    ];
     let config = plain(rt.alloc())?;
     let network = network_of(&config)?;
-    for (last, want) in &rows {
+    for (last, want) in &THE_10000TH_LINE {
         ends_at(&rt, rt.alloc(), network, last, want)?;
     }
     Ok(())

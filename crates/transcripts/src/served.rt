@@ -7,7 +7,7 @@ use hub_threads::{
     Clock, FreeGate, InletEnd, Network, OutletEnd, SharedBell, inlet, outlet, pump_loop,
     shared_bell,
 };
-use irc_line::Splitter;
+use irc_line::Line;
 use net_view::Item;
 use quick_view::QuickView;
 use sessions::{Served, serve_session};
@@ -30,9 +30,16 @@ const SETTINGS: &str = "listen = \"h:1\"\n[[user]]\nname = \"bob\"\nsalt = \"\"\
     realname = \"Ann A\"\n";
 
 /// What the network sent.
-const HEARD: &str = ":s 001 Me :hi\n:s 005 Me PREFIX=(ov)@+ CHANTYPES=# :are supported\n\
-    :s 376 Me :end\n:Me!m@h JOIN #c\n:s 332 Me #c :Hello all\n:s 324 Me #c +kl key 9\n\
-    :s 353 Me = #c :Me @+bob +eve\n:s 366 Me #c :End\n";
+const HEARD: [&str; 8] = [
+    ":s 001 Me :hi",
+    ":s 005 Me PREFIX=(ov)@+ CHANTYPES=# :are supported",
+    ":s 376 Me :end",
+    ":Me!m@h JOIN #c",
+    ":s 332 Me #c :Hello all",
+    ":s 324 Me #c +kl key 9",
+    ":s 353 Me = #c :Me @+bob +eve",
+    ":s 366 Me #c :End",
+];
 
 /// The login of ann from her computer.
 const LOGIN: &str = "PASS ann@pc/net:bc\r\nNICK x\r\nUSER x 0 * :A\r\n";
@@ -56,13 +63,13 @@ impl Clock for Still {
     }
 }
 
-/// Puts the lines of a text.
-fn put_lines(alloc: Global, end: &mut InletEnd, text: &str) -> Result<(), Fail> {
-    let mut lines = Vec::new(alloc);
-    Splitter::<Global>::new(alloc).feed(text.as_bytes(), &mut lines)?;
-    for line in lines {
-        let put = end.put(Item::Line(line), Moment(0));
-        put.map_err(|_| "a free slot")?;
+/// Puts lines.
+fn put_lines(alloc: Global, end: &mut InletEnd, texts: &[&str]) -> Result<(), Fail> {
+    for text in texts {
+        let line = Line::<Global>::read(alloc, text.as_bytes())?.ok_or("the text is a line")?;
+        if end.put(Item::Line(line), Moment(0)).is_err() {
+            return Err("the ring is full".into());
+        }
     }
     Ok(())
 }
@@ -71,7 +78,7 @@ fn put_lines(alloc: Global, end: &mut InletEnd, text: &str) -> Result<(), Fail> 
 fn network_of<R: Wait>(
     rt: &R,
     alloc: Global,
-    heard: &str,
+    heard: &[&str],
 ) -> Result<(Network<QuickView>, OutletEnd), Fail> {
     let bell: SharedBell = shared_bell(alloc)?;
     let (mut end, ring) = inlet(alloc, 16, Arc::try_clone(&bell)?)?;
@@ -110,7 +117,7 @@ fn told(alloc: Global, served: &Served<Vec<u8>>) -> Result<Vec<u8>, Fail> {
 fn serves<R: Threads + Wait + Send + Copy + 'static>(
     rt: R,
     alloc: Global,
-    heard: &str,
+    heard: &[&str],
     said: &[u8],
 ) -> Result<Vec<u8>, Fail> {
     let config = Config::read(alloc, SETTINGS.as_bytes())?;
@@ -145,7 +152,7 @@ fn serves<R: Threads + Wait + Send + Copy + 'static>(
 fn is_served<R: Threads + Wait + Abort + Send + Copy + 'static>(
     rt: R,
     alloc: Global,
-    heard: &str,
+    heard: &[&str],
     said: (&str, &str),
     want: (&str, &str, &str),
 ) -> Result<(), Fail> {
@@ -163,7 +170,7 @@ fn a_session_speaks_to_its_network(rt: HostRuntime) -> Result<(), Fail> {
     is_served(
         rt,
         rt.alloc(),
-        HEARD,
+        &HEARD,
         (LOGIN, said),
         ("ended, true ", BURST, sent),
     )
@@ -174,7 +181,7 @@ fn an_input_that_ends_ends_the_session(rt: HostRuntime) -> Result<(), Fail> {
     is_served(
         rt,
         rt.alloc(),
-        HEARD,
+        &HEARD,
         (LOGIN, "QUI"),
         ("ended, true ", BURST, ""),
     )
@@ -185,16 +192,16 @@ fn nobody_is_let_in_without_right(rt: HostRuntime) -> Result<(), Fail> {
     let alloc = rt.alloc();
     let rest = "NICK x\r\nUSER x 0 * :A\r\nPRIVMSG #c :hi\r\nQUIT\r\n";
     let none = ("no login", "", "");
-    is_served(rt, alloc, HEARD, ("PASS ann@pc/net:bd\r\n", rest), none)?;
-    is_served(rt, alloc, HEARD, ("PASS eve@pc/net:bc\r\n", rest), none)?;
-    is_served(rt, alloc, HEARD, ("PASS ann@pc/other:bc\r\n", rest), none)?;
-    is_served(rt, alloc, HEARD, ("PASS ann@pc/none:bc\r\n", rest), none)?;
-    is_served(rt, alloc, HEARD, ("PASS bob/net:abc\r\n", rest), none)?;
-    is_served(rt, alloc, HEARD, ("QUIT\r\n", LOGIN), none)?;
+    is_served(rt, alloc, &HEARD, ("PASS ann@pc/net:bd\r\n", rest), none)?;
+    is_served(rt, alloc, &HEARD, ("PASS eve@pc/net:bc\r\n", rest), none)?;
+    is_served(rt, alloc, &HEARD, ("PASS ann@pc/other:bc\r\n", rest), none)?;
+    is_served(rt, alloc, &HEARD, ("PASS ann@pc/none:bc\r\n", rest), none)?;
+    is_served(rt, alloc, &HEARD, ("PASS bob/net:abc\r\n", rest), none)?;
+    is_served(rt, alloc, &HEARD, ("QUIT\r\n", LOGIN), none)?;
     is_served(
         rt,
         alloc,
-        HEARD,
+        &HEARD,
         ("PASS ann@pc/net:bc\r\nNICK x\r\n", ""),
         none,
     )
@@ -206,7 +213,7 @@ fn a_network_that_is_not_ready(rt: HostRuntime) -> Result<(), Fail> {
     is_served(
         rt,
         rt.alloc(),
-        ":s 001 Me :hi\n",
+        &[":s 001 Me :hi"],
         (LOGIN, "PRIVMSG #c :hi\r\n"),
         refused,
     )

@@ -17,9 +17,8 @@ fn settings(alloc: Global, text: &[u8]) -> Result<Support, Fail> {
     Ok(settings)
 }
 
-/// The tokens as they came, a space behind each.
-fn tokens(alloc: Global, settings: &Support) -> Result<Vec<u8>, Fail> {
-    let mut text = Vec::new(alloc);
+/// Appends the tokens as they came, a space behind each.
+fn push_tokens(text: &mut Vec<u8>, settings: &Support) -> Result<(), Fail> {
     for place in 0..settings.token_count() {
         let (name, value) = settings.token(place).ok_or("no such token")?;
         text.extend_from_slice(name)?;
@@ -29,32 +28,44 @@ fn tokens(alloc: Global, settings: &Support) -> Result<Vec<u8>, Fail> {
         }
         text.push(b' ')?;
     }
-    Ok(text)
+    Ok(())
+}
+
+/// Takes lines.
+fn take_lines(alloc: Global, settings: &mut Support, texts: &[&[u8]]) -> Result<(), Fail> {
+    for text in texts {
+        settings.take(&line(alloc, text)?)?;
+    }
+    Ok(())
 }
 
 /// The tokens after these lines.
 fn tokens_after(alloc: Global, texts: &[&[u8]]) -> Result<Vec<u8>, Fail> {
     let mut settings = Support::new(alloc)?;
-    for text in texts {
-        settings.take(&line(alloc, text)?)?;
-    }
-    tokens(alloc, &settings)
+    take_lines(alloc, &mut settings, texts)?;
+    let mut tokens = Vec::new(alloc);
+    push_tokens(&mut tokens, &settings)?;
+    Ok(tokens)
 }
 
-#[test]
-fn tokens_in_order(rt: HostRuntime) -> Result<(), Fail> {
-    let rows: [(&[u8], &[u8]); 6] = [
-        (b":s 005 Me A=1 B -A A=2 C= =x :text", b"B A=2 C= "),
-        (
-            b":s 005 Me A=1 B A=y=z - NAMESX a :are supported",
-            b"A=y=z B NAMESX a ",
-        ),
-        (b":s 005 Me A", b""),
-        (b":s 005 Me", b""),
-        (b":s 004 Me A B :text", b""),
-        (b":s 006 Me A B :text", b""),
-    ];
-    for (text, wanted) in &rows {
+const TOKENS_IN_ORDER: [(&[u8], &[u8]); 6] = [
+    (b":s 005 Me A=1 B -A A=2 C= =x :text", b"B A=2 C= "),
+    (
+        b":s 005 Me A=1 B A=y=z - NAMESX a :are supported",
+        b"A=y=z B NAMESX a ",
+    ),
+    (b":s 005 Me A", b""),
+    (b":s 005 Me", b""),
+    (b":s 004 Me A B :text", b""),
+    (b":s 006 Me A B :text", b""),
+];
+
+/// Each row holds.
+fn check_tokens_in_order<R: AllocGlobal + Abort>(
+    rt: &R,
+    rows: &[(&[u8], &[u8])],
+) -> Result<(), Fail> {
+    for (text, wanted) in rows {
         let shown = tokens_after(rt.alloc(), &[*text])?;
         assert!(rt; shown.as_slice() == *wanted);
     }
@@ -62,12 +73,18 @@ fn tokens_in_order(rt: HostRuntime) -> Result<(), Fail> {
 }
 
 #[test]
+fn tokens_in_order(rt: HostRuntime) -> Result<(), Fail> {
+    check_tokens_in_order(&rt, &TOKENS_IN_ORDER)
+}
+
+const TOKENS_OVER_TWO_LINES: [&[u8]; 2] = [
+    b":s 005 Me A=1 B C=x :are supported",
+    b":s 005 Me A=2 -B D B :are supported",
+];
+
+#[test]
 fn tokens_over_two_lines(rt: HostRuntime) -> Result<(), Fail> {
-    let texts: [&[u8]; 2] = [
-        b":s 005 Me A=1 B C=x :are supported",
-        b":s 005 Me A=2 -B D B :are supported",
-    ];
-    let shown = tokens_after(rt.alloc(), &texts)?;
+    let shown = tokens_after(rt.alloc(), &TOKENS_OVER_TWO_LINES)?;
     assert!(rt; shown.as_slice() == b"A=2 C=x D B ".as_slice());
     Ok(())
 }
@@ -132,12 +149,20 @@ fn check_ranks<R: AllocGlobal + Abort>(
     Ok(())
 }
 
-#[test]
-fn ranks_of_a_prefix(rt: HostRuntime) -> Result<(), Fail> {
-    for (text, letters, symbols) in &PREFIXES {
-        check_ranks(&rt, &settings(rt.alloc(), text)?, letters, symbols)?;
+/// Each row holds.
+fn check_ranks_of_a_prefix<R: AllocGlobal + Abort>(
+    rt: &R,
+    rows: &[(&[u8], &[u8], &[u8])],
+) -> Result<(), Fail> {
+    for (text, letters, symbols) in rows {
+        check_ranks(rt, &settings(rt.alloc(), text)?, letters, symbols)?;
     }
     Ok(())
+}
+
+#[test]
+fn ranks_of_a_prefix(rt: HostRuntime) -> Result<(), Fail> {
+    check_ranks_of_a_prefix(&rt, &PREFIXES)
 }
 
 /// Lines, letters, and their kind after each.
@@ -187,56 +212,83 @@ fn are_of_kind(settings: &Support, letters: &[u8], kind: Kind) -> bool {
     are
 }
 
-#[test]
-fn kinds_of_letters(rt: HostRuntime) -> Result<(), Fail> {
-    for (text, letters, kind) in &KINDS {
+/// Each row holds.
+fn check_kinds_of_letters<R: AllocGlobal + Abort>(
+    rt: &R,
+    rows: &[(&[u8], &[u8], Kind)],
+) -> Result<(), Fail> {
+    for (text, letters, kind) in rows {
         assert!(rt; are_of_kind(&settings(rt.alloc(), text)?, letters, *kind));
     }
     Ok(())
 }
 
 #[test]
-fn mappings_by_their_names(rt: HostRuntime) -> Result<(), Fail> {
-    let mappings: [(&[u8], CaseMapping); 6] = [
-        (b":s 005 Me A :text", CaseMapping::Rfc1459),
-        (b":s 005 Me CASEMAPPING=ascii :text", CaseMapping::Ascii),
-        (b":s 005 Me CASEMAPPING=rfc1459 :text", CaseMapping::Rfc1459),
-        (
-            b":s 005 Me CASEMAPPING=strict-rfc1459 :text",
-            CaseMapping::Strict,
-        ),
-        (b":s 005 Me CASEMAPPING=rfc7613 :text", CaseMapping::Ascii),
-        (b":s 005 Me CASEMAPPING :text", CaseMapping::Ascii),
-    ];
-    for (text, mapping) in mappings {
+fn kinds_of_letters(rt: HostRuntime) -> Result<(), Fail> {
+    check_kinds_of_letters(&rt, &KINDS)
+}
+
+const MAPPINGS_BY_THEIR_NAMES: [(&[u8], CaseMapping); 6] = [
+    (b":s 005 Me A :text", CaseMapping::Rfc1459),
+    (b":s 005 Me CASEMAPPING=ascii :text", CaseMapping::Ascii),
+    (b":s 005 Me CASEMAPPING=rfc1459 :text", CaseMapping::Rfc1459),
+    (
+        b":s 005 Me CASEMAPPING=strict-rfc1459 :text",
+        CaseMapping::Strict,
+    ),
+    (b":s 005 Me CASEMAPPING=rfc7613 :text", CaseMapping::Ascii),
+    (b":s 005 Me CASEMAPPING :text", CaseMapping::Ascii),
+];
+
+/// Each row holds.
+fn check_mappings_by_their_names<R: AllocGlobal + Abort>(
+    rt: &R,
+    rows: &[(&[u8], CaseMapping)],
+) -> Result<(), Fail> {
+    for row in rows {
+        let (text, mapping) = *row;
         assert_eq!(rt; settings(rt.alloc(), text)?.mapping(), mapping);
     }
     Ok(())
 }
 
 #[test]
-fn names_of_channels(rt: HostRuntime) -> Result<(), Fail> {
-    let channels: [(&[u8], &[u8], bool); 10] = [
-        (b":s 005 Me A :text", b"#c", true),
-        (b":s 005 Me A :text", b"&c", true),
-        (b":s 005 Me A :text", b"+c", false),
-        (b":s 005 Me A :text", b"", false),
-        (b":s 005 Me A :text", b"#a,b", false),
-        (b":s 005 Me A :text", b"#a b", false),
-        (b":s 005 Me A :text", b"#\x07", false),
-        (b":s 005 Me CHANTYPES=# :text", b"&c", false),
-        (b":s 005 Me CHANTYPES=+: STATUSMSG=@+ :text", b":c", false),
-        (b":s 005 Me CHANTYPES :text", b"#c", false),
-    ];
-    for (text, name, is_channel) in channels {
+fn mappings_by_their_names(rt: HostRuntime) -> Result<(), Fail> {
+    check_mappings_by_their_names(&rt, &MAPPINGS_BY_THEIR_NAMES)
+}
+
+const NAMES_OF_CHANNELS: [(&[u8], &[u8], bool); 10] = [
+    (b":s 005 Me A :text", b"#c", true),
+    (b":s 005 Me A :text", b"&c", true),
+    (b":s 005 Me A :text", b"+c", false),
+    (b":s 005 Me A :text", b"", false),
+    (b":s 005 Me A :text", b"#a,b", false),
+    (b":s 005 Me A :text", b"#a b", false),
+    (b":s 005 Me A :text", b"#\x07", false),
+    (b":s 005 Me CHANTYPES=# :text", b"&c", false),
+    (b":s 005 Me CHANTYPES=+: STATUSMSG=@+ :text", b":c", false),
+    (b":s 005 Me CHANTYPES :text", b"#c", false),
+];
+
+/// Each row holds.
+fn check_names_of_channels<R: AllocGlobal + Abort>(
+    rt: &R,
+    rows: &[(&[u8], &[u8], bool)],
+) -> Result<(), Fail> {
+    for row in rows {
+        let (text, name, is_channel) = *row;
         assert_eq!(rt; settings(rt.alloc(), text)?.is_channel(name), is_channel);
     }
     Ok(())
 }
 
-/// The changes of a line, each with its sign and its letter, and `=` before what it took.
-fn changes_text(alloc: Global, settings: &Support, line: &Line) -> Result<Vec<u8>, Fail> {
-    let mut text = Vec::new(alloc);
+#[test]
+fn names_of_channels(rt: HostRuntime) -> Result<(), Fail> {
+    check_names_of_channels(&rt, &NAMES_OF_CHANNELS)
+}
+
+/// Appends the changes of a line, each with its sign and its letter, and `=` before what it took.
+fn push_changes(text: &mut Vec<u8>, settings: &Support, line: &Line) -> Result<(), Fail> {
     for change in changes(settings, line) {
         text.push(if change.plus { b'+' } else { b'-' })?;
         text.push(change.letter)?;
@@ -246,7 +298,7 @@ fn changes_text(alloc: Global, settings: &Support, line: &Line) -> Result<Vec<u8
         }
         text.push(b' ')?;
     }
-    Ok(text)
+    Ok(())
 }
 
 /// The changes of a line are this text.
@@ -256,29 +308,31 @@ fn check_changes<R: AllocGlobal + Abort>(
     line: &Line,
     wanted: &[u8],
 ) -> Result<(), Fail> {
-    let text = changes_text(rt.alloc(), settings, line)?;
+    let mut text = Vec::new(rt.alloc());
+    push_changes(&mut text, settings, line)?;
     assert!(rt; text.as_slice() == wanted);
     Ok(())
 }
 
+const CHANGES_OF_A_LINE: [(&[u8], &[u8]); 12] = [
+    (b":s MODE #c +lo 5 bob", b"+l=5 +o=bob "),
+    (b":s MODE #c -l+v bob", b"-l +v=bob "),
+    (b":s mode #c m-k+b-b x y z", b"+m -k=x +b=y -b=z "),
+    (b":s MODE #c -o", b"-o "),
+    (b":s MODE #c +ok bob :a b", b"+o=bob +k=a b "),
+    (b":s MODE #c +zZ x", b"+z +Z "),
+    (b":s MODE #c +-+", b""),
+    (b":s MODE #c", b""),
+    (b":s MODE", b""),
+    (b":s 324 Me #c +kl key 9", b"+k=key +l=9 "),
+    (b":s 324 Me #c", b""),
+    (b":s 329 Me #c +kl key 9", b""),
+];
+
 #[test]
 fn changes_of_a_line(rt: HostRuntime) -> Result<(), Fail> {
-    let rows: [(&[u8], &[u8]); 12] = [
-        (b":s MODE #c +lo 5 bob", b"+l=5 +o=bob "),
-        (b":s MODE #c -l+v bob", b"-l +v=bob "),
-        (b":s mode #c m-k+b-b x y z", b"+m -k=x +b=y -b=z "),
-        (b":s MODE #c -o", b"-o "),
-        (b":s MODE #c +ok bob :a b", b"+o=bob +k=a b "),
-        (b":s MODE #c +zZ x", b"+z +Z "),
-        (b":s MODE #c +-+", b""),
-        (b":s MODE #c", b""),
-        (b":s MODE", b""),
-        (b":s 324 Me #c +kl key 9", b"+k=key +l=9 "),
-        (b":s 324 Me #c", b""),
-        (b":s 329 Me #c +kl key 9", b""),
-    ];
     let settings = Support::new(rt.alloc())?;
-    for (text, wanted) in &rows {
+    for (text, wanted) in &CHANGES_OF_A_LINE {
         check_changes(&rt, &settings, &line(rt.alloc(), text)?, wanted)?;
     }
     Ok(())

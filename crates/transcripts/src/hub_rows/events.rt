@@ -20,10 +20,7 @@ fn number(text: &[u8]) -> Result<u64, Fail> {
 
 /// A text, with an LF behind it or not.
 fn bytes(alloc: Global, text: &[u8], end: &[u8]) -> Result<Vec<u8>, Fail> {
-    let mut bytes = Vec::new(alloc);
-    bytes.extend_from_slice(text)?;
-    bytes.extend_from_slice(end)?;
-    Ok(bytes)
+    Ok([text, end].concat(alloc)?)
 }
 
 /// The capabilities of these names with commas; `-` is none.

@@ -88,79 +88,82 @@ fn is_sent<R: AllocGlobal + Abort>(
     check_client(rt, story, &GARDEN, &DAY, &ANSWERED, sent, &UPWARD)
 }
 
+const A_CLIENT_WITHOUT_CAPABILITIES_SENT: [&[u8]; 14] = [
+    b":bnc 001 ann :Welcome to the bouncer",
+    b":bnc 002 ann :Your host is bnc, running version 1",
+    b":bnc 003 ann :This server was created for you",
+    b":bnc 004 ann bnc 1 i biklmnopstv",
+    b":bnc 005 ann CASEMAPPING=ascii PREFIX=(qaohv)~&@%+ CHANTYPES=#&+ \
+        CHANMODES=beI,k,l,imMnOPQRstVz :are supported by this server",
+    b":bnc 422 ann :MOTD File is missing",
+    b":ann JOIN #garden",
+    b":bnc 332 ann #garden :Roses and thyme",
+    b":bnc 353 ann = #garden :ann ~bob +eve",
+    b":bnc 366 ann #garden :End of NAMES list",
+    b":bob!~bob@a.example MODE #garden +ov ann ann",
+    b":dan!~dan@a.example JOIN #garden",
+    b":bob!~bob@a.example PRIVMSG #garden :Good morning",
+    b":ann!~ann@client.example TOPIC #garden :Roses, thyme and sage",
+];
+
 #[test]
 fn a_client_without_capabilities(rt: HostRuntime) -> Result<(), Fail> {
-    let sent: [&[u8]; 14] = [
-        b":bnc 001 ann :Welcome to the bouncer",
-        b":bnc 002 ann :Your host is bnc, running version 1",
-        b":bnc 003 ann :This server was created for you",
-        b":bnc 004 ann bnc 1 i biklmnopstv",
-        b":bnc 005 ann CASEMAPPING=ascii PREFIX=(qaohv)~&@%+ CHANTYPES=#&+ \
-            CHANMODES=beI,k,l,imMnOPQRstVz :are supported by this server",
-        b":bnc 422 ann :MOTD File is missing",
-        b":ann JOIN #garden",
-        b":bnc 332 ann #garden :Roses and thyme",
-        b":bnc 353 ann = #garden :ann ~bob +eve",
-        b":bnc 366 ann #garden :End of NAMES list",
-        b":bob!~bob@a.example MODE #garden +ov ann ann",
-        b":dan!~dan@a.example JOIN #garden",
-        b":bob!~bob@a.example PRIVMSG #garden :Good morning",
-        b":ann!~ann@client.example TOPIC #garden :Roses, thyme and sage",
-    ];
-    is_sent(&rt, 0, true, &sent)
+    is_sent(&rt, 0, true, &A_CLIENT_WITHOUT_CAPABILITIES_SENT)
 }
+
+const A_CLIENT_WITH_FOUR_CAPABILITIES_SENT: [&[u8]; 21] = [
+    b":bnc 001 ann :Welcome to the bouncer",
+    b":bnc 002 ann :Your host is bnc, running version 1",
+    b":bnc 003 ann :This server was created for you",
+    b":bnc 004 ann bnc 1 i biklmnopstv",
+    b":bnc 005 ann CASEMAPPING=ascii PREFIX=(qaohv)~&@%+ CHANTYPES=#&+ \
+        CHANMODES=beI,k,l,imMnOPQRstVz :are supported by this server",
+    b":bnc 422 ann :MOTD File is missing",
+    b":ann JOIN #garden * :",
+    b":bnc 332 ann #garden :Roses and thyme",
+    b":bnc 353 ann = #garden :@+ann ~bob dan +eve",
+    b":bnc 366 ann #garden :End of NAMES list",
+    b":bob!~bob@a.example PRIVMSG #garden :Good morning",
+    b":ann PRIVMSG #garden :Morning, bob",
+    b":ann!~ann@client.example TOPIC #garden :Roses, thyme and sage",
+    b":dan!~dan@a.example NICK Dana",
+    b":Dana!~dan@a.example PRIVMSG ann :Still there?",
+    b":eve!~eve@b.example PRIVMSG #garden :Anyone for tea?",
+    b":eve!~eve@b.example AWAY :Making tea",
+    b":bob!~bob@a.example KICK #garden Dana Enough",
+    b":ann NOTICE bob :Who was that?",
+    b":bnc PONG bnc :are you there",
+    b":ann PART #garden",
+];
 
 #[test]
 fn a_client_with_four_capabilities(rt: HostRuntime) -> Result<(), Fail> {
-    let sent: [&[u8]; 21] = [
-        b":bnc 001 ann :Welcome to the bouncer",
-        b":bnc 002 ann :Your host is bnc, running version 1",
-        b":bnc 003 ann :This server was created for you",
-        b":bnc 004 ann bnc 1 i biklmnopstv",
-        b":bnc 005 ann CASEMAPPING=ascii PREFIX=(qaohv)~&@%+ CHANTYPES=#&+ \
-            CHANMODES=beI,k,l,imMnOPQRstVz :are supported by this server",
-        b":bnc 422 ann :MOTD File is missing",
-        b":ann JOIN #garden * :",
-        b":bnc 332 ann #garden :Roses and thyme",
-        b":bnc 353 ann = #garden :@+ann ~bob dan +eve",
-        b":bnc 366 ann #garden :End of NAMES list",
-        b":bob!~bob@a.example PRIVMSG #garden :Good morning",
-        b":ann PRIVMSG #garden :Morning, bob",
-        b":ann!~ann@client.example TOPIC #garden :Roses, thyme and sage",
-        b":dan!~dan@a.example NICK Dana",
-        b":Dana!~dan@a.example PRIVMSG ann :Still there?",
-        b":eve!~eve@b.example PRIVMSG #garden :Anyone for tea?",
-        b":eve!~eve@b.example AWAY :Making tea",
-        b":bob!~bob@a.example KICK #garden Dana Enough",
-        b":ann NOTICE bob :Who was that?",
-        b":bnc PONG bnc :are you there",
-        b":ann PART #garden",
-    ];
-    is_sent(&rt, 1, false, &sent)
+    is_sent(&rt, 1, false, &A_CLIENT_WITH_FOUR_CAPABILITIES_SENT)
 }
+
+const A_CLIENT_THAT_COMES_AGAIN_SENT: [&[u8]; 16] = [
+    b":bnc 001 ann :Welcome to the bouncer",
+    b":bnc 002 ann :Your host is bnc, running version 1",
+    b":bnc 003 ann :This server was created for you",
+    b":bnc 004 ann bnc 1 i biklmnopstv",
+    b":bnc 005 ann CASEMAPPING=ascii PREFIX=(qaohv)~&@%+ CHANTYPES=#&+ \
+        CHANMODES=beI,k,l,imMnOPQRstVz :are supported by this server",
+    b":bnc 422 ann :MOTD File is missing",
+    b":ann JOIN #garden",
+    b":bnc 332 ann #garden :Roses, thyme and sage",
+    b":bnc 353 ann = #garden :@ann ~bob Dana +eve",
+    b":bnc 366 ann #garden :End of NAMES list",
+    b":bnc BATCH +h0 chathistory #garden",
+    b"@batch=h0;time=2026-11-02T10:20:00.000Z :eve!~eve@b.example PRIVMSG #garden \
+        :Anyone for tea?",
+    b":bnc BATCH -h0",
+    b"@time=1970-01-01T00:00:00.000Z :Dana!~dan@a.example PRIVMSG ann :Still there?",
+    b"@time=1970-01-01T00:00:00.000Z :bob!~bob@a.example KICK #garden Dana Enough",
+    b":ann PART #garden",
+];
 
 /// It is played back what came since a client of its name went.
 #[test]
 fn a_client_that_comes_again(rt: HostRuntime) -> Result<(), Fail> {
-    let sent: [&[u8]; 16] = [
-        b":bnc 001 ann :Welcome to the bouncer",
-        b":bnc 002 ann :Your host is bnc, running version 1",
-        b":bnc 003 ann :This server was created for you",
-        b":bnc 004 ann bnc 1 i biklmnopstv",
-        b":bnc 005 ann CASEMAPPING=ascii PREFIX=(qaohv)~&@%+ CHANTYPES=#&+ \
-            CHANMODES=beI,k,l,imMnOPQRstVz :are supported by this server",
-        b":bnc 422 ann :MOTD File is missing",
-        b":ann JOIN #garden",
-        b":bnc 332 ann #garden :Roses, thyme and sage",
-        b":bnc 353 ann = #garden :@ann ~bob Dana +eve",
-        b":bnc 366 ann #garden :End of NAMES list",
-        b":bnc BATCH +h0 chathistory #garden",
-        b"@batch=h0;time=2026-11-02T10:20:00.000Z :eve!~eve@b.example PRIVMSG #garden \
-            :Anyone for tea?",
-        b":bnc BATCH -h0",
-        b"@time=1970-01-01T00:00:00.000Z :Dana!~dan@a.example PRIVMSG ann :Still there?",
-        b"@time=1970-01-01T00:00:00.000Z :bob!~bob@a.example KICK #garden Dana Enough",
-        b":ann PART #garden",
-    ];
-    is_sent(&rt, 2, false, &sent)
+    is_sent(&rt, 2, false, &A_CLIENT_THAT_COMES_AGAIN_SENT)
 }

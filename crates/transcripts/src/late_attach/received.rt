@@ -13,9 +13,7 @@ use welcome::Packet;
 
 /// A line of the network, as its bytes come.
 fn up(alloc: Global, text: &[u8]) -> Result<Event, Fail> {
-    let mut bytes = Vec::new(alloc);
-    bytes.extend_from_slice(text)?;
-    bytes.extend_from_slice(b"\r\n")?;
+    let bytes = [text, b"\r\n"].concat(alloc)?;
     Ok(Event::Up(bytes, Moment(0)))
 }
 

@@ -1,18 +1,46 @@
 //! Lines that come in pieces, and what is skipped between them.
 
-use irc_line::{FeedError, LINE_LIMIT, Splitter};
+use irc_line::{FeedError, LINE_LIMIT, Line, Splitter};
+use std::alloc::Global;
 use std::process::Abort;
 use std::test::Fail;
 
+/// Feeds a piece, and then there are so many lines.
+fn has_lines<R: AllocGlobal + Abort>(
+    rt: &R,
+    splitter: &mut Splitter,
+    lines: &mut Vec<Line>,
+    piece: &[u8],
+    count: usize,
+) -> Result<(), Fail> {
+    splitter.feed(piece, lines)?;
+    assert_eq!(rt; lines.len(), count);
+    Ok(())
+}
+
+/// Feeds a piece that is refused.
+fn is_too_long<R: AllocGlobal + Abort>(
+    rt: &R,
+    splitter: &mut Splitter,
+    lines: &mut Vec<Line>,
+    piece: &[u8],
+) {
+    let count = lines.len();
+    assert!(rt; splitter.feed(piece, lines) == Err(FeedError::TooLong));
+    assert_eq!(rt; lines.len(), count);
+}
+
 /// Two pieces of a line, of which the first has no end.
-fn feed_two<R: AllocGlobal + Abort>(rt: &R, piece: &[u8], rest: &[u8]) -> Result<(), Fail> {
-    let mut splitter = Splitter::new(rt.alloc());
-    let mut lines = Vec::new(rt.alloc());
-    splitter.feed(piece, &mut lines)?;
-    assert!(rt; lines.is_empty());
-    splitter.feed(rest, &mut lines)?;
-    assert!(rt; lines.len() == 1 && splitter.skipped() == 0);
-    for line in &lines {
+fn feed_two<R: AllocGlobal + Abort>(
+    rt: &R,
+    splitter: &mut Splitter,
+    lines: &mut Vec<Line>,
+    (piece, rest): (&[u8], &[u8]),
+) -> Result<(), Fail> {
+    has_lines(rt, splitter, lines, piece, 0)?;
+    has_lines(rt, splitter, lines, rest, 1)?;
+    assert_eq!(rt; splitter.skipped(), 0);
+    for line in &*lines {
         assert!(rt; line.param(1) == Some(b"hi".as_slice()));
     }
     Ok(())
@@ -22,8 +50,9 @@ fn feed_two<R: AllocGlobal + Abort>(rt: &R, piece: &[u8], rest: &[u8]) -> Result
 fn a_line_cut_after_each_byte(rt: HostRuntime) -> Result<(), Fail> {
     let text = b":s 001 Me :hi\r\n";
     for at in 1..15 {
-        let (piece, rest) = text.split_at(at);
-        feed_two(&rt, piece, rest)?;
+        let mut splitter = Splitter::new(rt.alloc());
+        let mut lines = Vec::new(rt.alloc());
+        feed_two(&rt, &mut splitter, &mut lines, text.split_at(at))?;
     }
     Ok(())
 }
@@ -33,32 +62,50 @@ fn what_is_no_line_is_skipped(rt: HostRuntime) -> Result<(), Fail> {
     let mut splitter = Splitter::new(rt.alloc());
     let mut lines = Vec::new(rt.alloc());
     let stream = b"\r\n  \n\n12 x\nNI1CK x\r\nPING \0\nPING\rx\nPING x\r\r\nPING x\nPI";
-    splitter.feed(stream, &mut lines)?;
-    assert_eq!(rt; lines.len(), 1);
+    has_lines(&rt, &mut splitter, &mut lines, stream, 1)?;
     assert_eq!(rt; splitter.skipped(), 5);
-    splitter.feed(b"NG y\nPING z\n", &mut lines)?;
-    assert_eq!(rt; lines.len(), 3);
-    Ok(())
+    has_lines(&rt, &mut splitter, &mut lines, b"NG y\nPING z\n", 3)
+}
+
+/// So many letters behind `PING ` are a line, and one more is none: what is refused is forgotten.
+fn one_above<R: AllocGlobal + Abort>(
+    rt: &R,
+    splitter: &mut Splitter,
+    lines: &mut Vec<Line>,
+    most: &[u8],
+) -> Result<(), Fail> {
+    has_lines(rt, splitter, lines, b"PING ", 0)?;
+    has_lines(rt, splitter, lines, most, 0)?;
+    is_too_long(rt, splitter, lines, b"x");
+    is_too_long(rt, splitter, lines, b"x\nPING\n");
+    has_lines(rt, splitter, lines, b"\nPING", 1)
 }
 
 #[test]
 fn a_line_at_the_limit_and_one_above(rt: HostRuntime) -> Result<(), Fail> {
+    let most = vec![in rt.alloc(); b'x'; LINE_LIMIT - 5]?;
     let mut splitter = Splitter::new(rt.alloc());
     let mut lines = Vec::new(rt.alloc());
-    let most = vec![in rt.alloc(); b'x'; LINE_LIMIT - 5]?;
-    splitter.feed(b"PING ", &mut lines)?;
-    splitter.feed(&most, &mut lines)?;
-    assert!(rt; splitter.feed(b"x", &mut lines) == Err(FeedError::TooLong));
-    assert!(rt; splitter.feed(b"x\nPING\n", &mut lines) == Err(FeedError::TooLong));
-    splitter.feed(b"\nPING", &mut lines)?;
-    assert_eq!(rt; lines.len(), 1);
-    let mut piece = vec![in rt.alloc(); b'\n'; 3]?;
-    piece.extend_from_slice(&most)?;
-    piece.extend_from_slice(b"xxxxx\n")?;
-    splitter.feed(&piece, &mut lines)?;
-    assert_eq!(rt; lines.len(), 3);
-    piece.insert(9, b'x')?;
-    assert!(rt; splitter.feed(&piece, &mut lines) == Err(FeedError::TooLong));
-    assert_eq!(rt; lines.len(), 3);
+    one_above(&rt, &mut splitter, &mut lines, &most)
+}
+
+/// Three empty lines, and a line of so many letters.
+fn lines_in_a_piece(alloc: Global, count: usize) -> Result<Vec<u8>, Fail> {
+    let mut piece = b"\n\n\n".to_vec(alloc)?;
+    for _ in 0..count {
+        piece.push(b'x')?;
+    }
+    piece.push(b'\n')?;
+    Ok(piece)
+}
+
+#[test]
+fn a_line_at_the_limit_within_a_piece(rt: HostRuntime) -> Result<(), Fail> {
+    let mut splitter = Splitter::new(rt.alloc());
+    let mut lines = Vec::new(rt.alloc());
+    let piece = lines_in_a_piece(rt.alloc(), LINE_LIMIT)?;
+    has_lines(&rt, &mut splitter, &mut lines, &piece, 1)?;
+    let longer = lines_in_a_piece(rt.alloc(), LINE_LIMIT + 1)?;
+    is_too_long(&rt, &mut splitter, &mut lines, &longer);
     Ok(())
 }

@@ -40,15 +40,16 @@ const INPUT: &str = ":s CAP * LS * :sasl batch\r\n:s CAP * LS :account-notify=1 
 const SENT: &str = "CAP LS 302\r\nNICK ann\r\nUSER ann 0 * :Ann A\r\n\
     CAP REQ :multi-prefix account-notify\r\nCAP END\r\nNICK ann_\r\n";
 
+const GOES_ON_COMMANDS: [&[u8]; 3] = [b"001", b"376", b"422"];
+
 /// The lines that came with the welcome, and the one that is ended then.
 fn goes_on<R: AllocGlobal + Abort>(rt: &R, welcomed: Welcomed) -> Result<(), Fail> {
     let mut welcomed = welcomed;
     welcomed
         .splitter
         .feed(b"22 ann_ :x\r\n", &mut welcomed.lines)?;
-    let commands = [b"001".as_slice(), b"376", b"422"];
-    assert!(rt; welcomed.lines.len() == commands.len());
-    for (line, command) in welcomed.lines.iter().zip(commands) {
+    assert!(rt; welcomed.lines.len() == GOES_ON_COMMANDS.len());
+    for (line, command) in welcomed.lines.iter().zip(GOES_ON_COMMANDS) {
         assert!(rt; line.is(command));
     }
     Ok(())

@@ -68,6 +68,8 @@ fn registers<R: Read, W: Write>(
     Ok(register(alloc, reader, writer, network_of(&config)?))
 }
 
+const IS_WELCOMED_COMMANDS: [&[u8]; 3] = [b"001", b"005", b"376"];
+
 /// How many lines the welcome came with, and the lines once the rest has come.
 fn is_welcomed<R: AllocGlobal + Abort>(
     rt: &R,
@@ -81,9 +83,8 @@ fn is_welcomed<R: AllocGlobal + Abort>(
     welcomed
         .splitter
         .feed(b"6 ann :end\r\n", &mut welcomed.lines)?;
-    let commands = [b"001".as_slice(), b"005", b"376"];
-    assert!(rt; welcomed.lines.len() == commands.len());
-    for (line, command) in welcomed.lines.iter().zip(commands) {
+    assert!(rt; welcomed.lines.len() == IS_WELCOMED_COMMANDS.len());
+    for (line, command) in welcomed.lines.iter().zip(IS_WELCOMED_COMMANDS) {
         let line: &Line = line;
         assert!(rt; line.is(command));
     }

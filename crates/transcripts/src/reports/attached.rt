@@ -89,6 +89,25 @@ fn a_view_without_channels(rt: HostRuntime) -> Result<(), Fail> {
     Ok(())
 }
 
+const THE_LAST_MESSAGES: [(&str, usize, &str); 3] = [
+    (
+        "batch server-time",
+        3,
+        ":bnc BATCH +h0 chathistory #c
+@batch=h0;time=1970-01-01T00:00:00.000Z :bob!b@h PRIVMSG #c m3
+@batch=h0;time=2020-01-02T03:04:05.678Z :bob!b@h PRIVMSG #c m4
+@batch=h0;time=1970-01-01T00:00:00.000Z :bob!b@h PRIVMSG #c m5
+:bnc BATCH -h0
+",
+    ),
+    (
+        "batch",
+        1,
+        ":bnc BATCH +h0 chathistory #c\n@batch=h0 :bob!b@h PRIVMSG #c m5\n:bnc BATCH -h0\n",
+    ),
+    ("", 2, ":bob!b@h PRIVMSG #c m4\n:bob!b@h PRIVMSG #c m5\n"),
+];
+
 #[test]
 fn the_last_messages(rt: HostRuntime) -> Result<(), Fail> {
     let alloc = rt.alloc();
@@ -96,25 +115,7 @@ fn the_last_messages(rt: HostRuntime) -> Result<(), Fail> {
     let state = format!(in alloc;
         "{GREETING}{SETTINGS}:Me JOIN #c\n:bnc 353 Me = #c Me\n:bnc 366 Me #c :End of NAMES list\n"
     )?;
-    let rows = [
-        (
-            "batch server-time",
-            3,
-            ":bnc BATCH +h0 chathistory #c
-@batch=h0;time=1970-01-01T00:00:00.000Z :bob!b@h PRIVMSG #c m3
-@batch=h0;time=2020-01-02T03:04:05.678Z :bob!b@h PRIVMSG #c m4
-@batch=h0;time=1970-01-01T00:00:00.000Z :bob!b@h PRIVMSG #c m5
-:bnc BATCH -h0
-",
-        ),
-        (
-            "batch",
-            1,
-            ":bnc BATCH +h0 chathistory #c\n@batch=h0 :bob!b@h PRIVMSG #c m5\n:bnc BATCH -h0\n",
-        ),
-        ("", 2, ":bob!b@h PRIVMSG #c m4\n:bob!b@h PRIVMSG #c m5\n"),
-    ];
-    for (names, history, playback) in rows {
+    for (names, history, playback) in THE_LAST_MESSAGES {
         let want = format!(in alloc; "{state}{playback}")?;
         let written = written_for(alloc, input.as_str(), names, history)?;
         assert!(rt; written.as_slice() == want.as_bytes());

@@ -3,6 +3,7 @@
 use commands::{Fault, check_file, run_check};
 use std::io;
 use std::io::Write;
+use std::process::Abort;
 use std::test::Fail;
 
 const EXAMPLE: &str =
@@ -22,16 +23,21 @@ impl Write for Full {
     }
 }
 
-#[test]
-fn one_line_or_a_fault(rt: HostRuntime) -> Result<(), Fail> {
-    let rows = [
-        (EXAMPLE, "users 1 networks 1\n", ""),
-        ("listen = \"h:1\"", "users 0 networks 0\n", ""),
-        ("", "", "missing listen"),
-        ("listen = 5", "", "bad value listen"),
-        ("listen", "", "not TOML"),
-    ];
-    for (text, want, fault) in rows {
+const ONE_LINE_OR_A_FAULT: [(&str, &str, &str); 5] = [
+    (EXAMPLE, "users 1 networks 1\n", ""),
+    ("listen = \"h:1\"", "users 0 networks 0\n", ""),
+    ("", "", "missing listen"),
+    ("listen = 5", "", "bad value listen"),
+    ("listen", "", "not TOML"),
+];
+
+/// Each row holds.
+fn check_one_line_or_a_fault<R: AllocGlobal + Abort>(
+    rt: &R,
+    rows: &[(&str, &str, &str)],
+) -> Result<(), Fail> {
+    for row in rows {
+        let (text, want, fault) = *row;
         let mut out = Vec::new(rt.alloc());
         let told = match run_check(rt.alloc(), text.as_bytes(), &mut out) {
             Ok(()) => String::new(rt.alloc()),
@@ -41,6 +47,11 @@ fn one_line_or_a_fault(rt: HostRuntime) -> Result<(), Fail> {
         assert_eq!(rt; told.as_str(), fault);
     }
     Ok(())
+}
+
+#[test]
+fn one_line_or_a_fault(rt: HostRuntime) -> Result<(), Fail> {
+    check_one_line_or_a_fault(&rt, &ONE_LINE_OR_A_FAULT)
 }
 
 #[test]

@@ -3,6 +3,7 @@
 use commands::{Fault, run_view};
 use std::alloc::Global;
 use std::io::{self, ErrorKind, Read, Write};
+use std::process::Abort;
 use std::test::Fail;
 
 /// How many bytes one read asks for.
@@ -90,24 +91,34 @@ fn report_on(alloc: Global, mut input: &[u8]) -> Result<Vec<u8>, Fault> {
     Ok(out)
 }
 
-#[test]
-fn inputs_and_their_reports(rt: HostRuntime) -> Result<(), Fail> {
-    let rows = [
-        ("", "no welcome\n"),
-        (WELCOME, "nick Me\n"),
-        (":s 001 Me :hi", "no welcome\n"),
-        (JOINED, "nick Me\nchannel #c\nmember bob\nmember Me\n"),
-        ("\r\n12 x\r\nNI1CK x\r\na\0b\r\n", "no welcome\nskipped 3\n"),
-        (
-            ":s 001 Me :hi\r\n12 x\n:Me!m@h JOIN #b\n:Me!m@h JOIN #A\n3\n",
-            "nick Me\nchannel #A\nmember Me\nchannel #b\nmember Me\nskipped 2\n",
-        ),
-    ];
-    for (input, want) in rows {
+const INPUTS_AND_THEIR_REPORTS: [(&str, &str); 6] = [
+    ("", "no welcome\n"),
+    (WELCOME, "nick Me\n"),
+    (":s 001 Me :hi", "no welcome\n"),
+    (JOINED, "nick Me\nchannel #c\nmember bob\nmember Me\n"),
+    ("\r\n12 x\r\nNI1CK x\r\na\0b\r\n", "no welcome\nskipped 3\n"),
+    (
+        ":s 001 Me :hi\r\n12 x\n:Me!m@h JOIN #b\n:Me!m@h JOIN #A\n3\n",
+        "nick Me\nchannel #A\nmember Me\nchannel #b\nmember Me\nskipped 2\n",
+    ),
+];
+
+/// Each row holds.
+fn check_inputs_and_their_reports<R: AllocGlobal + Abort>(
+    rt: &R,
+    rows: &[(&str, &str)],
+) -> Result<(), Fail> {
+    for row in rows {
+        let (input, want) = *row;
         let report = report_on(rt.alloc(), input.as_bytes())?;
         assert!(rt; report.as_slice() == want.as_bytes());
     }
     Ok(())
+}
+
+#[test]
+fn inputs_and_their_reports(rt: HostRuntime) -> Result<(), Fail> {
+    check_inputs_and_their_reports(&rt, &INPUTS_AND_THEIR_REPORTS)
 }
 
 #[test]
@@ -119,24 +130,25 @@ fn who_parts_is_gone(rt: HostRuntime) -> Result<(), Fail> {
     Ok(())
 }
 
+const PEOPLE_WHO_CHANGE_THEIR_NAMES_AND_GO: [(&str, &str); 3] = [
+    (
+        ":bob!b@h NICK Bob2\n:Me!m@h NICK Moi\n:s KICK #c bob2 :out\n",
+        "nick Moi\nchannel #c\nmember Moi\n",
+    ),
+    (
+        ":bob!b@h NICK Bob2\n:Me!m@h NICK Moi\n:Moi!m@h QUIT :bye\n",
+        "nick Moi\n",
+    ),
+    (
+        ":bob!b@h NICK Me\n:@x!u@h JOIN #c\n",
+        "nick Me\nchannel #c\nmember bob\nmember Me\n",
+    ),
+];
+
 #[test]
 fn people_who_change_their_names_and_go(rt: HostRuntime) -> Result<(), Fail> {
     let alloc = rt.alloc();
-    let rows = [
-        (
-            ":bob!b@h NICK Bob2\n:Me!m@h NICK Moi\n:s KICK #c bob2 :out\n",
-            "nick Moi\nchannel #c\nmember Moi\n",
-        ),
-        (
-            ":bob!b@h NICK Bob2\n:Me!m@h NICK Moi\n:Moi!m@h QUIT :bye\n",
-            "nick Moi\n",
-        ),
-        (
-            ":bob!b@h NICK Me\n:@x!u@h JOIN #c\n",
-            "nick Me\nchannel #c\nmember bob\nmember Me\n",
-        ),
-    ];
-    for (lines, want) in rows {
+    for (lines, want) in PEOPLE_WHO_CHANGE_THEIR_NAMES_AND_GO {
         let input = format!(in alloc; "{JOINED}{lines}")?;
         let report = report_on(alloc, input.as_bytes())?;
         assert!(rt; report.as_slice() == want.as_bytes());
@@ -144,27 +156,37 @@ fn people_who_change_their_names_and_go(rt: HostRuntime) -> Result<(), Fail> {
     Ok(())
 }
 
-#[test]
-fn names_by_the_settings_of_the_network(rt: HostRuntime) -> Result<(), Fail> {
-    let rows = [
-        (
-            ":s 001 Me :hi\n:s 005 Me PREFIX=(ov)@+ CHANTYPES=# :are supported\n:s 376 Me :end\n:Me!m@h JOIN #c\n:a[b!x@h JOIN #c\n:A{B!x@h PART #c\n",
-            "nick Me\nchannel #c\nmember Me\n",
-        ),
-        (
-            ":s 001 Me :hi\n:s 005 Me PREFIX=(ov)@+ CHANTYPES=# CASEMAPPING=ascii :are supported\n:s 376 Me :end\n:Me!m@h JOIN #c\n:a[b!x@h JOIN #c\n:A{B!x@h PART #c\n",
-            "nick Me\nchannel #c\nmember a[b\nmember Me\n",
-        ),
-        (
-            ":s 001 Me :hi\n:Me!m@h JOIN #c\n:s 005 Me CASEMAPPING=ascii :are supported\n:a[b!x@h JOIN #c\n:A{B!x@h PART #c\n",
-            "nick Me\nchannel #c\nmember Me\n",
-        ),
-    ];
-    for (input, want) in rows {
+const NAMES_BY_THE_SETTINGS_OF_THE_NETWORK: [(&str, &str); 3] = [
+    (
+        ":s 001 Me :hi\n:s 005 Me PREFIX=(ov)@+ CHANTYPES=# :are supported\n:s 376 Me :end\n:Me!m@h JOIN #c\n:a[b!x@h JOIN #c\n:A{B!x@h PART #c\n",
+        "nick Me\nchannel #c\nmember Me\n",
+    ),
+    (
+        ":s 001 Me :hi\n:s 005 Me PREFIX=(ov)@+ CHANTYPES=# CASEMAPPING=ascii :are supported\n:s 376 Me :end\n:Me!m@h JOIN #c\n:a[b!x@h JOIN #c\n:A{B!x@h PART #c\n",
+        "nick Me\nchannel #c\nmember a[b\nmember Me\n",
+    ),
+    (
+        ":s 001 Me :hi\n:Me!m@h JOIN #c\n:s 005 Me CASEMAPPING=ascii :are supported\n:a[b!x@h JOIN #c\n:A{B!x@h PART #c\n",
+        "nick Me\nchannel #c\nmember Me\n",
+    ),
+];
+
+/// Each row holds.
+fn check_names_by_the_settings_of_the_network<R: AllocGlobal + Abort>(
+    rt: &R,
+    rows: &[(&str, &str)],
+) -> Result<(), Fail> {
+    for row in rows {
+        let (input, want) = *row;
         let report = report_on(rt.alloc(), input.as_bytes())?;
         assert!(rt; report.as_slice() == want.as_bytes());
     }
     Ok(())
+}
+
+#[test]
+fn names_by_the_settings_of_the_network(rt: HostRuntime) -> Result<(), Fail> {
+    check_names_by_the_settings_of_the_network(&rt, &NAMES_BY_THE_SETTINGS_OF_THE_NETWORK)
 }
 
 #[test]
@@ -177,33 +199,34 @@ fn a_rank_stays_with_who_is_renamed(rt: HostRuntime) -> Result<(), Fail> {
     Ok(())
 }
 
+const MODES_OF_A_CHANNEL: [(&str, &str); 6] = [
+    (
+        ":bob!b@h JOIN #c\n:s MODE #c +lo 5 bob\n",
+        "modes +l 5\nmember @bob\nmember Me\n",
+    ),
+    (
+        ":bob!b@h JOIN #c\n:s MODE #c +lo 5 bob\n:s MODE #c -l+v bob\n",
+        "member @+bob\nmember Me\n",
+    ),
+    (
+        ":s MODE #c +nt\n:s 324 Me #c +k key\n",
+        "modes +k key\nmember Me\n",
+    ),
+    (
+        ":s MODE #c +nt\n:s 324 Me #c +k key\n:s MODE #c -k\n",
+        "modes +k key\nmember Me\n",
+    ),
+    (
+        ":s MODE #c +nt\n:s 324 Me #c +k key\n:s MODE #c -k\n:s MODE #c -k x\n",
+        "member Me\n",
+    ),
+    (":s MODE #c +tln 5\n", "modes +lnt 5\nmember Me\n"),
+];
+
 #[test]
 fn modes_of_a_channel(rt: HostRuntime) -> Result<(), Fail> {
     let alloc = rt.alloc();
-    let rows = [
-        (
-            ":bob!b@h JOIN #c\n:s MODE #c +lo 5 bob\n",
-            "modes +l 5\nmember @bob\nmember Me\n",
-        ),
-        (
-            ":bob!b@h JOIN #c\n:s MODE #c +lo 5 bob\n:s MODE #c -l+v bob\n",
-            "member @+bob\nmember Me\n",
-        ),
-        (
-            ":s MODE #c +nt\n:s 324 Me #c +k key\n",
-            "modes +k key\nmember Me\n",
-        ),
-        (
-            ":s MODE #c +nt\n:s 324 Me #c +k key\n:s MODE #c -k\n",
-            "modes +k key\nmember Me\n",
-        ),
-        (
-            ":s MODE #c +nt\n:s 324 Me #c +k key\n:s MODE #c -k\n:s MODE #c -k x\n",
-            "member Me\n",
-        ),
-        (":s MODE #c +tln 5\n", "modes +lnt 5\nmember Me\n"),
-    ];
-    for (lines, want) in rows {
+    for (lines, want) in MODES_OF_A_CHANNEL {
         let input = format!(in alloc; "{READY}{lines}")?;
         let report = report_on(alloc, input.as_bytes())?;
         let whole = format!(in alloc; "nick Me\nchannel #c\n{want}")?;
@@ -212,20 +235,21 @@ fn modes_of_a_channel(rt: HostRuntime) -> Result<(), Fail> {
     Ok(())
 }
 
+const TOPICS: [(&str, &str); 2] = [
+    (
+        ":s 332 Me #c :Hello all\n",
+        "nick Me\nchannel #c\ntopic Hello all\nmember Me\n",
+    ),
+    (
+        ":s 332 Me #c :Hello all\n:s 331 Me #c :No topic is set\n",
+        "nick Me\nchannel #c\nmember Me\n",
+    ),
+];
+
 #[test]
 fn topics(rt: HostRuntime) -> Result<(), Fail> {
     let alloc = rt.alloc();
-    let rows = [
-        (
-            ":s 332 Me #c :Hello all\n",
-            "nick Me\nchannel #c\ntopic Hello all\nmember Me\n",
-        ),
-        (
-            ":s 332 Me #c :Hello all\n:s 331 Me #c :No topic is set\n",
-            "nick Me\nchannel #c\nmember Me\n",
-        ),
-    ];
-    for (lines, want) in rows {
+    for (lines, want) in TOPICS {
         let input = format!(in alloc; "{READY}{lines}")?;
         let report = report_on(alloc, input.as_bytes())?;
         assert!(rt; report.as_slice() == want.as_bytes());
@@ -242,24 +266,25 @@ fn all_that_is_told_of_a_channel(rt: HostRuntime) -> Result<(), Fail> {
     Ok(())
 }
 
+const WHAT_IS_KNOWN_OF_A_PERSON: [(&str, &str); 3] = [
+    (
+        ":bob!b@h JOIN #c bobacc :Bob\n:bob!b@h PART #c\n:bob!b@h JOIN #c\n",
+        "nick Me\nchannel #c\nmember bob\nmember Me\n",
+    ),
+    (
+        ":bob!b@h JOIN #c\n:bob!b@h NICK Me\n:@x!u@h JOIN #c\n:s MODE #c +k :a b\n",
+        "nick Me\nchannel #c\nmember bob\nmember Me\n",
+    ),
+    (
+        TWO_CHANNELS,
+        "nick Me\nchannel #c\nmember Me\nchannel #d\nmember bob account bobacc\nmember Me\n",
+    ),
+];
+
 #[test]
 fn what_is_known_of_a_person(rt: HostRuntime) -> Result<(), Fail> {
     let alloc = rt.alloc();
-    let rows = [
-        (
-            ":bob!b@h JOIN #c bobacc :Bob\n:bob!b@h PART #c\n:bob!b@h JOIN #c\n",
-            "nick Me\nchannel #c\nmember bob\nmember Me\n",
-        ),
-        (
-            ":bob!b@h JOIN #c\n:bob!b@h NICK Me\n:@x!u@h JOIN #c\n:s MODE #c +k :a b\n",
-            "nick Me\nchannel #c\nmember bob\nmember Me\n",
-        ),
-        (
-            TWO_CHANNELS,
-            "nick Me\nchannel #c\nmember Me\nchannel #d\nmember bob account bobacc\nmember Me\n",
-        ),
-    ];
-    for (lines, want) in rows {
+    for (lines, want) in WHAT_IS_KNOWN_OF_A_PERSON {
         let input = format!(in alloc; "{READY}{lines}")?;
         let report = report_on(alloc, input.as_bytes())?;
         assert!(rt; report.as_slice() == want.as_bytes());

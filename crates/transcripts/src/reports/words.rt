@@ -30,20 +30,21 @@ fn words_and_what_they_ask_for(rt: HostRuntime) -> Result<(), Fail> {
     Ok(())
 }
 
+const WHAT_IS_WRONG_WITH_WORDS: [([&str; 2], &str); 3] = [
+    (["chek", "a"], "error: unrecognized subcommand 'chek'"),
+    (
+        ["view", "bnc.toml"],
+        "error: unexpected argument 'bnc.toml' found",
+    ),
+    (
+        ["check", "--other"],
+        "error: unexpected argument '--other' found",
+    ),
+];
+
 #[test]
 fn what_is_wrong_with_words(rt: HostRuntime) -> Result<(), Fail> {
-    let rows = [
-        (["chek", "a"], "error: unrecognized subcommand 'chek'"),
-        (
-            ["view", "bnc.toml"],
-            "error: unexpected argument 'bnc.toml' found",
-        ),
-        (
-            ["check", "--other"],
-            "error: unexpected argument '--other' found",
-        ),
-    ];
-    for (words, want) in rows {
+    for (words, want) in WHAT_IS_WRONG_WITH_WORDS {
         let told = explain_words(rt.alloc(), &words)?.ok_or("nothing is told")?;
         assert_eq!(rt; told.as_str(), want);
     }
@@ -54,17 +55,18 @@ fn what_is_wrong_with_words(rt: HostRuntime) -> Result<(), Fail> {
     Ok(())
 }
 
+const LISTS_OF_CAPABILITIES: [(&str, Option<&[u8]>); 5] = [
+    ("", Some(b"")),
+    ("batch", Some(b"batch")),
+    ("batch,server-time", Some(b"server-time batch")),
+    ("multi-prefix,-multi-prefix", Some(b"")),
+    ("batch,sasl", None),
+];
+
 #[test]
 fn lists_of_capabilities(rt: HostRuntime) -> Result<(), Fail> {
     let alloc = rt.alloc();
-    let rows: [(&str, Option<&[u8]>); 5] = [
-        ("", Some(b"")),
-        ("batch", Some(b"batch")),
-        ("batch,server-time", Some(b"server-time batch")),
-        ("multi-prefix,-multi-prefix", Some(b"")),
-        ("batch,sasl", None),
-    ];
-    for (list, want) in rows {
+    for (list, want) in LISTS_OF_CAPABILITIES {
         let caps = match read_words(alloc, &["attach", "--caps", list]) {
             Ok(Command::Attach(caps, 500)) => Some(caps),
             Err(WordsFault::Bad) => None,
@@ -79,10 +81,12 @@ fn lists_of_capabilities(rt: HostRuntime) -> Result<(), Fail> {
     Ok(())
 }
 
+const NUMBERS_OF_MESSAGES: [&str; 5] = ["attach", "--history", "10000", "--caps", "batch"];
+
 #[test]
 fn numbers_of_messages(rt: HostRuntime) -> Result<(), Fail> {
     let alloc = rt.alloc();
-    let good = read_words(alloc, &["attach", "--history", "10000", "--caps", "batch"])?;
+    let good = read_words(alloc, &NUMBERS_OF_MESSAGES)?;
     assert!(rt; matches!(&good, Command::Attach(caps, 10_000) if caps.batch));
     assert!(rt;
         matches!(
@@ -101,6 +105,10 @@ fn numbers_of_messages(rt: HostRuntime) -> Result<(), Fail> {
     Ok(())
 }
 
+const WORDS_THAT_ASK_FOR_NOTHING: [&str; 3] = ["check", "a", "b"];
+
+const WORDS_THAT_ASK_FOR_NOTHING_THEN: [&str; 3] = ["check", "--other", "a"];
+
 #[test]
 fn words_that_ask_for_nothing(rt: HostRuntime) {
     let alloc = rt.alloc();
@@ -108,13 +116,13 @@ fn words_that_ask_for_nothing(rt: HostRuntime) {
     assert!(rt; matches!(read_words(alloc, &["check"]), Err(WordsFault::Bad)));
     assert!(rt;
         matches!(
-            read_words(alloc, &["check", "a", "b"]),
+            read_words(alloc, &WORDS_THAT_ASK_FOR_NOTHING),
             Err(WordsFault::Bad)
         )
     );
     assert!(rt;
         matches!(
-            read_words(alloc, &["check", "--other", "a"]),
+            read_words(alloc, &WORDS_THAT_ASK_FOR_NOTHING_THEN),
             Err(WordsFault::Bad)
         )
     );

@@ -50,20 +50,21 @@ fn check_members<R: AllocGlobal + Abort>(
     Ok(())
 }
 
+const MEMBERS_OF_A_NAME_LIST: [(&[u8], &[u8]); 8] = [
+    (b":s 353 Me = #c :Me @+bob  +eve!e@h ", b"Me @+bob +eve "),
+    (b":s 353 Me = #c :+@+bob", b"@+bob "),
+    (b":s 353 Me = #c :%bob @", b"%bob @ "),
+    (b":s 353 Me = #c @bob", b"@bob "),
+    (b":s 353 Me = #c :", b""),
+    (b":s 353 Me = #c", b""),
+    (b":s 353 Me #c :@bob", b""),
+    (b":s 366 Me = #c :@bob", b""),
+];
+
 #[test]
 fn members_of_a_name_list(rt: HostRuntime) -> Result<(), Fail> {
-    let rows: [(&[u8], &[u8]); 8] = [
-        (b":s 353 Me = #c :Me @+bob  +eve!e@h ", b"Me @+bob +eve "),
-        (b":s 353 Me = #c :+@+bob", b"@+bob "),
-        (b":s 353 Me = #c :%bob @", b"%bob @ "),
-        (b":s 353 Me = #c @bob", b"@bob "),
-        (b":s 353 Me = #c :", b""),
-        (b":s 353 Me = #c", b""),
-        (b":s 353 Me #c :@bob", b""),
-        (b":s 366 Me = #c :@bob", b""),
-    ];
     let settings = Support::new(rt.alloc())?;
-    for (text, wanted) in &rows {
+    for (text, wanted) in &MEMBERS_OF_A_NAME_LIST {
         check_members(&rt, &settings, &line(rt.alloc(), text)?, wanted)?;
     }
     Ok(())
@@ -81,19 +82,20 @@ fn check_words<R: AllocGlobal + Abort>(
     Ok(())
 }
 
+const WORDS_WITH_USER_AND_HOST: [(&[u8], &[u8]); 4] = [
+    (
+        b":s 353 Me = #c :Me!m@h +@bob!b@h  +eve @",
+        b"Me!m@h @+bob!b@h +eve @ ",
+    ),
+    (b":s 353 Me = #c :%bob!b@h!x", b"%bob!b@h!x "),
+    (b":s 353 Me = #c", b""),
+    (b":s 366 Me = #c :@bob", b""),
+];
+
 #[test]
 fn words_with_user_and_host(rt: HostRuntime) -> Result<(), Fail> {
-    let rows: [(&[u8], &[u8]); 4] = [
-        (
-            b":s 353 Me = #c :Me!m@h +@bob!b@h  +eve @",
-            b"Me!m@h @+bob!b@h +eve @ ",
-        ),
-        (b":s 353 Me = #c :%bob!b@h!x", b"%bob!b@h!x "),
-        (b":s 353 Me = #c", b""),
-        (b":s 366 Me = #c :@bob", b""),
-    ];
     let settings = Support::new(rt.alloc())?;
-    for (text, wanted) in &rows {
+    for (text, wanted) in &WORDS_WITH_USER_AND_HOST {
         check_words(&rt, &settings, &line(rt.alloc(), text)?, wanted)?;
     }
     Ok(())

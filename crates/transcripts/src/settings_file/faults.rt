@@ -170,39 +170,48 @@ fn at_most_64_channels(rt: HostRuntime) -> Result<(), Fail> {
     Ok(())
 }
 
-#[test]
-fn the_first_fault_is_told(rt: HostRuntime) -> Result<(), Fail> {
-    let rows: [(&[u8], &str); 13] = [
-        (b"", "missing listen"),
-        (b"listen = ", "not TOML"),
-        (b"listen = \"h:1\"\nlisten = \"h:2\"", "not TOML"),
-        (b"listen = \"h:1\" # \xff", "not TOML"),
-        (b"history = 0", "missing listen"),
-        (
-            b"listen = \"h:1\"\nretry = 0\nhistory = 0",
-            "bad value history",
-        ),
-        (b"listen = \"h:1\"\nretry = 0\nuser = 5", "bad value retry"),
-        (b"listen = \"h:1\"\nuser = 5", "bad value user"),
-        (b"listen = \"h:1\"\nuser = []", ""),
-        (b"listen = \"h:1\"\nuser = [{}, 5]", "bad value user"),
-        (
-            b"listen = \"h:1\"\n[user]\nname = \"ann\"",
-            "bad value user",
-        ),
-        (
-            b"listen = \"h:1\"\nuser = [{name = \"a\", salt = \"\", network = 5}]",
-            "missing user.password",
-        ),
-        (
-            b"listen = \"h:1\"\nuser = [{}]\nhistory = 0",
-            "bad value history",
-        ),
-    ];
-    for (text, want) in &rows {
-        check_told(&rt, text, want)?;
+const THE_FIRST_FAULT_IS_TOLD: [(&[u8], &str); 13] = [
+    (b"", "missing listen"),
+    (b"listen = ", "not TOML"),
+    (b"listen = \"h:1\"\nlisten = \"h:2\"", "not TOML"),
+    (b"listen = \"h:1\" # \xff", "not TOML"),
+    (b"history = 0", "missing listen"),
+    (
+        b"listen = \"h:1\"\nretry = 0\nhistory = 0",
+        "bad value history",
+    ),
+    (b"listen = \"h:1\"\nretry = 0\nuser = 5", "bad value retry"),
+    (b"listen = \"h:1\"\nuser = 5", "bad value user"),
+    (b"listen = \"h:1\"\nuser = []", ""),
+    (b"listen = \"h:1\"\nuser = [{}, 5]", "bad value user"),
+    (
+        b"listen = \"h:1\"\n[user]\nname = \"ann\"",
+        "bad value user",
+    ),
+    (
+        b"listen = \"h:1\"\nuser = [{name = \"a\", salt = \"\", network = 5}]",
+        "missing user.password",
+    ),
+    (
+        b"listen = \"h:1\"\nuser = [{}]\nhistory = 0",
+        "bad value history",
+    ),
+];
+
+/// Each row holds.
+fn check_the_first_fault_is_told<R: AllocGlobal + Abort>(
+    rt: &R,
+    rows: &[(&[u8], &str)],
+) -> Result<(), Fail> {
+    for (text, want) in rows {
+        check_told(rt, text, want)?;
     }
     Ok(())
+}
+
+#[test]
+fn the_first_fault_is_told(rt: HostRuntime) -> Result<(), Fail> {
+    check_the_first_fault_is_told(&rt, &THE_FIRST_FAULT_IS_TOLD)
 }
 
 /// A user table, without a network and with the name `name`.

@@ -1,8 +1,9 @@
 //! Settings that are read.
 
 use super::lines_with;
-use bnc_config::{Config, Key, NetworkConfig, Place};
+use bnc_config::{Config, Key, NetworkConfig, Place, UserConfig};
 use std::alloc::Global;
+use std::process::Abort;
 use std::test::Fail;
 
 /// The settings of the example.
@@ -11,67 +12,74 @@ fn example(alloc: Global) -> Result<Config, Fail> {
     Ok(Config::read(alloc, text.as_bytes())?)
 }
 
+/// The keys at the top of the example.
+fn has_the_top<R: AllocGlobal + Abort>(rt: &R, config: &Config) {
+    assert!(rt; config.listen() == "127.0.0.1:6667");
+    assert!(rt; config.history() == 500 && config.retry() == 30);
+    assert!(rt; config.user_count() == 1);
+    assert!(rt; config.network_count(0) == 1 && config.network_count(1) == 0);
+}
+
 #[test]
 fn keys_at_the_top(rt: HostRuntime) -> Result<(), Fail> {
-    let config = example(rt.alloc())?;
-    assert_eq!(rt; config.listen(), "127.0.0.1:6667");
-    assert_eq!(rt; config.history(), 500);
-    assert_eq!(rt; config.retry(), 30);
-    assert_eq!(rt; config.user_count(), 1);
-    assert_eq!(rt; config.network_count(0), 1);
-    assert_eq!(rt; config.network_count(1), 0);
+    has_the_top(&rt, &example(rt.alloc())?);
     Ok(())
+}
+
+/// Whether a user is that of the example.
+fn is_ann(user: &UserConfig) -> bool {
+    user.name() == b"ann".as_slice()
+        && user.salt() == b"a".as_slice()
+        && user.digest()[..2] == [0xba, 0x78]
+        && user.networks().len() == 1
 }
 
 #[test]
 fn keys_of_a_user(rt: HostRuntime) -> Result<(), Fail> {
     let config = example(rt.alloc())?;
     for user in config.users() {
-        assert!(rt; user.name() == b"ann".as_slice());
-        assert!(rt; user.salt() == b"a".as_slice());
-        assert!(rt; user.digest()[..2] == [0xba, 0x78]);
-        assert_eq!(rt; user.networks().len(), 1);
+        assert!(rt; is_ann(user));
     }
     Ok(())
 }
 
+/// The texts of the example's network.
+fn has_the_texts<R: AllocGlobal + Abort>(rt: &R, network: &NetworkConfig) {
+    assert!(rt; network.name() == b"net".as_slice());
+    assert!(rt; network.address() == "127.0.0.1:6660");
+    assert!(rt; network.nick() == b"ann".as_slice());
+    assert!(rt; network.user() == b"ann".as_slice());
+    assert!(rt; network.realname() == b"Ann A".as_slice());
+    assert!(rt; network.password() == Some(b"secret".as_slice()));
+}
+
+/// The channel of the example's network.
+fn has_the_channel<R: AllocGlobal + Abort>(rt: &R, network: &NetworkConfig) {
+    for channel in network.join() {
+        assert!(rt; channel.as_str() == "#c" && channel.as_bytes() == b"#c".as_slice());
+    }
+    assert_eq!(rt; network.join().len(), 1);
+}
+
+/// The place of the example's network.
+const PLACE: Place = Place {
+    user: 0,
+    network: 0,
+};
+
 #[test]
 fn keys_of_a_network(rt: HostRuntime) -> Result<(), Fail> {
     let config = example(rt.alloc())?;
-    let place = config.find(b"ann", b"net").ok_or("no place")?;
-    assert_eq!(rt;
-        place,
-        Place {
-            user: 0,
-            network: 0
-        }
-    );
-    let network = config.network(place).ok_or("no network")?;
-    let rows = [
-        (network.name(), b"net".as_slice()),
-        (network.address().as_bytes(), b"127.0.0.1:6660"),
-        (network.nick(), b"ann"),
-        (network.user(), b"ann"),
-        (network.realname(), b"Ann A"),
-        (network.password().unwrap_or(b""), b"secret"),
-    ];
-    for (found, want) in rows {
-        assert!(rt; found == want);
-    }
-    for channel in network.join() {
-        assert_eq!(rt; channel.as_str(), "#c");
-        assert!(rt; channel.as_bytes() == b"#c".as_slice());
-    }
-    assert_eq!(rt; network.join().len(), 1);
+    assert!(rt; config.find(b"ann", b"net") == Some(PLACE));
+    let network = config.network(PLACE).ok_or("no network")?;
+    has_the_texts(&rt, network);
+    has_the_channel(&rt, network);
     Ok(())
 }
 
 /// The first network of settings, if there is one.
 fn first_network(config: &Config) -> Option<&NetworkConfig> {
-    config.network(Place {
-        user: 0,
-        network: 0,
-    })
+    config.network(PLACE)
 }
 
 #[test]
@@ -105,32 +113,44 @@ fn a_network_without_channels(rt: HostRuntime) -> Result<(), Fail> {
     Ok(())
 }
 
+/// Users, passwords, and whether they are let in.
+const PASSWORDS: [(&[u8], &[u8], bool); 8] = [
+    (b"ann", b"bc", true),
+    (b"ann", b"bd", false),
+    (b"ann", b"b", false),
+    (b"ann", b"bcd", false),
+    (b"ann", b"", false),
+    (b"ann", b"abc", false),
+    (b"Ann", b"bc", false),
+    (b"an", b"bc", false),
+];
+
+/// Each row of passwords.
+fn lets_in<R: AllocGlobal + Abort>(rt: &R, config: &Config, rows: &[(&[u8], &[u8], bool)]) {
+    for (user, password, is_let_in) in rows {
+        assert!(rt; config.password_matches(user, password) == *is_let_in);
+    }
+}
+
 #[test]
 fn passwords_are_compared_byte_for_byte(rt: HostRuntime) -> Result<(), Fail> {
-    let config = example(rt.alloc())?;
-    let rows: [(&[u8], &[u8], bool); 8] = [
-        (b"ann", b"bc", true),
-        (b"ann", b"bd", false),
-        (b"ann", b"b", false),
-        (b"ann", b"bcd", false),
-        (b"ann", b"", false),
-        (b"ann", b"abc", false),
-        (b"Ann", b"bc", false),
-        (b"an", b"bc", false),
-    ];
-    for (user, password, is_taken) in &rows {
-        assert!(rt; config.password_matches(user, password) == *is_taken);
-    }
+    lets_in(&rt, &example(rt.alloc())?, &PASSWORDS);
     Ok(())
+}
+
+/// Users and networks that the example has not.
+const NO_PLACES: [(&[u8], &[u8]); 3] = [(b"ann", b"Net"), (b"Ann", b"net"), (b"net", b"ann")];
+
+/// Each row is of no place.
+fn has_none<R: AllocGlobal + Abort>(rt: &R, config: &Config, rows: &[(&[u8], &[u8])]) {
+    for (user, network) in rows {
+        assert!(rt; config.find(user, network).is_none());
+    }
 }
 
 #[test]
 fn places_that_are_not_found(rt: HostRuntime) -> Result<(), Fail> {
-    let config = example(rt.alloc())?;
-    let rows: [(&[u8], &[u8]); 3] = [(b"ann", b"Net"), (b"Ann", b"net"), (b"net", b"ann")];
-    for (user, network) in &rows {
-        assert!(rt; config.find(user, network).is_none());
-    }
+    has_none(&rt, &example(rt.alloc())?, &NO_PLACES);
     Ok(())
 }
 

@@ -92,31 +92,42 @@ impl Rows for Accounts<'_> {
     }
 }
 
+const ACCOUNTS_BY_NICK: [&[u8]; 3] = [
+    b":s 001 Me :hi",
+    b":Me!m@h JOIN #c",
+    b":bob!b@h JOIN #c bobacc :Bob",
+];
+
+const ACCOUNTS_BY_NICK_THEN: [(&[u8], Option<&[u8]>); 3] = [
+    (b"BOB", Some(b"bobacc")),
+    (b"Me", None),
+    (b"eve", None),
+];
+
 #[test]
 fn accounts_by_nick(rt: HostRuntime) -> Result<(), Fail> {
-    check_after(
-        &rt,
-        &[
-            b":s 001 Me :hi",
-            b":Me!m@h JOIN #c",
-            b":bob!b@h JOIN #c bobacc :Bob",
-        ],
-        &Accounts(&[(b"BOB", Some(b"bobacc")), (b"Me", None), (b"eve", None)]),
-    )
+    check_after(&rt, &ACCOUNTS_BY_NICK, &Accounts(&ACCOUNTS_BY_NICK_THEN))
 }
+
+const NO_ACCOUNT_OF_WHAT_IS_NO_NICK: [&[u8]; 4] = [
+    b":s 001 Me :hi",
+    b":Me!m@h JOIN #c",
+    b":^x!u@h JOIN #c xacc :X",
+    b":^x!u@h AWAY :gone",
+];
+
+const NO_ACCOUNT_OF_WHAT_IS_NO_NICK_SHOWN: [(&[u8], Option<&[u8]>); 2] = [
+    (b"^x", Some(b"xacc")),
+    (b"~x", None),
+];
 
 /// The account of a nick that is none, but has the key of one.
 #[test]
 fn no_account_of_what_is_no_nick(rt: HostRuntime) -> Result<(), Fail> {
     check_after(
         &rt,
-        &[
-            b":s 001 Me :hi",
-            b":Me!m@h JOIN #c",
-            b":^x!u@h JOIN #c xacc :X",
-            b":^x!u@h AWAY :gone",
-        ],
-        &Accounts(&[(b"^x", Some(b"xacc")), (b"~x", None)]),
+        &NO_ACCOUNT_OF_WHAT_IS_NO_NICK,
+        &Accounts(&NO_ACCOUNT_OF_WHAT_IS_NO_NICK_SHOWN),
     )
 }
 
