@@ -89,7 +89,7 @@ fn a_line_at_the_limit_and_one_above(rt: HostRuntime) -> Result<(), Fail> {
     one_above(&rt, &mut splitter, &mut lines, &most)
 }
 
-/// Three empty lines, and a line of so many letters.
+/// Three ends of lines, and a line of so many letters.
 fn lines_in_a_piece(alloc: Global, count: usize) -> Result<Vec<u8>, Fail> {
     let mut piece = b"\n\n\n".to_vec(alloc)?;
     for _ in 0..count {
@@ -103,8 +103,10 @@ fn lines_in_a_piece(alloc: Global, count: usize) -> Result<Vec<u8>, Fail> {
 fn a_line_at_the_limit_within_a_piece(rt: HostRuntime) -> Result<(), Fail> {
     let mut splitter = Splitter::new(rt.alloc());
     let mut lines = Vec::new(rt.alloc());
+    // the first of the three ends what an earlier piece began
+    has_lines(&rt, &mut splitter, &mut lines, b"PING", 0)?;
     let piece = lines_in_a_piece(rt.alloc(), LINE_LIMIT)?;
-    has_lines(&rt, &mut splitter, &mut lines, &piece, 1)?;
+    has_lines(&rt, &mut splitter, &mut lines, &piece, 2)?;
     let longer = lines_in_a_piece(rt.alloc(), LINE_LIMIT + 1)?;
     is_too_long(&rt, &mut splitter, &mut lines, &longer);
     Ok(())
