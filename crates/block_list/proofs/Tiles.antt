@@ -160,32 +160,6 @@ module _ {X Z : Type 0} where
         few = let f = s.few in omega (arith, long, whole, f);
       }
 
-  -- room for one more is in the last block that is begun
-  pub tiled_short : (bs : List (VecDeque X Z)) (len : ℕ) → IsTiled bs len → len < length bs * 128 → IsShort bs (len + 1) (len / 128)
-  tiled_short bs len t room =
-      let inside : len / 128 < length bs = omega arith in
-      record {
-        roomy = t.roomy;
-        inside = inside;
-        gap = λ d. let f = t.filled (len / 128) d inside in omega (arith, f);
-        filled = λ i d l ne. let f = t.filled i d l in omega (arith, f, ne);
-        within = omega arith;
-        few = t.few;
-      }
-
-  -- a gap behind the last item is none
-  pub short_tiled : (bs : List (VecDeque X Z)) (len : ℕ) → IsShort bs len ((len - 1) / 128) → 0 < len → IsTiled bs (len - 1)
-  short_tiled bs len s some =
-      record {
-        roomy = s.roomy;
-        filled = λ i d l. elim (cases_eq i ((len - 1) / 128)) [
-          | inl e ↦ let gap = subst (λ k. deque_len (get_or bs k d) + 1 ≡ share len k) (sym e) (s.gap d) in omega (arith, gap, e, some)
-          | inr ne ↦ let f = s.filled i d l ne in omega (arith, f, ne, some)
-        ];
-        within = let w = s.within in omega (arith, w);
-        few = s.few;
-      }
-
   -- an item that is taken out of a block leaves a gap there
   pub tiled_gap : (bs : List (VecDeque X Z)) (len i : ℕ) (b n : VecDeque X Z) → IsTiled bs len → i < length bs → b ≡ get_or bs i b →
       deque_len n + 1 ≡ deque_len b → deque_capacity n ≡ deque_capacity b → IsShort (set bs i n) len i
@@ -198,38 +172,6 @@ module _ {X Z : Type 0} where
         inside = omega (arith, whole, l);
         gap = λ d. ap (λ (x : VecDeque X Z). deque_len x + 1) (get_or-set_same bs i n d l) ∙ less ∙ ap (λ (x : VecDeque X Z). deque_len x) is ∙ t.filled i b l;
         filled = λ j d k ne. ap (λ (x : VecDeque X Z). deque_len x) (get_or-set_other bs i j n d ne) ∙ t.filled j d (omega (arith, whole, k));
-        within = let w = t.within in omega (arith, whole, w);
-        few = let f = t.few in omega (arith, whole, f);
-      }
-
-  -- an item that is put into the block fills the gap
-  pub short_filled : (bs : List (VecDeque X Z)) (len i : ℕ) (b n : VecDeque X Z) → IsShort bs len i → b ≡ get_or bs i b →
-      deque_len n ≡ deque_len b + 1 → deque_capacity b ≤ deque_capacity n → IsTiled (set bs i n) len
-  short_filled bs len i b n s is more grown =
-      let whole = length-set bs i n in
-      record {
-        roomy = each_set bs i n s.inside (λ j x. 128 ≤ deque_capacity x)
-            (let r = subst (λ (x : VecDeque X Z). 128 ≤ deque_capacity x) (sym is) (s.roomy i b s.inside) in omega (arith, r, grown))
-            (λ j d k _. s.roomy j d k);
-        filled = each_set bs i n s.inside (λ j x. deque_len x ≡ share len j)
-            (more ∙ ap (λ (x : VecDeque X Z). deque_len x + 1) is ∙ s.gap b)
-            (λ j d k ne. s.filled j d k ne);
-        within = let w = s.within in omega (arith, whole, w);
-        few = let f = s.few in omega (arith, whole, f);
-      }
-
-  -- a block that is as long and has as much room may stand in the place of another
-  pub tiled_written : (bs : List (VecDeque X Z)) (len i : ℕ) (b n : VecDeque X Z) → IsTiled bs len → i < length bs → b ≡ get_or bs i b →
-      deque_len n ≡ deque_len b → deque_capacity n ≡ deque_capacity b → IsTiled (set bs i n) len
-  tiled_written bs len i b n t l is as_long same =
-      let whole = length-set bs i n in
-      record {
-        roomy = each_set bs i n l (λ j x. 128 ≤ deque_capacity x)
-            (subst (λ k. 128 ≤ k) (ap (λ (x : VecDeque X Z). deque_capacity x) (sym is) ∙ sym same) (t.roomy i b l))
-            (λ j d k _. t.roomy j d k);
-        filled = each_set bs i n l (λ j x. deque_len x ≡ share len j)
-            (as_long ∙ ap (λ (x : VecDeque X Z). deque_len x) is ∙ t.filled i b l)
-            (λ j d k _. t.filled j d k);
         within = let w = t.within in omega (arith, whole, w);
         few = let f = t.few in omega (arith, whole, f);
       }

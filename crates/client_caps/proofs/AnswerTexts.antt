@@ -1,7 +1,6 @@
 -- What an answer holds can stand in a line.
-use Rattle.std.specs.Prelude.{◌≡◌, ℕ, Bool, true, false, ◌&&◌, List, [], ◌∷◌, ◌++◌, IfSome}
+use Rattle.std.specs.Prelude.{◌≡◌, ℕ, Bool, true, false, ◌&&◌, List, [], ◌∷◌, IfSome}
 use Rattle.std.specs.Prelude.{slice_get, codes, unwrap_or, suc, zero, take}
-use Rattle.std.specs.List.{join_with_byte}
 use Rattle.std.specs.Option.{option_map}
 use Rattle.std.proofs.Common.{Option, Some, None, Bor, ◌∙◌, ap, refl, subst, sym}
 use Rattle.irc_line.specs.Line.{Parts}
@@ -14,10 +13,9 @@ use Rattle.net_view.specs.Written.{AreWritten}
 use Rattle.net_view.proofs.SoundStep.{view_sound}
 use Rattle.net_view.proofs.Tests.{and_parts}
 use Rattle.net_view.proofs.PartsSound.{Each}
-use Rattle.client_caps.specs.Caps.{Caps}
-use Rattle.client_caps.specs.Answers.{named, names_held}
+use Rattle.client_caps.specs.Answers.{named}
 use Rattle.client_caps.proofs.PartsWritten.{split_written}
-use Rattle.client_caps.proofs.ImageWritten.{nick_written, joined_clean}
+use Rattle.client_caps.proofs.ImageWritten.{nick_written}
 
 -- each parameter of a line is clean
 params_clean : (params : List Text) → are_params params ≡ true
@@ -53,27 +51,10 @@ param_or_nothing line i h = either (slice_get line.params i) (param_clean line i
   either None k = refl
   either (Some p) k = k
 
-named_clean : (held : Bool) (name : Text) → is_clean name ≡ true → (rest : List Text)
-    → Each (λ (p : Text). is_clean p ≡ true) rest
-    → Each (λ (p : Text). is_clean p ≡ true) (named held name ++ rest)
-named_clean true name h rest each = (h, each)
-named_clean false name h rest each = each
-
 last_clean : (held : Bool) (name : Text) → is_clean name ≡ true
     → Each (λ (p : Text). is_clean p ≡ true) (named held name)
 last_clean true name h = (h, tt)
 last_clean false name h = tt
-
--- the names that are held
-pub held_clean : (caps : Caps) → is_clean (join_with_byte 32 (names_held caps)) ≡ true
-held_clean caps =
-    joined_clean (names_held caps)
-    (named_clean caps.multi_prefix (codes "multi-prefix") refl _
-    (named_clean caps.extended_join (codes "extended-join") refl _
-    (named_clean caps.account_notify (codes "account-notify") refl _
-    (named_clean caps.away_notify (codes "away-notify") refl _
-    (named_clean caps.server_time (codes "server-time") refl _
-    (last_clean caps.batch (codes "batch") refl))))))
 
 -- what a client is called
 pub name_can_stand : (nick : Option (Bor Text)) (star : Bor Text) → star.now ≡ codes "*"

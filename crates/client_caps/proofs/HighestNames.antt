@@ -1,5 +1,5 @@
 -- The words of a 353, each with the highest of its symbols, as its parameter 3.
-use Rattle.std.specs.Prelude.{◌≡◌, ◌≤◌, ◌<◌, true, List, [], ◌∷◌, length, map, slice_get, unwrap_or}
+use Rattle.std.specs.Prelude.{◌≡◌, ◌≤◌, true, List, [], ◌∷◌, length, map, slice_get, unwrap_or}
 use Rattle.std.specs.Prelude.{codes, if◌then◌else◌}
 use Rattle.std.specs.List.{join_with_byte}
 use Rattle.std.proofs.Common.{refl, ap, ◌∙◌, arith}
@@ -42,11 +42,3 @@ put_at_3 f (a ∷ []) h = absurd (omega arith)
 put_at_3 f (a ∷ b ∷ []) h = absurd (omega arith)
 put_at_3 f (a ∷ b ∷ c ∷ []) h = absurd (omega arith)
 put_at_3 f (a ∷ b ∷ c ∷ d ∷ params) h = refl
-
-pub none_at_3 : (f : Text → Text) (params : List Text) → length params < 4
-    → with_param 3 f params ≡ params
-none_at_3 f [] h = refl
-none_at_3 f (a ∷ []) h = refl
-none_at_3 f (a ∷ b ∷ []) h = refl
-none_at_3 f (a ∷ b ∷ c ∷ []) h = refl
-none_at_3 f (a ∷ b ∷ c ∷ d ∷ params) h = absurd (omega arith)

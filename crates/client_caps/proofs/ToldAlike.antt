@@ -1,5 +1,5 @@
 -- What a line tells that is changed in part, and what it tells that is not passed on.
-use Rattle.std.specs.Prelude.{◌≡◌, ◌≢◌, ℕ, Bool, true, false, cond, not, ◌&&◌, ◌||◌, List, IfSome}
+use Rattle.std.specs.Prelude.{◌≡◌, ℕ, Bool, true, false, cond, ◌||◌, List, IfSome}
 use Rattle.std.specs.Prelude.{◌++◌, [], ◌∷◌, slice_get, ◌⊎◌}
 use Rattle.std.specs.List.{list_any}
 use Rattle.std.specs.Option.{option_and_then, option_map, unwrap_or}
@@ -10,7 +10,7 @@ use Rattle.irc_names.specs.Nick.{is_nameable}
 use Rattle.irc_support.specs.Text.{Text}
 use Rattle.irc_support.specs.Tokens.{Token}
 use Rattle.irc_support.specs.Settings.{key_by}
-use Rattle.net_view.specs.Names.{same, Name, nameable}
+use Rattle.net_view.specs.Names.{Name, nameable}
 use Rattle.net_view.specs.Told.{Told, Silent, Settles, Parted, Kicked, Quits, Renamed, HasAccount}
 use Rattle.net_view.specs.Told.{IsAway}
 use Rattle.net_view.specs.Arrival.{Received}
@@ -38,24 +38,6 @@ pub told_retagged : (settings : List Token) (line : Parts) (tags : Option Text)
     })) ≡ told settings (Received line)
 unfolding told state_lines
 told_retagged settings line tags = refl
-
-told_parts : (settings : List Token) (line : Parts) (tags : Option Text) (params : List Text)
-    → params ≡ line.params
-    → told settings (Received (record {
-      tags = tags;
-      source = line.source;
-      command =
-          line.command;
-      params = params;
-    })) ≡ told settings (Received line)
-told_parts settings line tags params e =
-    ap (λ ps. told settings (Received (record {
-      tags = tags;
-      source = line.source;
-      command =
-          line.command;
-      params = ps;
-    }))) e ∙ told_retagged settings line tags
 
 -- ---- only 353 tells a name list
 

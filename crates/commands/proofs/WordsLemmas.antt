@@ -131,15 +131,6 @@ no_serve name rows is none (Check file) asks = check_is_not_serve (sym asks.0 �
 no_serve name rows is none (Serve file) asks = no_text (string_bytes file) (none ∙ asks.1)
 no_serve name rows is none (Attach caps n) asks = attach_is_not_serve (sym asks.0 ∙ is)
 
--- nor a command of another name
-pub no_command : (name : Text) (rows : List Row) → (name ≡ codes "view" → ⊥)
-    → (name ≡ codes "attach" → ⊥) → (name ≡ codes "check" → ⊥) → (name ≡ codes "serve" → ⊥)
-    → (command : Command) → IsCommandOf name rows command → ⊥
-no_command name rows v a c s View asks = v asks
-no_command name rows v a c s (Check file) asks = c asks.0
-no_command name rows v a c s (Serve file) asks = s asks.0
-no_command name rows v a c s (Attach caps n) asks = a asks.0
-
 -- what the command asks for is what the words ask for
 pub words_ask : (words : List Text) (name : Text) (rows : List Row) (r : Result Command WordsFault)
     → subcommand_of bnc_app words ≡ Some (name, rows) → IfOk r (IsCommandOf name rows)

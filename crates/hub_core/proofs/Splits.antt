@@ -2,7 +2,6 @@
 use Rattle.std.proofs.Common.{◌≡◌, ◌≢◌, ◌<◌, ℕ, zero, suc, List, [], ◌∷◌, ◌++◌, sym, ap, ◌∙◌, arith}
 use Rattle.std.proofs.Common.{map, length, take, drop, get_or, set, take-append-drop, ◌-◌}
 use Rattle.std.proofs.lemmas.List.{map-append}
-use Rattle.std.proofs.lemmas.List.Edits.{remove-append_right}
 use Rattle.std.proofs.Math.Seq.{drop-cons, set-append_seam}
 use Rattle.std.specs.List.{remove}
 use Rattle.hub_core.specs.States.{SessionState, HubState}
@@ -51,25 +50,6 @@ pub set_states : {S : Type 0} (state : S → SessionState) (xs : List S) (i : �
     → map state (set xs i t) ≡ map state (take i xs) ++ state t ∷ map state (drop (suc i) xs)
 set_states state xs i t h =
     ap (map state) (set_at xs i t h) ∙ map-append state (take i xs) (t ∷ drop (suc i) xs)
-
--- and then it is gone
-pub gone_states : {S : Type 0} (state : S → SessionState) (xs ys : List S) (i : ℕ) (t : S)
-    → i < length xs → ys ≡ remove (set xs i t) i
-    → map state ys ≡ map state (take i xs) ++ map state (drop (suc i) xs)
-gone_states {S = S} state xs ys i t h e =
-    ap (map state) (e ∙ ap (λ (l : List S). remove l i) (set_at xs i t h)
-    ∙ gone (take i xs) (drop (suc i) xs) i (taken xs i h))
-    ∙ map-append state (take i xs) (drop (suc i) xs) where
-      taken : (xs : List S) (i : ℕ) → i < length xs → length (take i xs) ≡ i
-      taken xs zero h = refl
-      taken [] (suc i) h = absurd (omega arith)
-      taken (x ∷ xs) (suc i) h = ap suc (taken xs i (omega arith))
-
-      gone : (front back : List S) (i : ℕ) → length front ≡ i
-          → remove (front ++ t ∷ back) i ≡ front ++ back
-      gone front back i at =
-          remove-append_right front (t ∷ back) i i at (omega arith)
-          ∙ ap (λ l. front ++ l) (let z : i - i ≡ 0 = omega arith in rw z refl)
 
 pub lacks : {S : Type 0} (state : S → SessionState) (id : ℕ) (xs : List S)
     → ((k : ℕ) (d : S) → k < length xs → (state (get_or xs k d)).id ≢ id) → Lacks id (map state xs)

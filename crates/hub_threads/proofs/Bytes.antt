@@ -59,19 +59,6 @@ rest_whole i xs = ap (λ k. take k (drop i xs)) (sym (length-drop i xs)) ∙ tak
 pub bound_rest : (i n : ℕ) (xs : List ℕ) → n ≤ length (take (length xs - i) (drop i xs)) → i ≤ length xs → i + n ≤ length xs
 bound_rest i n xs b h = let e : length (take (length xs - i) (drop i xs)) ≡ length xs - i = ap (λ l. length l) (rest_whole i xs) ∙ length-drop i xs in omega arith
 
--- bytes behind those that wait, of which none were written
-pub none_put : (a : Option (List ℕ)) (was bytes now : List ℕ) → now ≡ was ++ bytes → (put : List ℕ) × Appends a a put × (put ++ now ≡ was ++ bytes)
-none_put a was bytes now e = ([], appends_none a, e)
-
--- what waited was written, and the new bytes wait
-pub flushed_put : (a b : Option (List ℕ)) (was bytes between now : List ℕ) → Appends a b was → between ≡ [] → now ≡ between ++ bytes
-    → (put : List ℕ) × Appends a b put × (put ++ now ≡ was ++ bytes)
-flushed_put a b was bytes between now p none e = (was, p, ap (λ l. was ++ l) (e ∙ ap (λ l. l ++ bytes) none))
-
--- what waited was not written
-pub flush_failed : (a b : Option (List ℕ)) (was bytes : List ℕ) → (k : ℕ) × Appends a b (take k was) → (k : ℕ) × Appends a b (take k (was ++ bytes))
-flush_failed a b was bytes q = (length (take q.0 was), rw (take_part q.0 was bytes) q.1)
-
 -- what waited was written, and then the new bytes, as far as the writer took them
 pub through_put : (r : Bool) (a b c : Option (List ℕ)) (was bytes now : List ℕ) → Appends a b was → now ≡ []
     → MatchBool r (Appends b c bytes) ((k : ℕ) × Appends b c (take k bytes))
@@ -142,18 +129,6 @@ put_fault was all all' began out out' batch count p fresh e w came q f = record 
       (waits_more w.taken p w.put batch w.bytes_are ∙ ap (λ l. w.put ++ l) (sym (append-nil _))) w.wrote q;
 }
 
-pub under_way_flushed : (was all all' : List Queued) (began out out' : Option (List ℕ)) (batch batch' : List ℕ) (count : ℕ)
-    → IsUnderWay was all began out batch count → packets_in all' ≡ packets_in all → Appends out out' batch → batch' ≡ []
-    → IsUnderWay was all' began out' batch' count
-under_way_flushed was all all' began out out' batch batch' count w came q e = record {
-  taken = w.taken;
-  all_are = came ∙ w.all_are;
-  put = w.put ++ batch;
-  wrote = appends_then began out out' w.put batch w.wrote q;
-  bytes_are = ap (λ l. (w.put ++ batch) ++ l) e ∙ (append-nil _ ∙ w.bytes_are);
-  count_is = w.count_is;
-}
-
 pub flush_fault : (was all all' : List Queued) (began out out' : Option (List ℕ)) (batch : List ℕ) (count : ℕ) (fresh : Bool) (e : WriteFault)
     → IsUnderWay was all began out batch count → packets_in all' ≡ packets_in all
     → (k : ℕ) × Appends out out' (take k batch) → fresh ≡ is_nil (packets_in was)
@@ -164,17 +139,6 @@ flush_fault was all all' began out out' batch count fresh e w came q f = record 
   fresh_is = f;
   wrote = part_appends began out out' w.put batch [] (all_bytes w.taken)
       (sym w.bytes_are ∙ ap (λ l. w.put ++ l) (sym (append-nil batch))) w.wrote q;
-}
-
-pub under_way_same : (was all all' : List Queued) (began out : Option (List ℕ)) (batch : List ℕ) (count : ℕ)
-    → IsUnderWay was all began out batch count → packets_in all' ≡ packets_in all → IsUnderWay was all' began out batch count
-under_way_same was all all' began out batch count w came = record {
-  taken = w.taken;
-  all_are = came ∙ w.all_are;
-  put = w.put;
-  wrote = w.wrote;
-  bytes_are = w.bytes_are;
-  count_is = w.count_is;
 }
 
 pub all_written : (was all all' : List Queued) (began out : Option (List ℕ)) (batch : List ℕ) (count : ℕ) (fresh : Bool)

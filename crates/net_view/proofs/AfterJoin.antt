@@ -1,11 +1,13 @@
--- The view after another's JOIN, by what it changes in the maps of the view before.
+-- The view after a JOIN that begins nothing, by what it changes in the maps of the view before:
+-- another's, and our own by a name that is no channel's, though its key may be that of a channel on
+-- which we are. Of us the latter tells what another's JOIN tells of the other.
 use Rattle.std.specs.Prelude.{◌≡◌, ℕ, Bool, true, false, cond, not, ◌&&◌, ◌||◌, [], is_some}
 use Rattle.std.specs.Option.{option_map, unwrap_or, ForSome}
 use Rattle.std.specs.Cmp.Lexicographic.{nat_list_cmp_total}
 use Rattle.std.specs.FinMap as fin
 use Rattle.std.proofs.Common.{Option, Some, None, refl, sym, ap, ◌∙◌}
 use Rattle.irc_support.specs.Text.{Text}
-use Rattle.irc_support.specs.Ranks.{ranks_that, has_rank}
+use Rattle.irc_support.specs.Ranks.{ranks_that}
 use Rattle.irc_support.specs.Ranks as ranks
 use Rattle.net_view.specs.Names.{same, bytes_cmp, Name}
 use Rattle.net_view.specs.Told.{Told, Joined}
@@ -31,15 +33,11 @@ cond_some : {A : Type 0} (b : Bool) (x y : A) → Some (cond b x y) ≡ cond b (
 cond_some true x y = refl
 cond_some false x y = refl
 
-module _ (us : Text
-    → Bool) (channel : Name) (valid : Bool) (who : Name) (account : Option (Option Text))
-    (other : us who.key ≡ false) where
+module _ (us : Text → Bool) (channel : Name) (valid : Bool) (who : Name)
+    (account : Option (Option Text))
+    (begins_none : (c : Text) → begins us (Joined channel valid who account) c ≡ None) where
   abbrev t : Told
   t = Joined channel valid who account
-
-  begins_none : (c : Text) → begins us t c ≡ None
-  begins_none c =
-      ap (λ b. cond (b && valid && same c channel.key) (Some channel.spelled) None) other
 
   on_unsaid : (c : Text) → says_on c us t ≡ None
   on_unsaid c = ap (λ o. option_map Some o) (begins_none c)
@@ -49,77 +47,73 @@ module _ (us : Text
       → cond (is_some (begins us t c)) (Some fresh) said ≡ said
   unsaid c fresh said = ap (λ o. cond (is_some o) (Some fresh) said) (begins_none c)
 
-  member_said : (c n : Text)
-      → says_member c us t n ≡ cond (same c channel.key && same n who.key) (Some true) None
-  member_said c n =
-      unsaid c (same n who.key) _ ∙ other_said (same c channel.key) (same n who.key) where
-        other_said : (a b : Bool)
-            → cond (not (us who.key) && a && b) (Some true) None ≡ cond (a && b) (Some true) None
-        other_said a b = ap (λ u. cond (not u && a && b) (Some true) None) other ∙ refl
-
   rank_said : (c n : Text) (rank : ℕ)
       → says_rank c rank us t n ≡ cond (same c channel.key && same n who.key) (Some false) None
   rank_said c n rank = unsaid c false _
 
+  -- the members of a channel after it: who joins it, and who was one
+  abbrev Joins : Text → Channel → Type 0
+  Joins c ch =
+      (n : Text) → unwrap_or (says_member c us t n) (is_some (fin.get ch.members n))
+      ≡ ((same c channel.key && same n who.key) || is_some (fin.get ch.members n))
+
   -- who joins is a member with no rank, all others stay
-  member_is : (c n : Text) (ch : Channel) → AreSets ch
+  member_is : (c n : Text) (ch : Channel) → AreSets ch → Joins c ch
       → member_after us t c (Some ch) n
       ≡ cond (same c channel.key && same n who.key) (Some []) (fin.get ch.members n)
-  member_is c n ch sets =
+  member_is c n ch sets joins =
       let before = fin.get ch.members n in
-      ap (λ m. cond (unwrap_or m (is_some before))
+      ap (λ m. cond m
       (Some (ranks_that (λ rank. unwrap_or (says_rank c rank us t n) (had_rank rank before))))
-      None) (member_said c n)
-      ∙ ap (λ f. cond
-      (unwrap_or (cond (same c channel.key && same n who.key) (Some true) None)
-      (is_some before)) (Some (ranks_that f)) None)
+      None) (joins n)
+      ∙ ap (λ f. cond ((same c channel.key && same n who.key) || is_some before)
+      (Some (ranks_that f)) None)
       (λ i rank. unwrap_or (rank_said c n rank i) (had_rank rank before))
-      ∙ elim (same c channel.key
-      && same n who.key) as
-      (λ b. cond (unwrap_or (cond b (Some true) None) (is_some before))
-      (Some (ranks_that (λ rank. unwrap_or (cond b (Some false) None)
-      (had_rank rank before)))) None ≡ cond b (Some []) before) [
+      ∙ elim (same c channel.key && same n who.key) as (λ b. cond (b || is_some before)
+      (Some (ranks_that (λ rank. unwrap_or (cond b (Some false) None) (had_rank rank before))))
+      None ≡ cond b (Some []) before) [
         | true ↦ ap Some no_ranks
         | false ↦ member_stays before (sets n)
       ]
 
-  joined_is : (c : Text) (ch : Channel) → AreSets ch
+  joined_is : (c : Text) (ch : Channel) → AreSets ch → Joins c ch
       → channel_from us t c (Some ch) ch.name
       ≡ cond (same c channel.key) (with_member who.key ch) ch
-  joined_is c ch sets =
+  joined_is c ch sets joins =
       elim (same c channel.key) as (λ b. same c channel.key ≡ b
       → channel_from us t c (Some ch) ch.name ≡ cond b (with_member who.key ch) ch) [
         | true ↦ λ e. channel_is us t c (Some ch) (with_member who.key ch)
             (ap (λ o. unwrap_or o ch.topic) (unsaid c None None))
             (λ letter. ap (λ o. unwrap_or o (fin.get ch.modes letter)) (unsaid c None None))
-            (λ n. member_is c n ch sets
+            (λ n. member_is c n ch sets joins
             ∙ ap (λ b. cond (b && same n who.key) (Some []) (fin.get ch.members n)) e
             ∙ sym (fin.get-insert nat_list_cmp_total ch.members who.key [] n))
         | false ↦ λ e. channel_is us t c (Some ch) ch
             (ap (λ o. unwrap_or o ch.topic) (unsaid c None None))
             (λ letter. ap (λ o. unwrap_or o (fin.get ch.modes letter)) (unsaid c None None))
-            (λ n. member_is c n ch sets
+            (λ n. member_is c n ch sets joins
             ∙ ap (λ b. cond (b && same n who.key) (Some []) (fin.get ch.members n)) e)
       ] refl
 
   channel_after_join : (c : Text) (old : Option Channel) → ForSome old AreSets
+      → ForSome old (Joins c)
       → channel_after us t c old
       ≡ cond (same c channel.key) (option_map (with_member who.key) old) old
-  channel_after_join c None sets =
+  channel_after_join c None sets joins =
       ap (λ o. option_map (channel_from us t c None) (unwrap_or o None)) (on_unsaid c)
       ∙ sym (same_arms (same c channel.key) None)
-  channel_after_join c (Some ch) sets =
+  channel_after_join c (Some ch) sets joins =
       ap (λ o. option_map (channel_from us t c (Some ch)) (unwrap_or o (Some ch.name)))
       (on_unsaid c)
-      ∙ ap Some (joined_is c ch (sets ch refl))
+      ∙ ap Some (joined_is c ch (sets ch refl) (joins ch refl))
       ∙ cond_some (same c channel.key) (with_member who.key ch) ch
 
-  module _ (cs : fin.FinMap bytes_cmp Channel) (sets : (c : Text)
-      → ForSome (fin.get cs c) AreSets) where
+  module _ (cs : fin.FinMap bytes_cmp Channel) (sets : (c : Text) → ForSome (fin.get cs c) AreSets)
+      (joins : (c : Text) → ForSome (fin.get cs c) (Joins c)) where
     -- a channel that we are not on
-    pub join_elsewhere : fin.get cs channel.key ≡ None → channels_after us t cs ≡ cs
+    join_elsewhere : fin.get cs channel.key ≡ None → channels_after us t cs ≡ cs
     join_elsewhere none =
-        channels_are us t cs cs (λ c. channel_after_join c (fin.get cs c) (sets c)
+        channels_are us t cs cs (λ c. channel_after_join c (fin.get cs c) (sets c) (joins c)
         ∙ elim (same c channel.key) as (λ b. same c channel.key ≡ b
         → cond b (option_map (with_member who.key) (fin.get cs c)) (fin.get cs c)
         ≡ fin.get cs c) [
@@ -129,10 +123,10 @@ module _ (us : Text
           | false ↦ λ e. refl
         ] refl)
 
-    pub join_channel : (ch : Channel) → fin.get cs channel.key ≡ Some ch
+    join_channel : (ch : Channel) → fin.get cs channel.key ≡ Some ch
         → channels_after us t cs ≡ fin.insert cs channel.key (with_member who.key ch)
     join_channel ch there =
-        channels_are us t cs _ (λ c. channel_after_join c (fin.get cs c) (sets c)
+        channels_are us t cs _ (λ c. channel_after_join c (fin.get cs c) (sets c) (joins c)
         ∙ elim (same c channel.key) as (λ b. same c channel.key ≡ b
         → cond b (option_map (with_member who.key) (fin.get cs c)) (fin.get cs c)
         ≡ cond b (Some (with_member who.key ch)) (fin.get cs c)) [
@@ -144,7 +138,7 @@ module _ (us : Text
 
     module _ (ps : fin.FinMap bytes_cmp Person) (known : (n : Text)
         → fin.contains_key ps n ≡ is_seen cs n) where
-      pub join_nobody : fin.get cs channel.key ≡ None → people_after us t cs ps ≡ ps
+      join_nobody : fin.get cs channel.key ≡ None → people_after us t cs ps ≡ ps
       join_nobody none =
           people_are us t cs ps ps (λ n.
           ap (λ on. cond (is_seen cs n)
@@ -228,10 +222,10 @@ module _ (us : Text
             ] refl h)
 
         -- who joins, as known after it
-        abbrev pub joiner : Person
+        abbrev joiner : Person
         joiner = told_person (Some (Some who.spelled)) account None (fin.get ps who.key)
 
-        pub join_person : people_after us t new ps ≡ fin.insert ps who.key joiner
+        join_person : people_after us t new ps ≡ fin.insert ps who.key joiner
         join_person =
             people_are us t new ps _ (λ n.
             ap (λ on. cond (is_seen new n)
@@ -265,40 +259,105 @@ module _ (us : Text
 -- ---- the whole
 
 module _ (v : View) (channel : Name) (valid : Bool) (who : Name) (account : Option (Option Text))
-    (other : is_us (standing_of v) who.key ≡ false) (sets : HasSets v) (known : IsKnowing v) where
+    (begins_none : (c : Text)
+    → begins (is_us (standing_of v)) (Joined channel valid who account) c ≡ None)
+    (sets : HasSets v) (known : IsKnowing v)
+    (joins : (c : Text) → ForSome (fin.get v.channels c)
+    (Joins (is_us (standing_of v)) channel valid who account begins_none c)) where
   by_channel : (o : Option Channel) → fin.get v.channels channel.key ≡ o
       → after_told v (Joined channel valid who account)
       ≡ readied (joined_to v channel.key who.key who.spelled account o)
   by_channel None e =
       let us = is_us (standing_of v) in
       let t = Joined channel valid who account in
-      let cs = join_elsewhere us channel valid who account other v.channels sets e in
+      let cs = join_elsewhere us channel valid who account begins_none v.channels sets joins e in
       let ps = ap (λ c. people_after us t c v.people) cs
-      ∙ join_nobody us channel valid who account other v.channels sets v.people known e in
+      ∙ join_nobody us channel valid who account begins_none v.channels sets joins v.people known e
+      in
       λ i. record {
         own = v.own;
         ready = is_some v.own;
         settings = v.settings;
-        channels =
-            cs i;
+        channels = cs i;
         people = ps i;
       }
   by_channel (Some ch) e =
       let us = is_us (standing_of v) in
       let t = Joined channel valid who account in
-      let cs = join_channel us channel valid who account other v.channels sets ch e in
+      let cs = join_channel us channel valid who account begins_none v.channels sets joins ch e in
       let ps = ap (λ c. people_after us t c v.people) cs
-      ∙ join_person us channel valid who account other v.channels sets v.people known ch e in
+      ∙ join_person us channel valid who account begins_none v.channels sets joins v.people known ch
+      e in
       λ i. record {
         own = v.own;
         ready = is_some v.own;
         settings = v.settings;
-        channels =
-            cs i;
+        channels = cs i;
         people = ps i;
       }
+
+  after_either : after_told v (Joined channel valid who account)
+      ≡ readied (joined_view v channel.key who.key who.spelled account)
+  after_either = by_channel (fin.get v.channels channel.key) refl
+
+module _ (v : View) (channel : Name) (valid : Bool) (who : Name) (account : Option (Option Text))
+    (other : is_us (standing_of v) who.key ≡ false) (sets : HasSets v) (known : IsKnowing v) where
+  other_begins : (c : Text)
+      → begins (is_us (standing_of v)) (Joined channel valid who account) c ≡ None
+  other_begins c =
+      ap (λ b. cond (b && valid && same c channel.key) (Some channel.spelled) None) other
+
+  other_joins : (c : Text) (ch : Channel)
+      → Joins (is_us (standing_of v)) channel valid who account other_begins c ch
+  other_joins c ch n =
+      let was = is_some (fin.get ch.members n) in
+      ap (λ m. unwrap_or m was)
+      (unsaid (is_us (standing_of v)) channel valid who account other_begins c (same n who.key) _)
+      ∙ ap (λ u. unwrap_or (cond (not u && same c channel.key && same n who.key) (Some true) None)
+      was) other
+      ∙ elim (same c channel.key && same n who.key) as
+      (λ b. unwrap_or (cond b (Some true) None) was ≡ (b || was)) [ true ↦ refl | false ↦ refl ]
 
   -- another's JOIN
   pub after_join : after_told v (Joined channel valid who account)
       ≡ readied (joined_view v channel.key who.key who.spelled account)
-  after_join = by_channel (fin.get v.channels channel.key) refl
+  after_join =
+      after_either v channel valid who account other_begins sets known
+      (λ c ch e. other_joins c ch)
+
+module _ (v : View) (channel : Name) (valid : Bool) (who : Name) (account : Option (Option Text))
+    (void : (is_us (standing_of v) who.key ≡ true) × (valid ≡ false)) (sets : HasSets v)
+    (known : IsKnowing v)
+    (mem : (ch : Channel) → fin.get v.channels channel.key ≡ Some ch
+    → is_some (fin.get ch.members who.key) ≡ true) where
+  void_begins : (c : Text)
+      → begins (is_us (standing_of v)) (Joined channel valid who account) c ≡ None
+  void_begins c =
+      ap (λ b. cond (is_us (standing_of v) who.key && b && same c channel.key)
+      (Some channel.spelled) None) (void.1)
+      ∙ elim (is_us (standing_of v) who.key) as
+      (λ b. cond (b && false && same c channel.key) (Some channel.spelled) None ≡ None)
+      [ true ↦ refl | false ↦ refl ]
+
+  void_joins : (c : Text) (ch : Channel) → fin.get v.channels c ≡ Some ch
+      → Joins (is_us (standing_of v)) channel valid who account void_begins c ch
+  void_joins c ch there n =
+      let was = is_some (fin.get ch.members n) in
+      ap (λ m. unwrap_or m was)
+      (unsaid (is_us (standing_of v)) channel valid who account void_begins c (same n who.key) _)
+      ∙ ap (λ u. unwrap_or (cond (not u && same c channel.key && same n who.key) (Some true) None)
+      was) (void.0)
+      ∙ elim (same c channel.key) as (λ a. same c channel.key ≡ a
+      → was ≡ ((a && same n who.key) || was)) [
+        | true ↦ λ at. elim (same n who.key) as (λ b. same n who.key ≡ b → was ≡ (b || was)) [
+          | true ↦ λ e. ap (λ m. is_some (fin.get ch.members m)) (is_same n who.key e)
+              ∙ mem ch (ap (fin.get v.channels) (sym (is_same c channel.key at)) ∙ there)
+          | false ↦ λ e. refl
+        ] refl
+        | false ↦ λ at. refl
+      ] refl
+
+  -- our own JOIN that begins nothing
+  pub after_void_join : after_told v (Joined channel valid who account)
+      ≡ readied (joined_view v channel.key who.key who.spelled account)
+  after_void_join = after_either v channel valid who account void_begins sets known void_joins

@@ -178,10 +178,6 @@ held_on m sr w f decided b e =
     ∙ ap (λ (b : Option (List ℕ)). cond (unwrap_or m (is_some b))
     (Some (ranks_that (λ rank. unwrap_or (sr rank) (had_rank rank b)))) None) (sym e)
 
-and_then_at : {A B : Type 0} (f : A → Option B) (o : Option A) (x : A) → o ≡ Some x
-    → option_and_then f o ≡ f x
-and_then_at f o x e = ap (option_and_then f) e
-
 -- in the old channel
 member_in_old : (older : List Reading) (c n name : Text) → name_on older c ≡ Some name
     → old_member (channel_of older c) n

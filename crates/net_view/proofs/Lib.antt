@@ -27,7 +27,6 @@ pub mod AfterFacts
 pub mod AfterModes
 pub mod AfterQuit
 pub mod AfterRename
-pub mod AfterVoidJoin
 pub mod AfterOwnJoin
 pub mod AfterPresent
 pub mod TokensWritten
@@ -47,5 +46,4 @@ mod MemberRows
 mod FactRows
 mod LineRows
 mod SeenRows
-pub mod ReadCommands
 pub mod KeyPlaces

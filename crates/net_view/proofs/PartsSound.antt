@@ -21,7 +21,7 @@ use Rattle.irc_support.specs.declared.kind.Kind.TheVariants.{Prefix, A, B, C, D,
 use Rattle.irc_support.proofs.RankPlaces.{ranking_of-is}
 use Rattle.net_view.specs.Names.{same, Name, name_of, nameable}
 use Rattle.net_view.specs.Told.{Told, LetterChange, ModeChange, Listing, Welcomed, Joined, Renamed}
-use Rattle.net_view.specs.Told.{Changed, Listed, Titled, Present, HasAccount, IsAway}
+use Rattle.net_view.specs.Told.{Changed, Listed, Titled, Present, HasAccount, IsAway, Supports}
 use Rattle.net_view.specs.StateLines.{actor_nick, actor, unless_empty, account_said, letter_change}
 use Rattle.net_view.specs.StateLines.{word_param, setting_by, mode_change, listing}
 use Rattle.net_view.specs.Sound.{rank_limit, IsFilled, IsAccount, IsKept}
@@ -66,6 +66,11 @@ IsSoundTold settings (HasAccount n account) = IfSome account IsAccount
 IsSoundTold settings (IsAway n text) = IfSome text IsFilled
 IsSoundTold settings _ = ⊤
 
+-- well formed, and more settings are told only where they may be
+abbrev pub IsToldBy : Bool → List Token → Told → Type 0
+IsToldBy more settings (Supports params) = more ≡ true
+IsToldBy more settings t = IsSoundTold settings t
+
 -- ---- parts
 
 pub each_found : {X Y : Type 0} (P : Y → Type 0) (f : X → Option Y) → ((x : X) → IfSome (f x) P)
@@ -86,11 +91,10 @@ pub map_sound : {X Y : Type 0} (Q : X → Type 0) (P : Y → Type 0) (o : Option
 map_sound Q P None f q h = tt
 map_sound Q P (Some x) f q h = h x q
 
-pub or_sound : (settings : List Token) (o : Option Told) (d : Told)
-    → IfSome o (IsSoundTold settings) → IsSoundTold settings d
-    → IsSoundTold settings (unwrap_or o d)
-or_sound settings None d h e = e
-or_sound settings (Some t) d h e = h
+pub or_sound : {X : Type 0} (P : X → Type 0) (o : Option X) (d : X) → IfSome o P → P d
+    → P (unwrap_or o d)
+or_sound P None d h e = e
+or_sound P (Some t) d h e = h
 
 pub when_sound : {X : Type 0} (P : X → Type 0) (b : Bool) (x : X) → (b ≡ true → P x)
     → IfSome (cond b (Some x) None) P

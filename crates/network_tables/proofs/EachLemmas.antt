@@ -6,7 +6,6 @@ use Rattle.std.specs.Prelude.{
   suc,
   ◌+◌,
   ◌<◌,
-  ◌≤◌,
   Bool,
   true,
   false,
@@ -95,18 +94,6 @@ module _ {Y : Type 0} (g : Y → Y) where
       ∙ (λ j. set (e j) i ((is ∙ ap g fx) j))
       ∙ one_more xs i (f x) within
       ∙ ap (λ n. done n xs) (sym (add-one i))
-
-  pub none_done : (xs : List Y) → xs ≡ done 0 xs
-  none_done xs = refl
-
-  pub all_done : (xs ys : List Y) (i : ℕ) → length ys ≤ i → ys ≡ done i xs → ys ≡ map g xs
-  all_done xs ys i l e =
-      e ∙ past xs i (subst (λ n. n ≤ i) (ap length e ∙ long xs i) l) where
-        past : (xs : List Y) (i : ℕ) → length xs ≤ i → done i xs ≡ map g xs
-        past [] zero l = refl
-        past [] (suc i) l = refl
-        past (x ∷ xs) zero l = absurd (omega arith)
-        past (x ∷ xs) (suc i) l = ap (λ l. g x ∷ l) (past xs i (omega arith))
 
 -- all of a list, whose items are written anew
 pub whole : {E : Type 0} (xs ys : List E) → length ys ≡ length xs → take (length xs) (ys ++ drop

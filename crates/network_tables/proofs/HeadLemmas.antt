@@ -101,20 +101,6 @@ are_bytes (suc n) (b ∷ xs) h = (
   ))),
 )
 
--- what holds at each of the first eight places
-pub at_eight : (P : ℕ → Type 0) → P 0 → P 1 → P 2 → P 3 → P 4 → P 5 → P 6 → P 7 → (i : ℕ) → i < 8 →
-    P i
-at_eight P a b c d e f g h zero l = a
-at_eight P a b c d e f g h (suc zero) l = b
-at_eight P a b c d e f g h (suc (suc zero)) l = c
-at_eight P a b c d e f g h (suc (suc (suc zero))) l = d
-at_eight P a b c d e f g h (suc (suc (suc (suc zero)))) l = e
-at_eight P a b c d e f g h (suc (suc (suc (suc (suc zero))))) l = f
-at_eight P a b c d e f g h (suc (suc (suc (suc (suc (suc zero)))))) l = g
-at_eight P a b c d e f g h (suc (suc (suc (suc (suc (suc (suc zero))))))) l = h
-at_eight P a b c d e f g h (suc (suc (suc (suc (suc (suc (suc (suc i)))))))) l = absurd (omega
-    (arith, l))
-
 -- keys of one head, by what stands behind it
 module _ (n x y : ℕ) (xs ys : Text) (h : AreBytesTo n xs) (k : AreBytesTo n ys) where
   behind_by : (head_at n xs ≡ head_at n ys → bytes_cmp (drop n xs) (drop n ys) ≡ bytes_cmp xs ys) →

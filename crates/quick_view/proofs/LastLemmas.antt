@@ -90,14 +90,6 @@ change_said s x rank nick m rank_is param_is ok mapping =
       person = name.key;
     }) (option_and_then (nameable s) x.param))) rank_is
 
-mapped_same : (o : Option (List ℕ)) → o ≡ option_map (λ ranks. ranks) o
-mapped_same None = refl
-mapped_same (Some x) = refl
-
-pub no_rank : (n : Text) (o : Option (List ℕ)) → o ≡ option_map (rank_after None n) o
-no_rank n None = refl
-no_rank n (Some x) = refl
-
 module _ (l : LetterChange) (m : fin.FinMap bytes_cmp (List ℕ)) where
   elsewhere : (n : Text) (o : Option (List ℕ)) → same n l.person ≡ false → o ≡ option_map
       (rank_after (Some l) n) o

@@ -1,7 +1,7 @@
 -- A client that is heard, piece by piece.
 use Rattle.std.proofs.Common.{◌≡◌, ◌∙◌, refl, sym, ap, ap₂, subst, ℕ, Bool, true, false, List, []}
-use Rattle.std.proofs.Common.{◌∷◌, ◌++◌, ◌+◌, ◌<◌, ◌||◌, Option, None, Some, take, drop, length}
-use Rattle.std.proofs.Common.{append-nil, append_assoc, get_or}
+use Rattle.std.proofs.Common.{◌∷◌, ◌++◌, ◌+◌, ◌||◌, Option, None, Some}
+use Rattle.std.proofs.Common.{append-nil, append_assoc}
 use Rattle.std.specs.Prelude.{IsTrue}
 use Rattle.std.specs.List.{concat}
 use Rattle.std.specs.Io.KnownBytes.{Consumes, IsAtEnd}
@@ -10,11 +10,10 @@ use Rattle.irc_line.specs.Lines.{Pending, fed, fed_all, is_too_long, lines_all, 
 use Rattle.hub_threads.proofs.ReadLemmas.{concat_more, consumes_more, consumes_nil, fed_more}
 use Rattle.hub_threads.proofs.ReadLemmas.{lines_more}
 use Rattle.sessions.specs.Answers.{is_quit}
-use Rattle.sessions.specs.Leaving.{LeavesBy, WasHeard, WasTaken, WereSaid, has_quit}
+use Rattle.sessions.specs.Leaving.{WasHeard, WasTaken, WereSaid, has_quit}
 use Rattle.sessions.specs.declared.attending.Leave.{Leave}
 use Rattle.sessions.specs.declared.attending.Leave.TheVariants as leave
 use Rattle.sessions.proofs.LookedBack.{any_append, any_more}
-use Rattle.irc_line.proofs.LinesTaken.{parted}
 
 -- ---- lines
 
@@ -22,44 +21,12 @@ or_true : (x : Bool) → (x || true) ≡ true
 or_true true = refl
 or_true false = refl
 
--- one of the lines is this QUIT
-quit_among : (lines : List Parts) (i : ℕ) (line : Parts) → i < length lines
-    → line ≡ get_or lines i line → is_quit line ≡ true → has_quit lines ≡ true
-quit_among lines i line within is quit =
-    ap has_quit (parted lines i line within is)
-    ∙ any_append is_quit (take i lines) (line ∷ drop (i + 1) lines)
-    ∙ ap (λ b. has_quit (take i lines) || (b || has_quit (drop (i + 1) lines))) quit
-    ∙ or_true (has_quit (take i lines))
-
--- a line ended it, so the lines did
-pub ended_by_line : (lines : List Parts) (i : ℕ) (line : Parts) (why : Leave) → i < length lines
-    → line ≡ get_or lines i line → LeavesBy line (Some why) → WereSaid lines (Some why)
-ended_by_line lines i line leave.Quit within is h = quit_among lines i line within is h
-ended_by_line lines i line leave.Cut within is h = tt
-ended_by_line lines i line leave.EndOfInput within is h = absurd h
-ended_by_line lines i line leave.ReadFault within is h = absurd h
-ended_by_line lines i line leave.TooLong within is h = absurd h
-ended_by_line lines i line leave.OutOfMemory within is h = absurd h
-
 pub none_more : (lines more : List Parts) (line : Parts) → more ≡ lines ++ line ∷ []
     → has_quit lines ≡ false → is_quit line ≡ false → has_quit more ≡ false
 none_more lines more line is none other =
     ap has_quit is ∙ any_more is_quit lines line ∙ ap₂ (λ a b. a || b) none other
 
 -- ---- a piece
-
-pub taken_by : (old new : Pending) (piece : List ℕ) (was lines : List Parts) (r : Option Leave)
-    → was ≡ [] → lines ≡ was ++ lines_of (old.rest ++ piece) → new ≡ fed old piece
-    → WereSaid lines r → WasTaken old piece r new
-taken_by old new piece was lines None none is at h =
-    (at, ap has_quit (sym (is ∙ ap (λ t. t ++ lines_of (old.rest ++ piece)) none)) ∙ h)
-taken_by old new piece was lines (Some leave.Quit) none is at h =
-    ap has_quit (sym (is ∙ ap (λ t. t ++ lines_of (old.rest ++ piece)) none)) ∙ h
-taken_by old new piece was lines (Some leave.Cut) none is at h = tt
-taken_by old new piece was lines (Some leave.EndOfInput) none is at h = absurd h
-taken_by old new piece was lines (Some leave.ReadFault) none is at h = absurd h
-taken_by old new piece was lines (Some leave.TooLong) none is at h = absurd h
-taken_by old new piece was lines (Some leave.OutOfMemory) none is at h = absurd h
 
 -- ---- all pieces
 

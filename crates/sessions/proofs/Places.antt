@@ -46,14 +46,6 @@ admits_by settings claim asked password user network (Some place) a p u n is rig
   sym (rw (u, n) at is),
 )
 
--- nobody is admitted whose password is wrong
-pub admits_nobody : (settings : Settings) (claim : ClaimParts) (asked password : Text)
-    → asked ≡ claim.user → password ≡ claim.password
-    → (Matches settings asked password → ⊥) → Admits settings claim None
-admits_nobody settings claim asked password a p wrong =
-    λ right. absurd (wrong (subst (λ t. Matches settings t password) (sym a)
-    (subst (λ t. Matches settings claim.user t) (sym p) right)))
-
 -- the place of two numbers
 back : Place → Option (ℕ × ℕ) → Place
 back other None = other

@@ -16,7 +16,7 @@ use Rattle.net_view.specs.declared.state_line.Telling.{Telling}
 use Rattle.net_view.specs.declared.state_line.Telling.TheVariants as telling
 use Rattle.irc_support.specs.Line as line
 use Rattle.net_view.proofs.Commands.{told_of_isupport}
-use Rattle.net_view.proofs.ReadCommands.{supports_said}
+use Rattle.net_view.proofs.ToldSound.{supports_said}
 use Rattle.net_view.specs.Transcript.{Standing, standing, own_nick, is_us, is_ready, ready_after}
 use Rattle.net_view.specs.Transcript.{settings_of, settings_after}
 use Rattle.net_view.specs.Tells.{meant}

@@ -63,24 +63,6 @@ pub names_are_offered : (lines : List Parts)
     → names_of (offered_by lines) ≡ filter (is_offered lines) our_caps
 names_are_offered lines = simp filter_first (simp append-nil)
 
-named_are_clean : (b : Bool) (name : List ℕ) → is_clean name ≡ true
-    → list_all is_clean (named b name) ≡ true
-named_are_clean true name h = rw h refl
-named_are_clean false name h = refl
-
-both_clean : (a b : List (List ℕ)) → list_all is_clean a ≡ true → list_all is_clean b ≡ true
-    → list_all is_clean (a ++ b) ≡ true
-both_clean a b p q = list_all-append is_clean a b ∙ rw (p, q) refl
-
--- our names are clean
-pub names_are_clean : (offered : Offered) → list_all is_clean (names_of offered) ≡ true
-names_are_clean offered =
-    both_clean (named offered.multi_prefix _) _ (named_are_clean offered.multi_prefix _ refl)
-    (both_clean (named offered.extended_join _) _ (named_are_clean offered.extended_join _ refl)
-    (both_clean (named offered.account_notify _) _ (named_are_clean offered.account_notify _ refl)
-    (both_clean (named offered.away_notify _) _ (named_are_clean offered.away_notify _ refl)
-    (named_are_clean offered.server_time _ refl))))
-
 -- names that are joined by spaces
 tail_is_clean : (names : List (List ℕ)) → list_all is_clean names ≡ true
     → is_clean (flat_map (λ y. (32 ∷ []) ++ y) names) ≡ true

@@ -9,7 +9,6 @@ use Rattle.std.specs.List.{fold, slice_get}
 use Rattle.std.specs.Borrow.{Bor}
 use Rattle.std.specs.Option.{option_map}
 use Rattle.std.specs.FinMap as fin
-use Rattle.std.proofs.lemmas.Grind.{fold-append}
 use Rattle.std.proofs.lemmas.List.{length-map, map-append}
 use Rattle.std.proofs.lemmas.Option.{slice_get_cases}
 use Rattle.irc_names.specs.CaseMapping.{AreOneName, key_of}
@@ -168,15 +167,3 @@ empty_next names i before now within is e = elim (slice_get_cases names i).1 [
       ∙ map-append (λ (name : Bor Text). []) (take i names) (_ ∷ []))
   | inr past ↦ absurd (omega (past.0, within, arith))
 ]
-
--- one entry more
-pub grouped_next : (mapping : CaseMapping) (names : List Text) (entries : List EntryParts)
-    (e : EntryParts) (place : ℕ) (gs now : List (List EntryParts))
-    → place ≡ place_among mapping e.target names → gs ≡ grouped_by mapping names entries
-    → now ≡ push_at place e gs → now ≡ grouped_by mapping names (entries ++ e ∷ [])
-grouped_next mapping names entries e place gs now p is next =
-    let add : List (List EntryParts) → EntryParts → List (List EntryParts) =
-    λ groups e. push_at (place_among mapping e.target names) e groups in
-    next ∙ ap (λ n. push_at n e gs) p
-    ∙ ap (push_at (place_among mapping e.target names) e) is
-    ∙ sym (fold-append add (map (λ (name : Text). []) names ++ [] ∷ []) entries (e ∷ []))

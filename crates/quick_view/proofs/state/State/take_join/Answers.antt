@@ -4,8 +4,7 @@ use Rattle.net_view.specs.Names.{name_of}
 use Rattle.net_view.specs.Step.{after_told}
 use Rattle.net_view.specs.Told as spec
 use Rattle.net_view.specs.Changes.{readied}
-use Rattle.net_view.proofs.AfterJoin.{after_join}
-use Rattle.net_view.proofs.AfterVoidJoin.{after_void_join}
+use Rattle.net_view.proofs.AfterJoin.{after_join, after_void_join}
 use Rattle.net_view.proofs.AfterOwnJoin.{after_own_join}
 use Rattle.quick_view.specs.Kept.{view_kept}
 use Rattle.network_tables.proofs.Outcomes.{on_ok}

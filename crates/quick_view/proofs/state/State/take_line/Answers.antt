@@ -8,7 +8,7 @@ use Rattle.net_view.proofs.AfterModes.{after_topic}
 use Rattle.net_view.proofs.AfterPart.{kick_is_part}
 use Rattle.net_view.proofs.Emptied.{emptied}
 use Rattle.net_view.proofs.Commands.{told_of_isupport}
-use Rattle.net_view.proofs.ReadCommands.{supports_said}
+use Rattle.net_view.proofs.ToldSound.{supports_said}
 use Rattle.quick_view.specs.Kept.{view_kept}
 use Rattle.quick_view.specs.Listing.{listings_in}
 use Rattle.network_tables.proofs.Outcomes.{on_ok}
