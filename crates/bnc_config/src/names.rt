@@ -4,8 +4,9 @@ ghost use Rattle.std.specs.Prelude.{◌≡◌, ◌++◌, ◌∷◌, [], List, �
 ghost use Rattle.std.specs.List.{list_any};
 ghost use Rattle.std.specs.Str.{bytes_eq};
 ghost use Rattle.bnc_config.specs.Names.{AreNames};
+ghost use Rattle.bnc_config.specs.Document.{Reads, twice_fault};
 
-use crate::OutOfMemory;
+use crate::{ConfigFault, OutOfMemory, Text};
 use std::alloc::Global;
 use std::collections::HashMap;
 
@@ -34,5 +35,19 @@ impl<'t> Names<'t> {
     {
         let earlier = self.seen.insert(name, ())?;
         Ok(earlier.is_none())
+    }
+
+    /// Adds a name that is to be new. One that stands earlier is a fault.
+    pub fn add_new(&mut self, alloc: Global, name: &'t str) -> Result<(), ConfigFault>
+        ensures read { (earlier : List (List ℕ)) → AreNames self.old earlier
+            → Reads (λ none. none) result (twice_fault earlier name.now) tt }
+        ensures added { OnOk result ((earlier : List (List ℕ)) → AreNames self.old earlier
+            → AreNames self.new (earlier ++ name.now ∷ [])) }
+    {
+        if self.add(name)? {
+            Ok(())
+        } else {
+            Err(ConfigFault::Twice(Text::copy(alloc, name)?))
+        }
     }
 }

@@ -99,9 +99,7 @@ impl NetworkConfig {
     {
         let name = allowed_text(table, Key::NetworkName)?;
         let network = NetworkConfig::named(alloc, name, table)?;
-        if !earlier.add(name)? {
-            return Err(ConfigFault::Twice(Text::copy(alloc, name)?));
-        }
+        earlier.add_new(alloc, name)?;
         Ok(network)
     }
 

@@ -96,9 +96,7 @@ impl UserConfig {
         let salt = salt_in(alloc, table)?;
         let digest = digest_in(table)?;
         let networks = tables_at(table, Key::UserNetwork)?;
-        if !earlier.add(name)? {
-            return Err(ConfigFault::Twice(Text::copy(alloc, name)?));
-        }
+        earlier.add_new(alloc, name)?;
         let networks = read_networks(alloc, networks)?;
         let name = Text::copy(alloc, name)?;
         Ok(UserConfig {
