@@ -1,8 +1,7 @@
 //! The messages that a client missed, as it is sent them.
 
 use crate::clients::asked;
-use crate::lines::line;
-use crate::views::{Rows, check_after};
+use crate::views::{Rows, check_after, line};
 use client_caps::{Caps, Moment, time_text};
 use history::{Entry, History};
 use net_view::NetworkView;

@@ -13,12 +13,18 @@ use std::process::Abort;
 use std::test::Fail;
 use tape_view::TapeView;
 
+/// The line of this text.
+pub(crate) fn line(alloc: Global, text: &[u8]) -> Result<Line, Fail> {
+    let line = Line::<Global>::read(alloc, text)?;
+    Ok(line.ok_or("the text is a line")?)
+}
+
+/// The item that this text stands for: a line, or a loss.
 pub(crate) fn item(alloc: Global, text: &[u8]) -> Result<Item, Fail> {
     if text == b"lost".as_slice() {
         return Ok(Item::Lost);
     }
-    let line = Line::<Global>::read(alloc, text)?;
-    Ok(Item::Line(line.ok_or("the text is a line")?))
+    Ok(Item::Line(line(alloc, text)?))
 }
 
 /// The view that searches, after these texts.

@@ -1,8 +1,7 @@
 //! The side of the network: the transcript, looked back through.
 
 use super::{Client, show_member};
-use crate::lines::line;
-use crate::views::{quick_of, show_channel};
+use crate::views::{line, quick_of, show_channel};
 use irc_line::Line;
 use irc_support::{Ranks, Support, changes, names};
 use net_view::{Member, NetworkView};

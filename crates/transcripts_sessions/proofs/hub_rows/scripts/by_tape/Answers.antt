@@ -1,7 +1,7 @@
 use Rattle.std.proofs.Common.{◌≡◌, ◌∙◌, [], ap}
 use Rattle.net_view.specs.View.{empty_view, view_back, view_of}
 use Rattle.net_view.proofs.StepLaw.{view_start}
-use Rattle.transcripts.proofs.hub_rows.scripts.by_tape.Goals as goal
+use Rattle.transcripts_sessions.proofs.hub_rows.scripts.by_tape.Goals as goal
 
 start : view_back [] ≡ empty_view
 unfolding view_of
