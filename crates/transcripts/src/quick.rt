@@ -117,6 +117,27 @@ struct Deed<'a> {
     is_renamed: bool,
 }
 
+const THEY_COME: Deed<'static> = Deed {
+    letter: "n",
+    third: None,
+    what: "JOIN #c",
+    is_renamed: false,
+};
+
+const A_THIRD_GOES: Deed<'static> = Deed {
+    letter: "n",
+    third: Some(0),
+    what: "PART #c",
+    is_renamed: false,
+};
+
+const A_THIRD_IS_RENAMED: Deed<'static> = Deed {
+    letter: "n",
+    third: Some(1),
+    what: "NICK o",
+    is_renamed: true,
+};
+
 /// The number of a crowd, from 100 to 399, that acts behind this one: 77 places further, round and
 /// round.
 fn number_behind(number: usize) -> usize {
@@ -169,32 +190,22 @@ fn push_crowd(alloc: Global, text: &mut Vec<u8>, letter: u8, third: usize) -> Re
     Ok(())
 }
 
-const DEEDS: [(&str, Option<usize>, &str, bool); 3] = [
-    ("n", None, "JOIN #c", false),
-    ("n", Some(0), "PART #c", false),
-    ("n", Some(1), "NICK o", true),
-];
-
-/// Three hundred persons come, a third of them goes, and another third takes other nicks.
-#[test]
-fn a_channel_of_three_hundred(rt: HostRuntime) -> Result<(), Fail> {
+/// What the view shows once three hundred persons came, a third of them went, and another third took
+/// other nicks.
+fn check_crowd<R: AllocGlobal + Abort, V: NetworkView>(rt: &R, view: &mut V) -> Result<(), Fail> {
     let alloc = rt.alloc();
-    let mut view = quick_of(alloc, &[b":s 001 Me :hi", b":Me!m@h JOIN #c"])?;
-    for (letter, third, what, is_renamed) in DEEDS {
-        act(
-            alloc,
-            &mut view,
-            &Deed {
-                letter,
-                third,
-                what,
-                is_renamed,
-            },
-        )?;
-    }
+    act(alloc, view, &THEY_COME)?;
+    act(alloc, view, &A_THIRD_GOES)?;
+    act(alloc, view, &A_THIRD_IS_RENAMED)?;
     let mut want = Vec::from_slice(alloc, b"Me / #c Me")?;
     push_crowd(alloc, &mut want, b'n', 2)?;
     push_crowd(alloc, &mut want, b'o', 1)?;
-    assert!(rt; shown(alloc, &view)? == want);
+    assert!(rt; shown(alloc, &*view)? == want);
     Ok(())
+}
+
+#[test]
+fn a_channel_of_three_hundred(rt: HostRuntime) -> Result<(), Fail> {
+    let mut view = quick_of(rt.alloc(), &[b":s 001 Me :hi", b":Me!m@h JOIN #c"])?;
+    check_crowd(&rt, &mut view)
 }

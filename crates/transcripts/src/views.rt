@@ -27,21 +27,25 @@ pub(crate) fn item(alloc: Global, text: &[u8]) -> Result<Item, Fail> {
     Ok(Item::Line(line(alloc, text)?))
 }
 
-/// The view that searches, after these texts.
-pub(crate) fn tape_of(alloc: Global, texts: &[&[u8]]) -> Result<TapeView, Fail> {
-    let mut view = TapeView::new(alloc)?;
+/// Takes these texts into a view.
+fn take_all<V: NetworkView>(alloc: Global, view: &mut V, texts: &[&[u8]]) -> Result<(), Fail> {
     for text in texts {
         view.take(&item(alloc, text)?)?;
     }
+    Ok(())
+}
+
+/// The view that searches, after these texts.
+pub(crate) fn tape_of(alloc: Global, texts: &[&[u8]]) -> Result<TapeView, Fail> {
+    let mut view = TapeView::new(alloc)?;
+    take_all(alloc, &mut view, texts)?;
     Ok(view)
 }
 
 /// The view by tables, after these texts.
 pub(crate) fn quick_of(alloc: Global, texts: &[&[u8]]) -> Result<QuickView, Fail> {
     let mut view = QuickView::new(alloc)?;
-    for text in texts {
-        view.take(&item(alloc, text)?)?;
-    }
+    take_all(alloc, &mut view, texts)?;
     Ok(view)
 }
 

@@ -57,6 +57,18 @@ fn top_at(view: &QuickView, place: usize, nick: &[u8]) -> Option<u8> {
     None
 }
 
+/// The highest rank of a person on a channel.
+fn top_on(view: &QuickView, channel: &[u8], nick: &[u8]) -> Option<u8> {
+    for place in 0..view.channel_count() {
+        if let Some(found) = view.channel_at(place) {
+            if view.support().mapping().same(found.name, channel) {
+                return top_at(view, place, nick);
+            }
+        }
+    }
+    None
+}
+
 /// The highest rank of a person on a channel after these lines.
 fn top_after(
     alloc: Global,
@@ -64,15 +76,7 @@ fn top_after(
     channel: &[u8],
     nick: &[u8],
 ) -> Result<Option<u8>, Fail> {
-    let view = quick_of(alloc, lines)?;
-    for place in 0..view.channel_count() {
-        if let Some(found) = view.channel_at(place) {
-            if view.support().mapping().same(found.name, channel) {
-                return Ok(top_at(&view, place, nick));
-            }
-        }
-    }
-    Ok(None)
+    Ok(top_on(&quick_of(alloc, lines)?, channel, nick))
 }
 
 /// Whether a client without multi-prefix knows of a rank that a member holds at the end: a MODE
@@ -137,25 +141,42 @@ fn known_ranks(
     Ok(ranks)
 }
 
+/// Adds what a view of the session says, as far as the client can know it.
+fn push_known(
+    alloc: Global,
+    session: &[&[u8]],
+    client: Client,
+    view: &QuickView,
+    text: &mut Vec<u8>,
+) -> Result<(), Fail> {
+    let support = view.support();
+    text.extend_from_slice(view.own().unwrap_or(b"-"))?;
+    for place in 0..view.channel_count() {
+        show_channel(view, place, text)?;
+        let channel = view.channel_at(place).ok_or("no such channel")?;
+        for seat in 0..view.member_count(place) {
+            if let Some(member) = view.member_at(place, seat) {
+                let ranks = known_ranks(alloc, session, client, support, channel.name, &member)?;
+                show_member(view, client.caps, ranks, &member, text)?;
+            }
+        }
+    }
+    Ok(())
+}
+
 /// What the transcript says, as far as the client can know it.
 pub(super) fn defined_text(
     alloc: Global,
     session: &[&[u8]],
     client: Client,
 ) -> Result<Vec<u8>, Fail> {
-    let view = quick_of(alloc, session)?;
-    let support = view.support();
     let mut text = Vec::new(alloc);
-    text.extend_from_slice(view.own().unwrap_or(b"-"))?;
-    for place in 0..view.channel_count() {
-        show_channel(&view, place, &mut text)?;
-        let channel = view.channel_at(place).ok_or("no such channel")?;
-        for seat in 0..view.member_count(place) {
-            if let Some(member) = view.member_at(place, seat) {
-                let ranks = known_ranks(alloc, session, client, support, channel.name, &member)?;
-                show_member(&view, client.caps, ranks, &member, &mut text)?;
-            }
-        }
-    }
+    push_known(
+        alloc,
+        session,
+        client,
+        &quick_of(alloc, session)?,
+        &mut text,
+    )?;
     Ok(text)
 }

@@ -1,10 +1,14 @@
 //! The side of the client: a hub takes the session, and a view reads what the client was sent.
 
+ghost use Rattle.std.specs.Prelude.{◌≡◌};
+ghost use Rattle.net_view.specs.View.{empty_view};
+
 use super::{Client, show_member};
 use crate::views::show_channel;
 use client_caps::{Caps, Moment};
 use hub_core::Setup;
-use hub_runs::{Event, run};
+use hub_ends::MemoryOutlet;
+use hub_runs::{Event, Run, run};
 use net_view::{Item, NetworkView};
 use quick_view::QuickView;
 use std::alloc::Global;
@@ -39,25 +43,47 @@ fn push_packet(alloc: Global, items: &mut Vec<Item>, packet: &Packet) -> Result<
     Ok(())
 }
 
+/// The lines that an outlet was sent.
+fn lines_sent(alloc: Global, outlet: &MemoryOutlet) -> Result<Vec<Item>, Fail> {
+    let mut items = Vec::new(alloc);
+    for place in 0..outlet.sent_count() {
+        push_packet(alloc, &mut items, outlet.sent(place).ok_or("it was sent")?)?;
+    }
+    Ok(items)
+}
+
+/// The lines that the first session of a run was sent.
+fn first_sent<V: NetworkView + Drop>(alloc: Global, run: &Run<V>) -> Result<Vec<Item>, Fail> {
+    lines_sent(alloc, run.world.hub.outlet(0).ok_or("it is attached")?)
+}
+
+/// The lines that the client was sent by a hub over a view to which nothing came.
+fn received_by<V: NetworkView + Drop>(
+    alloc: Global,
+    view: V,
+    session: &[&[u8]],
+    client: Client,
+) -> Result<Vec<Item>, Fail>
+    requires { V.view view ≡ empty_view }
+{
+    let setup = Setup {
+        history: 10,
+        first_number: 1,
+        first_session: 0,
+    };
+    let events = events_of(alloc, session, client)?;
+    let run = run(alloc, view, setup, 8, &events)?;
+    first_sent(alloc, &run)
+}
+
 /// The lines that the client was sent.
 pub(super) fn received(
     alloc: Global,
     session: &[&[u8]],
     client: Client,
 ) -> Result<Vec<Item>, Fail> {
-    let events = events_of(alloc, session, client)?;
-    let setup = Setup {
-        history: 10,
-        first_number: 1,
-        first_session: 0,
-    };
-    let run = run(alloc, QuickView::new(alloc)?, setup, 8, &events)?;
-    let outlet = run.world.hub.outlet(0).ok_or("it is attached")?;
-    let mut items = Vec::new(alloc);
-    for place in 0..outlet.sent_count() {
-        push_packet(alloc, &mut items, outlet.sent(place).ok_or("it was sent")?)?;
-    }
-    Ok(items)
+    let view = QuickView::new(alloc)?;
+    received_by(alloc, view, session, client)
 }
 
 /// What the client reads of these lines, by a view to which nothing came.
