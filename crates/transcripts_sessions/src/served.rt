@@ -83,6 +83,7 @@ fn network_of<R: Wait>(
     let bell: SharedBell = shared_bell(alloc)?;
     let (mut end, ring) = inlet(alloc, 16, Arc::try_clone(&bell)?)?;
     let (upstream, sent) = outlet(alloc, 8, Arc::try_clone(&bell)?)?;
+    put_lines(alloc, &mut end, heard)?;
     let setup = Setup {
         history: 500,
         first_number: 1,
@@ -92,7 +93,6 @@ fn network_of<R: Wait>(
         |_| "no hub",
     )?;
     let network = Network::new(hub, bell);
-    put_lines(alloc, &mut end, heard)?;
     pump_loop(rt, alloc, &network, &FreeGate, &Still, 10);
     Ok((network, sent))
 }
@@ -112,6 +112,35 @@ fn told(alloc: Global, served: &Served<Vec<u8>>) -> Result<Vec<u8>, Fail> {
     Ok(out)
 }
 
+/// Serves a client that says this on these networks; what came of it, and behind it what the network
+/// was sent.
+fn served_text<R: Threads + Wait + Send + Copy + 'static>(
+    rt: R,
+    alloc: Global,
+    config: &Config,
+    networks: &[(Place, Network<QuickView>)],
+    sent: &mut OutletEnd,
+    mut said: &[u8],
+) -> Result<Vec<u8>, Fail> {
+    let writer = Vec::new(alloc);
+    let served = serve_session(
+        rt, alloc, &mut said, writer, config, networks, &FreeGate, &Still,
+    )?;
+    let mut out = told(alloc, &served)?;
+    push_sent(sent, &mut out)?;
+    Ok(out)
+}
+
+/// Adds what an end has to read: at most eight packets.
+fn push_sent(end: &mut OutletEnd, text: &mut Vec<u8>) -> Result<(), Fail> {
+    for _ in 0..8 {
+        if let Some(packet) = end.take() {
+            text.extend_from_slice(packet.bytes())?;
+        }
+    }
+    Ok(())
+}
+
 /// Serves a client that says this, on a network that heard that; what came of it, and behind it
 /// what the network was sent.
 fn serves<R: Threads + Wait + Send + Copy + 'static>(
@@ -127,25 +156,7 @@ fn serves<R: Threads + Wait + Send + Copy + 'static>(
         network: 0,
     };
     let networks = [(place, network)];
-    let mut reader = said;
-    let writer = Vec::new(alloc);
-    let served = serve_session(
-        rt,
-        alloc,
-        &mut reader,
-        writer,
-        &config,
-        &networks,
-        &FreeGate,
-        &Still,
-    )?;
-    let mut out = told(alloc, &served)?;
-    for _ in 0..8 {
-        if let Some(packet) = sent.take() {
-            out.extend_from_slice(packet.bytes())?;
-        }
-    }
-    Ok(out)
+    served_text(rt, alloc, &config, &networks, &mut sent, said)
 }
 
 /// Whether a client that says this, behind some login, is served so.
