@@ -2,31 +2,67 @@
 
 use client_caps::{Caps, read_request};
 use commands::{Command, WordsFault, explain_words, read_words};
+use std::alloc::Global;
+use std::process::Abort;
 use std::test::Fail;
+
+/// Whether a file of this name is to be checked.
+fn checks(command: &Command, name: &str) -> bool {
+    matches!(command, Command::Check(file) if file.as_str() == name)
+}
+
+/// Whether the settings of a file of this name are to be served.
+fn serves(command: &Command, name: &str) -> bool {
+    matches!(command, Command::Serve(file) if file.as_str() == name)
+}
+
+/// Whether the words ask for a report of the view.
+fn views(alloc: Global, words: &[&str]) -> bool {
+    matches!(read_words(alloc, words), Ok(Command::View))
+}
+
+/// The capabilities and the number of messages of an attach, if the words ask for one.
+fn attach_of(alloc: Global, words: &[&str]) -> Option<(Caps, usize)> {
+    match read_words(alloc, words) {
+        Ok(Command::Attach(caps, history)) => Some((caps, history)),
+        _ => None,
+    }
+}
+
+/// Whether the words ask for nothing that there is.
+fn are_bad(alloc: Global, words: &[&str]) -> bool {
+    matches!(read_words(alloc, words), Err(WordsFault::Bad))
+}
+
+/// Each row of words asks for help.
+fn check_helps<R: AllocGlobal + Abort>(rt: &R, rows: &[&[&str]]) {
+    for words in rows {
+        assert!(rt; matches!(read_words(rt.alloc(), words), Err(WordsFault::Help(_))));
+    }
+}
+
+/// Each row of words asks for nothing that there is.
+fn check_bad<R: AllocGlobal + Abort>(rt: &R, rows: &[&[&str]]) {
+    for words in rows {
+        assert!(rt; are_bad(rt.alloc(), words));
+    }
+}
+
+const WORDS_FOR_HELP: [&[&str]; 4] = [
+    &["--help"],
+    &["help"],
+    &["check", "-h"],
+    &["view", "--help"],
+];
 
 #[test]
 fn words_and_what_they_ask_for(rt: HostRuntime) -> Result<(), Fail> {
     let alloc = rt.alloc();
-    let command = read_words(alloc, &["check", "bnc.toml"])?;
-    assert!(rt; matches!(&command, Command::Check(file) if file.as_str() == "bnc.toml"));
-    let command = read_words(alloc, &["serve", "bnc.toml"])?;
-    assert!(rt; matches!(&command, Command::Serve(file) if file.as_str() == "bnc.toml"));
-    assert!(rt; matches!(read_words(alloc, &["view"])?, Command::View));
-    assert!(rt; matches!(read_words(alloc, &["attach"])?, Command::Attach(_, 500)));
-    assert!(rt; matches!(read_words(alloc, &["--help"]), Err(WordsFault::Help(_))));
-    assert!(rt; matches!(read_words(alloc, &["help"]), Err(WordsFault::Help(_))));
-    assert!(rt;
-        matches!(
-            read_words(alloc, &["check", "-h"]),
-            Err(WordsFault::Help(_))
-        )
-    );
-    assert!(rt;
-        matches!(
-            read_words(alloc, &["view", "--help"]),
-            Err(WordsFault::Help(_))
-        )
-    );
+    assert!(rt; checks(&read_words(alloc, &["check", "bnc.toml"])?, "bnc.toml"));
+    assert!(rt; serves(&read_words(alloc, &["serve", "bnc.toml"])?, "bnc.toml"));
+    assert!(rt; views(alloc, &["view"]));
+    assert!(rt; matches!(attach_of(alloc, &["attach"]), Some((_, 500))));
+    check_helps(&rt, &WORDS_FOR_HELP);
     Ok(())
 }
 
@@ -42,16 +78,30 @@ const WHAT_IS_WRONG_WITH_WORDS: [([&str; 2], &str); 3] = [
     ),
 ];
 
+/// Each row is told so.
+fn check_what_is_wrong<R: AllocGlobal + Abort>(
+    rt: &R,
+    rows: &[([&str; 2], &str)],
+) -> Result<(), Fail> {
+    for (words, want) in rows {
+        let told = explain_words(rt.alloc(), words)?.ok_or("nothing is told")?;
+        assert!(rt; told.as_str() == *want);
+    }
+    Ok(())
+}
+
+/// Whether nothing is wrong with the words.
+fn is_nothing_wrong(alloc: Global, words: &[&str]) -> bool {
+    matches!(explain_words(alloc, words), Ok(None))
+}
+
 #[test]
 fn what_is_wrong_with_words(rt: HostRuntime) -> Result<(), Fail> {
-    for (words, want) in WHAT_IS_WRONG_WITH_WORDS {
-        let told = explain_words(rt.alloc(), &words)?.ok_or("nothing is told")?;
-        assert_eq!(rt; told.as_str(), want);
-    }
+    check_what_is_wrong(&rt, &WHAT_IS_WRONG_WITH_WORDS)?;
+    assert!(rt; is_nothing_wrong(rt.alloc(), &["check", "a"]));
+    assert!(rt; is_nothing_wrong(rt.alloc(), &["--help"]));
     let told = explain_words(rt.alloc(), &["check"])?.ok_or("nothing is told")?;
     assert!(rt; told.as_str().contains("<FILE>"));
-    assert!(rt; explain_words(rt.alloc(), &["check", "a"])?.is_none());
-    assert!(rt; explain_words(rt.alloc(), &["--help"])?.is_none());
     Ok(())
 }
 
@@ -63,74 +113,55 @@ const LISTS_OF_CAPABILITIES: [(&str, Option<&[u8]>); 5] = [
     ("batch,sasl", None),
 ];
 
-#[test]
-fn lists_of_capabilities(rt: HostRuntime) -> Result<(), Fail> {
-    let alloc = rt.alloc();
-    for (list, want) in LISTS_OF_CAPABILITIES {
-        let caps = match read_words(alloc, &["attach", "--caps", list]) {
-            Ok(Command::Attach(caps, 500)) => Some(caps),
-            Err(WordsFault::Bad) => None,
-            _ => return Err("neither a list nor a fault".into()),
-        };
-        let wanted = match want {
-            Some(text) => read_request(Caps::none(), text),
-            None => None,
-        };
-        assert_eq!(rt; caps, wanted);
+/// Each list is read as the names behind it, or refused.
+fn check_lists<R: AllocGlobal + Abort>(rt: &R, rows: &[(&str, Option<&[u8]>)]) {
+    for (list, want) in rows {
+        let words = ["attach", "--caps", *list];
+        match want {
+            Some(names) => {
+                let attach = attach_of(rt.alloc(), &words);
+                assert!(rt; attach == read_request(Caps::none(), names).map(|caps| (caps, 500)));
+            }
+            None => assert!(rt; are_bad(rt.alloc(), &words)),
+        }
     }
-    Ok(())
+}
+
+#[test]
+fn lists_of_capabilities(rt: HostRuntime) {
+    check_lists(&rt, &LISTS_OF_CAPABILITIES);
 }
 
 const NUMBERS_OF_MESSAGES: [&str; 5] = ["attach", "--history", "10000", "--caps", "batch"];
 
+const NO_NUMBERS_OF_MESSAGES: [&[&str]; 6] = [
+    &["attach", "--history", "0"],
+    &["attach", "--history", "10001"],
+    &["attach", "--history", ""],
+    &["attach", "--history", "many"],
+    &["attach", "--history", "-1"],
+    &["attach", "--history", "18446744073709551616"],
+];
+
 #[test]
-fn numbers_of_messages(rt: HostRuntime) -> Result<(), Fail> {
+fn numbers_of_messages(rt: HostRuntime) {
     let alloc = rt.alloc();
-    let good = read_words(alloc, &NUMBERS_OF_MESSAGES)?;
-    assert!(rt; matches!(&good, Command::Attach(caps, 10_000) if caps.batch));
-    assert!(rt;
-        matches!(
-            read_words(alloc, &["attach", "--history=1"])?,
-            Command::Attach(_, 1)
-        )
-    );
-    for text in ["0", "10001", "", "many", "-1", "18446744073709551616"] {
-        assert!(rt;
-            matches!(
-                read_words(alloc, &["attach", "--history", text]),
-                Err(WordsFault::Bad)
-            )
-        );
-    }
-    Ok(())
+    let good = attach_of(alloc, &NUMBERS_OF_MESSAGES);
+    assert!(rt; matches!(good, Some((caps, 10_000)) if caps.batch));
+    assert!(rt; matches!(attach_of(alloc, &["attach", "--history=1"]), Some((_, 1))));
+    check_bad(&rt, &NO_NUMBERS_OF_MESSAGES);
 }
 
-const WORDS_THAT_ASK_FOR_NOTHING: [&str; 3] = ["check", "a", "b"];
-
-const WORDS_THAT_ASK_FOR_NOTHING_THEN: [&str; 3] = ["check", "--other", "a"];
+const WORDS_THAT_ASK_FOR_NOTHING: [&[&str]; 6] = [
+    &[],
+    &["check"],
+    &["check", "a", "b"],
+    &["check", "--other", "a"],
+    &["view", "bnc.toml"],
+    &["chek", "a"],
+];
 
 #[test]
 fn words_that_ask_for_nothing(rt: HostRuntime) {
-    let alloc = rt.alloc();
-    assert!(rt; matches!(read_words(alloc, &[]), Err(WordsFault::Bad)));
-    assert!(rt; matches!(read_words(alloc, &["check"]), Err(WordsFault::Bad)));
-    assert!(rt;
-        matches!(
-            read_words(alloc, &WORDS_THAT_ASK_FOR_NOTHING),
-            Err(WordsFault::Bad)
-        )
-    );
-    assert!(rt;
-        matches!(
-            read_words(alloc, &WORDS_THAT_ASK_FOR_NOTHING_THEN),
-            Err(WordsFault::Bad)
-        )
-    );
-    assert!(rt;
-        matches!(
-            read_words(alloc, &["view", "bnc.toml"]),
-            Err(WordsFault::Bad)
-        )
-    );
-    assert!(rt; matches!(read_words(alloc, &["chek", "a"]), Err(WordsFault::Bad)));
+    check_bad(&rt, &WORDS_THAT_ASK_FOR_NOTHING);
 }
