@@ -5,5 +5,6 @@ pub mod HeadLemmas
 pub mod TableLemmas
 pub mod ShownLemmas
 pub mod SwapLemmas
+pub mod NumberedLemmas
 pub mod EachLemmas
 pub mod Outcomes

@@ -38,13 +38,40 @@ again_in m k h p =
     m k p)
     [ true ↦ twice_in m k h p | false ↦ refl ]
 
-some_of : {X : Type 0} (o : Option X) → is_some o ≡ true → (x : X) × (o ≡ Some x)
-some_of None e = cc
-some_of (Some x) e = (x, refl)
-
 pub none_of : {X : Type 0} (o : Option X) → is_some o ≡ false → o ≡ None
 none_of None e = refl
 none_of (Some x) e = cc
+
+-- what is there is put in again
+pub there_again : {X : Type 0} (m m1 : fin.FinMap bytes_cmp X) (k : Text) (h p : X) →
+    fin.contains_key m k ≡ true → m1 ≡ swapped_in m k h → swapped_in m1 k p ≡ fin.insert m1 k p
+there_again m m1 k h p there is =
+    ap (λ o. cond (is_some o) (fin.insert m1 k p) m1) (ap (λ t. fin.get t k) (is ∙ ap (λ b. cond b
+    (fin.insert m k h) m) there)
+    ∙ fin.get-insert nat_list_cmp_total m k h k
+    ∙ ap (λ b. cond b (Some h) (fin.get m k)) (same_refl k))
+
+-- what was not there is still not
+pub none_again : {X : Type 0} (m m1 : fin.FinMap bytes_cmp X) (k : Text) (h : X) → fin.contains_key m
+    k ≡ false → m1 ≡ swapped_in m k h → fin.get m1 k ≡ None
+none_again m m1 k h none is =
+    ap (λ t. fin.get t k) (is ∙ ap (λ b. cond b (fin.insert m k h) m) none) ∙ none_of (fin.get m k)
+    none
+
+-- what is taken out and put in
+pub put_anew : {X : Type 0} (m : fin.FinMap bytes_cmp X) (k : Text) (x : X) → fin.insert (fin.remove m
+    k) k x ≡ fin.insert m k x
+put_anew m k x =
+    fin.same_map nat_list_cmp_total bytes_exact _ _ (λ q. fin.get-insert nat_list_cmp_total
+    (fin.remove m k) k x q
+    ∙ ap (cond (same q k) (Some x)) (fin.get-remove nat_list_cmp_total m k q)
+    ∙ elim (same q k) as (λ b. cond b (Some x) (cond b None (fin.get m q)) ≡ cond b (Some x)
+    (fin.get m q)) [ true ↦ refl | false ↦ refl ]
+    ∙ sym (fin.get-insert nat_list_cmp_total m k x q))
+
+some_of : {X : Type 0} (o : Option X) → is_some o ≡ true → (x : X) × (o ≡ Some x)
+some_of None e = cc
+some_of (Some x) e = (x, refl)
 
 -- taken out, changed and put back
 pub changed_back : {X Y : Type 0} (f : X → Y) (m m1 m2 : fin.FinMap bytes_cmp X) (k : Text) (h old

@@ -2,6 +2,7 @@
 #![tactic(auto)]
 
 mod modes;
+mod numbered;
 mod person;
 mod room;
 mod slot;
@@ -10,6 +11,7 @@ mod table;
 mod text;
 
 pub use modes::Modes;
+pub use numbered::{Fresh, Keyed, Numbered};
 pub use person::{
     People, Person, name_person, new_person, rename_person, retain_seen, set_account, set_away,
 };

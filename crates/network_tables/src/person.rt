@@ -1,8 +1,9 @@
 //! Persons in sight.
 
-ghost use Rattle.std.specs.Prelude.{◌≡◌, ◌+◌, ◌<◌, ◌≤◌, [], Some, None, IfOk};
+ghost use Rattle.std.specs.Prelude.{◌≡◌, ℕ, ◌+◌, ◌<◌, ◌≤◌, [], Some, None, IfOk, false, not};
+ghost use Rattle.slab.specs.Slab.{HasRoomFor, get as cell};
 ghost use Rattle.irc_names.specs.CaseMapping.{key_of};
-ghost use Rattle.std.specs.Option.{option_map};
+ghost use Rattle.std.specs.Option.{option_map, option_map_or};
 ghost use Rattle.std.specs.FinMap as fin;
 ghost use Rattle.net_view.specs.Changes.{told_person, with_account, with_away, renamed_in};
 ghost use Rattle.net_view.specs.Changes.{spelled_as};
@@ -11,14 +12,17 @@ ghost use Rattle.std.specs.List.{filter};
 ghost use Rattle.net_view.specs.Step.{is_seen};
 ghost use Rattle.network_tables.specs.Rooms.{rooms_of};
 ghost use Rattle.network_tables.specs.People.{people_of, changed_at};
+ghost use Rattle.network_tables.specs.Numbered.{seen_in};
 
 use crate::OutOfMemory;
+use crate::numbered::{Fresh, Keyed, Numbered};
 use crate::room::Rooms;
-use crate::slot::{Entry, Slot};
+use crate::slot::{Slot, new_entry};
 use crate::sought::Sought;
 use crate::table::Table;
 use block_list::Blocks;
 use irc_names::CaseMapping;
+use slab::Slab;
 use std::alloc::Allocator;
 
 /// What is known of a person in sight.
@@ -31,7 +35,7 @@ pub struct Person<A: Allocator> {
 }
 
 /// The persons in sight, by the keys of their nicks.
-pub type People<A> = Table<Person<A>, A>;
+pub type People<A> = Numbered<Person<A>, A>;
 
 /// Nobody, of whom nothing is known.
 pub fn nobody<A: Allocator>(alloc: A) -> Person<A>
@@ -50,43 +54,55 @@ pub fn new_person<A: Allocator + Copy>(
     alloc: A,
     mapping: CaseMapping,
     name: &[u8],
-) -> Result<Box<Entry<Person<A>, A>, A>, OutOfMemory>
-    ensures key { IfOk result (λ entry. entry.value.key.items ≡ key_of mapping name.now) }
-    ensures nick { IfOk result (λ entry. entry.value.value.nick.items ≡ name.now) }
+) -> Result<Fresh<Person<A>, A>, OutOfMemory>
+    ensures key { IfOk result (λ person. person.known.key.items ≡ key_of mapping name.now) }
+    ensures nick { IfOk result (λ person. person.known.value.nick.items ≡ name.now) }
 {
     let key = mapping.key(alloc, name)?;
+    let again = mapping.key(alloc, name)?;
     let nick = Vec::from_slice(alloc, name)?;
+    let number = new_entry(alloc, again, 0)?;
     let value = Person {
         nick,
         account: None,
         away: None,
     };
-    Ok(Box::new(alloc, Entry { key, value })?)
+    Ok(Fresh {
+        known: Keyed { key, value },
+        number,
+    })
 }
 
 /// Names a person, who may come into sight, and tells the account, where one is told. What else is
-/// known of the person stays.
+/// known of the person stays. The person is first looked for in the cell near; the number of the
+/// person's cell.
 pub fn name_person<A: Allocator + Copy>(
     alloc: A,
     people: &mut People<A>,
-    person: Box<Entry<Person<A>, A>, A>,
+    near: usize,
+    person: Fresh<Person<A>, A>,
     account: Option<Option<Vec<u8, A>>>,
-)
+) -> usize
     requires { 0 < people.old.spare }
     ensures named { people_of people.new.all ≡ fin.insert (people_of people.old.all)
-        person.value.key.items
-        (told_person (Some (Some person.value.value.nick.items))
+        person.known.key.items
+        (told_person (Some (Some person.known.value.nick.items))
         (option_map (option_map (λ t. t.items)) account) None
-        (fin.get (people_of people.old.all) person.value.key.items)) }
+        (fin.get (people_of people.old.all) person.known.key.items)) }
     ensures room { people.old.spare ≤ people.new.spare + 1 }
 {
-    let mut person = person;
-    let mut near = usize::MAX;
+    let Fresh { mut known, number } = person;
+    let mut near = near;
     let mut old = nobody(alloc);
-    people.swap(&mut near, Sought::Key(&person.key), &mut old);
-    person.value.account = account.unwrap_or(old.account);
-    person.value.away = old.away;
-    people.insert_near(&mut near, person);
+    let in_sight = people.swap(&mut near, Sought::Key(&known.key), &mut old);
+    known.value.account = account.unwrap_or(old.account);
+    known.value.away = old.away;
+    if in_sight {
+        people.swap(&mut near, Sought::Key(&known.key), &mut known.value);
+        near
+    } else {
+        people.put(Fresh { known, number })
+    }
 }
 
 /// Changes a person's account, where the person is in sight.
@@ -127,24 +143,29 @@ pub fn set_away<A: Allocator + Copy>(
     }
 }
 
-/// Gives a person another key and nick. Whoever stood under that key is gone.
+/// Gives a person another key, of which there are two copies, and another nick. Whoever stood under
+/// that key is gone.
 pub fn rename_person<A: Allocator>(
     people: &mut People<A>,
     old: Sought<'_>,
     new: Vec<u8, A>,
+    again: Vec<u8, A>,
     nick: Vec<u8, A>,
 )
+    requires { again.items ≡ new.items }
     ensures { people_of people.new.all
         ≡ renamed_in (spelled_as nick.items) (sought_key old.entry) new.items
         (people_of people.old.all) }
 {
-    match people.remove(old) {
-        Some(mut person) => {
-            person.key = new;
-            person.value.nick = nick;
-            people.insert(person);
+    match people.take(old) {
+        Some((mut known, mut number)) => {
+            people.remove(Sought::Key(&new));
+            known.key = new;
+            known.value.nick = nick;
+            number.key = again;
+            people.put(Fresh { known, number });
         }
-        None => people.forget(&new),
+        None => people.remove(Sought::Key(&new)),
     }
 }
 
@@ -153,11 +174,20 @@ pub fn retain_seen<A: Allocator>(people: &mut People<A>, rooms: &Rooms<A>)
     ensures { people_of people.new.all
         ≡ fin.retain_keys (people_of people.old.all) (is_seen (rooms_of rooms.now.all)) }
 {
-    retain_in(&mut people.entries, rooms);
+    people.spare = 0;
+    retain_numbers(&mut people.index, rooms);
+    retain_cells(&mut people.cells, rooms);
+}
+
+/// Keeps the numbers of those persons.
+fn retain_numbers<A: Allocator>(index: &mut Table<usize, A>, rooms: &Rooms<A>)
+    ensures { index.new.all ≡ fin.retain_keys index.old.all (is_seen (rooms_of rooms.now.all)) }
+{
+    retain_in(&mut index.entries, rooms);
 }
 
 /// The same of the slots.
-fn retain_in<A: Allocator>(slots: &mut Blocks<Slot<Person<A>, A>, A>, rooms: &Rooms<A>)
+fn retain_in<A: Allocator>(slots: &mut Blocks<Slot<usize, A>, A>, rooms: &Rooms<A>)
     ensures { slots.new.items
         ≡ filter (λ slot. is_seen (rooms_of rooms.now.all) slot.entry.value.key.items)
         slots.old.items }
@@ -168,5 +198,29 @@ fn retain_in<A: Allocator>(slots: &mut Blocks<Slot<Person<A>, A>, A>, rooms: &Ro
         if !rooms.is_seen(Sought::Key(&slots.at(place).entry.key)) {
             let _ = slots.remove(place);
         }
+    }
+}
+
+/// Keeps the cells of those persons.
+fn retain_cells<A: Allocator>(cells: &mut Slab<Keyed<Person<A>, A>, A>, rooms: &Rooms<A>)
+    ensures cells { (n : ℕ) → cell cells.new n
+        ≡ seen_in (is_seen (rooms_of rooms.now.all)) (cell cells.old n) }
+    ensures room { HasRoomFor cells.new 0 }
+{
+    for number in 0..cells.capacity() {
+        if is_unseen(cells.get(number), rooms) {
+            let _ = cells.remove(number);
+        }
+    }
+}
+
+/// Whether a cell holds a person who is a member of none of the channels.
+fn is_unseen<A: Allocator>(known: Option<&Keyed<Person<A>, A>>, rooms: &Rooms<A>) -> bool
+    ensures { result ≡ option_map_or
+        (λ k. not (is_seen (rooms_of rooms.now.all) k.now.key.items)) known.entry false }
+{
+    match known {
+        Some(known) => !rooms.is_seen(Sought::Key(&known.key)),
+        None => false,
     }
 }

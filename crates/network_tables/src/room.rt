@@ -16,7 +16,7 @@ ghost use Rattle.network_tables.specs.Rooms.{each_changed, is_in, moved_in, move
 
 use crate::OutOfMemory;
 use crate::modes::Modes;
-use crate::slot::{Entry, Slot};
+use crate::slot::{Entry, Slot, new_entry};
 use crate::sought::{Sought, head};
 use crate::table::Table;
 use block_list::Blocks;
@@ -66,7 +66,7 @@ pub fn new_member<A: Allocator + Copy>(
     ensures ranks { IfOk result (λ entry. entry.value.value ≡ ranks) }
 {
     let key = mapping.key(alloc, name)?;
-    Ok(Box::new(alloc, Entry { key, value: ranks })?)
+    new_entry(alloc, key, ranks)
 }
 
 /// A channel of this name, of which somebody is the one member, as it is to be kept.
@@ -92,7 +92,7 @@ pub fn fresh_room<A: Allocator + Copy>(
         modes: Modes::new(alloc),
         members,
     };
-    Ok(Box::new(alloc, Entry { key, value })?)
+    new_entry(alloc, key, value)
 }
 
 /// Changes a channel's topic, where we are on it.

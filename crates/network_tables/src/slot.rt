@@ -1,8 +1,9 @@
 //! An entry of a table.
 
-ghost use Rattle.std.specs.Prelude.{◌≡◌};
+ghost use Rattle.std.specs.Prelude.{◌≡◌, IfOk};
 ghost use Rattle.network_tables.specs.Head.{head_of, AreBytesTo, AreBytesTo-prop};
 
+use crate::OutOfMemory;
 use std::alloc::Allocator;
 
 /// A value under its key.
@@ -10,6 +11,21 @@ use std::alloc::Allocator;
 pub struct Entry<V, A: Allocator> {
     pub key: Vec<u8, A>,
     pub value: V,
+    /// Where to look first, elsewhere, for what belongs to it. It may be any number.
+    pub near: usize,
+}
+
+/// A value under its key, of which nothing is known elsewhere.
+pub(crate) fn new_entry<V: Drop, A: Allocator + Copy>(
+    alloc: A,
+    key: Vec<u8, A>,
+    value: V,
+) -> Result<Box<Entry<V, A>, A>, OutOfMemory>
+    ensures key { IfOk result (λ entry. entry.value.key.items ≡ key.items) }
+    ensures value { IfOk result (λ entry. entry.value.value ≡ value) }
+{
+    let near = usize::MAX;
+    Ok(Box::new(alloc, Entry { key, value, near })?)
 }
 
 /// An entry behind a pointer, with the first eight bytes of its key beside it: what stands behind a

@@ -201,6 +201,15 @@ impl<V, A: Allocator> Table<V, A> {
         self.get_near(near, sought).is_some()
     }
 
+    /// Where to look first for what belongs to the entry at a place; nothing else is said of it.
+    pub fn near_at(&self, place: usize) -> usize {
+        if place < self.entries.len() {
+            self.entries.at(place).entry.near
+        } else {
+            usize::MAX
+        }
+    }
+
     /// The key and the value at a place.
     pub fn at(&self, place: usize) -> Option<(&[u8], &V)>
         ensures { option_map entry_now result ≡ slice_get (fin.entries self.now.all) place }

@@ -22,7 +22,7 @@ listings_in settings line = filter_map (listing settings) (words_in settings lin
 -- a member that is listed
 abbrev pub listing_of : {A : Type 0} → Listed A → told.Listing
 listing_of l = record {
-  person = record { key = l.person.value.key.items; spelled = l.person.value.value.nick.items };
+  person = record { key = l.person.known.key.items; spelled = l.person.known.value.nick.items };
   ranks =
       l.member.value.value;
 }

@@ -45,16 +45,17 @@ fn keep_listed<A: Allocator + Copy>(
     requires members { 0 < members.old.spare }
     requires people { 0 < people.old.spare }
     ensures member { members.new.all
-        ≡ fin.insert members.old.all listed.person.value.key.items listed.member.value.value }
+        ≡ fin.insert members.old.all listed.person.known.key.items listed.member.value.value }
     ensures person { people_of people.new.all ≡ fin.insert (people_of people.old.all)
-        listed.person.value.key.items
-        (told_person (Some (Some listed.person.value.value.nick.items)) None None
-        (fin.get (people_of people.old.all) listed.person.value.key.items)) }
+        listed.person.known.key.items
+        (told_person (Some (Some listed.person.known.value.nick.items)) None None
+        (fin.get (people_of people.old.all) listed.person.known.key.items)) }
     ensures member_room { members.old.spare ≤ members.new.spare + 1 }
     ensures person_room { people.old.spare ≤ people.new.spare + 1 }
 {
-    members.insert(listed.member);
-    name_person(alloc, people, listed.person, None);
+    let Listed { mut member, person } = listed;
+    member.near = name_person(alloc, people, usize::MAX, person, None);
+    members.insert(member);
 }
 
 /// Keeps all members that are listed; for the persons there is room.

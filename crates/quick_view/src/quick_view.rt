@@ -124,7 +124,8 @@ impl<A: Allocator + Copy> NetworkView for QuickView<A> {
         let Some((key, ranks)) = room.members.at(j) else {
             return None;
         };
-        match self.state.people.get(Sought::Key(key)) {
+        let near = room.members.near_at(j);
+        match self.state.people.get_near(near, Sought::Key(key)) {
             Some(person) => Some(Member {
                 nick: person.nick.as_slice(),
                 ranks: *ranks,

@@ -6,7 +6,7 @@ use crate::moding::{change_modes, change_room};
 use irc_line::Line;
 use irc_support::{Ranks, Support};
 use network_tables::{
-    Modes, Person, Rooms, Sought, Table, copies, copy_of, copy_of_told, fresh_room, name_person,
+    Modes, People, Rooms, Sought, Table, copies, copy_of, copy_of_told, fresh_room, name_person,
     new_member, new_person, no_room, rename_person, retain_seen, seat, set_account, set_away,
     set_modes, set_topic, unseat,
 };
@@ -20,7 +20,7 @@ pub(crate) struct State<A: Allocator> {
     pub(crate) ready: bool,
     pub(crate) support: Support<A>,
     pub(crate) rooms: Rooms<A>,
-    pub(crate) people: Table<Person<A>, A>,
+    pub(crate) people: People<A>,
 }
 
 impl<A: Allocator + Copy> State<A> {
@@ -53,7 +53,7 @@ impl<A: Allocator + Copy> State<A> {
             ready: false,
             support,
             rooms: Table::new(alloc),
-            people: Table::new(alloc),
+            people: People::new(alloc),
         })
     }
 
@@ -162,12 +162,14 @@ impl<A: Allocator + Copy> State<A> {
         if !self.rooms.contains_near(&mut near, channel) {
             return Ok(());
         }
-        let member = new_member(self.alloc, mapping, who, Ranks::none())?;
+        let mut member = new_member(self.alloc, mapping, who, Ranks::none())?;
         let person = new_person(self.alloc, mapping, who)?;
         let account = copy_of_told(self.alloc, account)?;
         self.people.reserve(1)?;
+        let number = self.people.number_for(&person.known.key);
+        member.near = number;
         seat(self.alloc, &mut self.rooms, near, channel, member)?;
-        name_person(self.alloc, &mut self.people, person, account);
+        name_person(self.alloc, &mut self.people, number, person, account);
         Ok(())
     }
 
@@ -232,7 +234,7 @@ impl<A: Allocator + Copy> State<A> {
         let again = self
             .rooms
             .contains_near(&mut near, Sought::Name(mapping, channel));
-        name_person(self.alloc, &mut self.people, person, account);
+        name_person(self.alloc, &mut self.people, usize::MAX, person, account);
         self.rooms.insert_near(&mut near, room);
         if again {
             retain_seen(&mut self.people, &self.rooms);
@@ -249,13 +251,14 @@ impl<A: Allocator + Copy> State<A> {
     {
         let mapping = self.support.mapping();
         let key = mapping.key(self.alloc, new)?;
+        let again = Vec::from_slice(self.alloc, &key)?;
         let nick = Vec::from_slice(self.alloc, new)?;
         let own = Vec::from_slice(self.alloc, new)?;
         let mut keys = copies(self.alloc, &key, self.rooms.len())?;
         let old = Sought::Name(mapping, old);
         let taken = self.people.get(Sought::Key(&key)).is_some();
         self.rooms.rename_all(old, taken, &key, &mut keys);
-        rename_person(&mut self.people, old, key, nick);
+        rename_person(&mut self.people, old, key, again, nick);
         if ours {
             self.own = Some(own);
         }

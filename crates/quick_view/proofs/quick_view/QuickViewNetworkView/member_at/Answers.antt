@@ -37,7 +37,7 @@ unreachable-requires g c =
     (ap (option_map entry_now) (sym c.in-Some.is) ∙ c.at.ensures) c.self.invariant
     (c.in-Some-at.key.now, c.in-Some-at.ranks.now) (ap (option_map entry_now) (sym c.in-Some-at.is)
     ∙ c.at-2.ensures)
-    (ap (option_map (λ p. p.now)) (sym c.in-None.is) ∙ c.get.ensures)
+    (ap (option_map (λ p. p.now)) (sym c.in-None.is) ∙ c.get_near.ensures)
 
 pub returns : goal.returns
 returns g c =
@@ -45,14 +45,14 @@ returns g c =
       c.in-Some._key.now,
       c.in-Some.room.now,
     ) (ap (option_map entry_now) (sym c.in-Some.is) ∙ c.at.ensures)
-    (c.in-Some-at.key.now, c.in-Some-at.ranks.now) c.in-Some-get.person.now (ap (option_map
+    (c.in-Some-at.key.now, c.in-Some-at.ranks.now) c.in-Some-get_near.person.now (ap (option_map
     entry_now) (sym c.in-Some-at.is) ∙ c.at-2.ensures)
-    (ap (option_map (λ p. p.now)) (sym c.in-Some-get.is) ∙ c.get.ensures)
+    (ap (option_map (λ p. p.now)) (sym c.in-Some-get_near.is) ∙ c.get_near.ensures)
     ∙ ap (λ v. member_shown v c.args.i c.args.j) c.self.view_is in
     record {
       nick = ap Some c.as_slice.ensures.value ∙ ap (option_map (λ (m : MemberParts). m.nick)) shown;
       ranks = ap (option_map (λ (m : MemberParts). m.ranks)) shown;
       account = ap Some c.bytes.ensures ∙ ap (option_map (λ (m : MemberParts). m.account)) shown;
-      away = ap Some c.bytes-in-Some-get.ensures ∙ ap (option_map (λ (m : MemberParts). m.away))
+      away = ap Some c.bytes-in-Some-get_near.ensures ∙ ap (option_map (λ (m : MemberParts). m.away))
           shown;
     }

@@ -22,7 +22,7 @@ returns-then-ours-clause-taken g c known =
     let taken = c.is_some-taken.result in
     let free : taken ≡ false → is_seen v.channels new ≡ false = λ f.
     sym (known new) ∙ contains-shown bytes_cmp known_of ps new
-    ∙ ap (fin.contains_key ps) (sym (c.deref-2.ensures.value ∙ c.in_ok-key.ensures))
+    ∙ ap (fin.contains_key ps) (sym (c.deref-3.ensures.value ∙ c.in_ok-key.ensures))
     ∙ ap is_some (sym c.get.ensures) ∙ shown_some (λ p. p.now) c.get.result
     ∙ sym c.is_some-taken.ensures ∙ f in
     (λ i. record {
@@ -30,7 +30,7 @@ returns-then-ours-clause-taken g c known =
       ready = v.ready;
       settings = v.settings;
       channels = (c.rename_all.ensures
-          ∙ ap (λ k. shown (moved_channel taken old k) v.channels) (c.deref-3.ensures.value ∙
+          ∙ ap (λ k. shown (moved_channel taken old k) v.channels) (c.deref-4.ensures.value ∙
           c.in_ok-key.ensures)
           ∙ freely_moved v.channels taken old new free) i;
       people = (c.rename_person.ensures ∙ (λ j. renamed_in (spelled_as (c.in_ok-nick.ensures.items
@@ -48,7 +48,7 @@ returns-else-ours-clause-taken g c known =
     let taken = c.is_some-taken.result in
     let free : taken ≡ false → is_seen v.channels new ≡ false = λ f.
     sym (known new) ∙ contains-shown bytes_cmp known_of ps new
-    ∙ ap (fin.contains_key ps) (sym (c.deref-2.ensures.value ∙ c.in_ok-key.ensures))
+    ∙ ap (fin.contains_key ps) (sym (c.deref-3.ensures.value ∙ c.in_ok-key.ensures))
     ∙ ap is_some (sym c.get.ensures) ∙ shown_some (λ p. p.now) c.get.result
     ∙ sym c.is_some-taken.ensures ∙ f in
     (λ i. record {
@@ -56,7 +56,7 @@ returns-else-ours-clause-taken g c known =
       ready = v.ready;
       settings = v.settings;
       channels = (c.rename_all.ensures
-          ∙ ap (λ k. shown (moved_channel taken old k) v.channels) (c.deref-3.ensures.value ∙
+          ∙ ap (λ k. shown (moved_channel taken old k) v.channels) (c.deref-4.ensures.value ∙
           c.in_ok-key.ensures)
           ∙ freely_moved v.channels taken old new free) i;
       people = (c.rename_person.ensures ∙ (λ j. renamed_in (spelled_as (c.in_ok-nick.ensures.items

@@ -1,0 +1,16 @@
+use Rattle.std.proofs.Common.{None, is_some, count_by, ap, arith, get_or}
+use Rattle.network_tables.proofs.NumberedLemmas.{none_joined, none_tied}
+use Rattle.network_tables.proofs.numbered.Numbered.new.Goals as goal
+
+pub invariant_of-result : goal.invariant_of-result
+invariant_of-result g c =
+    let none = ap (count_by is_some) c.new-2.ensures.empty in
+    record {
+      tied = none_tied c.new.result.all c.new-2.result c.new.ensures (λ n. ap (λ l. get_or l n None)
+          c.new-2.ensures.empty);
+      index_room = omega arith;
+      cell_room = omega (arith, none);
+    }
+
+pub returns : goal.returns
+returns g c = none_joined c.new.result.all c.new-2.result c.new.ensures
