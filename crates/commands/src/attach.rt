@@ -143,9 +143,8 @@ pub fn run_attach<R: Read, W: Write>(
         × IsAttachFault bytes (R.remaining reader.new) fault) }
     ensures unwritten { IfErr result (λ fault. fault ≢ Fault.CannotWrite → out.new ≡ out.old) }
 {
-    let mut attaching = Attaching {
-        view: QuickView::new(alloc)?,
-        recent: HeapCircularBuffer::with_capacity(alloc, history)?,
-    };
+    let recent = HeapCircularBuffer::with_capacity(alloc, history)?;
+    let view = QuickView::new(alloc)?;
+    let mut attaching = Attaching { view, recent };
     attach_input(alloc, &mut attaching, reader, out, caps)
 }
