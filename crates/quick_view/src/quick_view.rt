@@ -18,9 +18,15 @@ use std::marker::Model;
 /// behind the place where a table changes; QUIT, NICK and a member's leaving do so in each channel.
 /// Only `take` of a line that tells something to keep may need memory: a loss, PART, KICK and QUIT
 /// never do.
-#[derive(Drop)]
 pub struct QuickView<A: Allocator = Global> {
     state: State<A>,
+}
+
+// By hand, so that whoever owns a view proves one call where it goes, and not the way of each field.
+impl<A: Allocator> Drop for QuickView<A> {
+    fn drop(self) {
+        let QuickView { state: _state } = self;
+    }
 }
 
 impl<A: Allocator> Model for QuickView<A> {
