@@ -1,7 +1,7 @@
 -- The channels of a view, and the key among a channel's modes.
 use Rattle.std.proofs.Common.{◌≡◌, ◌∙◌, ◌+◌, ◌<◌, ◌≤◌, ℕ, zero, suc, List, [], ◌∷◌, ◌++◌, refl, sym}
-use Rattle.std.proofs.Common.{ap, arith, Option, None, Some, Bool, true, false, length, map, take}
-use Rattle.std.proofs.Common.{subst, cond, append-nil, option_to_list}
+use Rattle.std.proofs.Common.{ap, arith, Option, None, Some, true, false, length, map, take}
+use Rattle.std.proofs.Common.{cond, append-nil, option_to_list}
 use Rattle.std.specs.Prelude.{drop}
 use Rattle.std.specs.List.{slice_get}
 use Rattle.std.specs.Option.{option_and_then, option_map, option_map_or}
@@ -16,7 +16,7 @@ use Rattle.irc_support.specs.Text.{Text}
 use Rattle.net_view.specs.View.{Channel, View}
 use Rattle.net_view.specs.Readers.{channel_shown, channels_shown, mode_shown}
 use Rattle.welcome.specs.Lent.{modes_at}
-use Rattle.welcome.proofs.Places.{Mode, mode_here, take_next, take_whole}
+use Rattle.welcome.proofs.Places.{Mode, mode_here, take_next}
 use Rattle.hub_core.specs.LostChannels.{Joining, channels_of_view, key_of_channel}
 
 -- ---- the key

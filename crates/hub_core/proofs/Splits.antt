@@ -1,6 +1,6 @@
 -- A list of sessions around one of them.
 use Rattle.std.proofs.Common.{◌≡◌, ◌≢◌, ◌<◌, ℕ, zero, suc, List, [], ◌∷◌, ◌++◌, sym, ap, ◌∙◌, arith}
-use Rattle.std.proofs.Common.{map, length, take, drop, get_or, set, take-append-drop, ◌-◌}
+use Rattle.std.proofs.Common.{map, length, take, drop, get_or, set, take-append-drop}
 use Rattle.std.proofs.lemmas.List.{map-append}
 use Rattle.std.proofs.Math.Seq.{drop-cons, set-append_seam}
 use Rattle.std.specs.List.{remove}

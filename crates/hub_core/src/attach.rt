@@ -1,16 +1,19 @@
 //! Sessions that come and go.
 
-ghost use Rattle.std.specs.Prelude.{◌≡◌, ◌&&◌, [], None, Some, true, not, nat_le};
+ghost use Rattle.std.specs.Prelude.{◌≡◌, ◌&&◌, ◌⊎◌, ◌<◌, [], None, Some, true, not, nat_le};
 ghost use Rattle.std.specs.Prelude.{IfOk, IfErr, OnErr};
 ghost use Rattle.std.specs.Prelude.{false, OnOk, option_map};
 ghost use Rattle.std.specs.FinMap as map;
 ghost use Rattle.std.specs.Option.{option_and_then};
+ghost use Rattle.std.specs.Vec.{vec_len, vec_capacity};
 ghost use Rattle.history.specs.Messages.{missed_by, number_after};
 ghost use Rattle.history.specs.Marks.{mark_of};
 ghost use Rattle.welcome.specs.Playback.{burst_of};
 ghost use Rattle.hub_core.specs.Attaching.{Attaches, Refuses, names_full, refusal_of};
-ghost use Rattle.hub_core.specs.Attaching.{with_name};
+ghost use Rattle.hub_core.specs.Attaching.{with_name, missed};
 ghost use Rattle.hub_core.specs.Insides.{outlet_of};
+ghost use Rattle.hub_core.specs.States.{view_now};
+ghost use Rattle.hub_core.specs.declared.attach.AttachError.TheVariants as refused;
 
 use crate::hub::Hub;
 use crate::session::Session;
@@ -44,6 +47,14 @@ pub enum AttachError {
     /// The outlet has no room for the burst.
     #[error("session is full")]
     OutletFull,
+}
+
+impl From<OutOfMemory> for AttachError {
+    ghost from_gives = { λ _ e. e ≡ refused.OutOfMemory };
+
+    fn from(_e: OutOfMemory) -> AttachError {
+        AttachError::OutOfMemory
+    }
 }
 
 /// No session has the number.
@@ -116,6 +127,36 @@ fn burst_for<V: NetworkView>(
     burst(alloc, view, caps, &missed)
 }
 
+/// Makes room for one more session and for its client's name, where its outlet has room for a
+/// packet. After a refusal all is as it was, but that its outlet may have found more room.
+fn make_room<O: Outlet>(
+    sessions: &mut Vec<Session<O>>,
+    marks: &mut Marks,
+    name: Option<&[u8]>,
+    outlet: &mut O,
+) -> Result<(), AttachError>
+    requires { names_full (option_map (λ n. n.now) name) marks.old ≡ false }
+    ensures sessions { sessions.new.items ≡ sessions.old.items }
+    ensures sent { O.sent outlet.new ≡ O.sent outlet.old }
+    ensures closed { O.closed outlet.new ≡ O.closed outlet.old }
+    ensures capacity { O.capacity outlet.new ≡ O.capacity outlet.old }
+    ensures alone { O.alone ≡ true → O.free outlet.new ≡ O.free outlet.old }
+    ensures ok { OnOk result ((vec_len sessions.new < vec_capacity sessions.new) ×
+        (marks.new ≡ with_name (option_map (λ n. n.now) name.entry) marks.old) ×
+        (0 < O.free outlet.new)) }
+    ensures err { IfErr result (λ e. (marks.new ≡ marks.old) × ((e ≡ refused.OutOfMemory)
+        ⊎ ((e ≡ refused.OutletFull) × (O.free outlet.old ≡ 0)))) }
+{
+    match sessions.reserve(1) {
+        Ok(()) => {}
+        Err(_) => return Err(AttachError::OutOfMemory),
+    }
+    if !outlet.room() {
+        return Err(AttachError::OutletFull);
+    }
+    Ok(admit(marks, name)?)
+}
+
 /// The number behind this one; `None` behind the last one.
 fn number_after(number: u64) -> Option<u64>
     ensures { result ≡ number_after number }
@@ -146,6 +187,29 @@ impl<V: NetworkView + Drop, I: Inlet, O: Outlet> Hub<V, I, O> {
         }
     }
 
+    /// The number of a session to attach, a copy of its client's name, and its burst; or why there
+    /// can be none, as far as it is known before anything changes.
+    fn parts_for(
+        &self,
+        caps: Caps,
+        name: Option<&[u8]>,
+    ) -> Result<(SessionId, Option<Vec<u8>>, Packet), AttachError>
+        ensures ok { IfOk result (λ parts. (self.now.next ≡ Some parts.0) ×
+            (refusal_of self.now (option_map (λ n. n.now) name.entry) ≡ None) ×
+            (option_map (λ c. c.items) parts.1 ≡ option_map (λ n. n.now) name.entry) ×
+            (parts.2 ≡ burst_of (view_now self.now) caps
+            (missed self.now (option_map (λ n. n.now) name.entry)))) }
+        ensures refused { IfErr result (λ e. (refusal_of self.now
+            (option_map (λ n. n.now) name.entry) ≡ Some e) ⊎ ((refusal_of self.now
+            (option_map (λ n. n.now) name.entry) ≡ None) × (e ≡ refused.OutOfMemory))) }
+    {
+        let id = self.admission(name)?;
+        let mark = mark_of(&self.marks, name);
+        let burst = burst_for(self.alloc, &self.view, &self.history, mark, caps)?;
+        let own_name = copy_of(self.alloc, name)?;
+        Ok((id, own_name, burst))
+    }
+
     /// Attaches a session of these capabilities, of a client with this name or none, to an outlet
     /// that was sent nothing: the outlet is sent the burst, of the view and of the messages that
     /// the name missed. Answers its number.
@@ -168,27 +232,13 @@ impl<V: NetworkView + Drop, I: Inlet, O: Outlet> Hub<V, I, O> {
             (O.closed e.1 ≡ None)) }
     {
         let mut outlet = outlet;
-        let id = match self.admission(name) {
-            Ok(id) => id,
+        let (id, own_name, burst) = match self.parts_for(caps, name) {
+            Ok(parts) => parts,
             Err(e) => return Err((e, outlet)),
         };
-        let mark = mark_of(&self.marks, name);
-        let Ok(burst) = burst_for(self.alloc, &self.view, &self.history, mark, caps) else {
-            return Err((AttachError::OutOfMemory, outlet));
-        };
-        let Ok(own_name) = copy_of(self.alloc, name) else {
-            return Err((AttachError::OutOfMemory, outlet));
-        };
-        match self.sessions.reserve(1) {
+        match make_room(&mut self.sessions, &mut self.marks, name, &mut outlet) {
             Ok(()) => {}
-            Err(_) => return Err((AttachError::OutOfMemory, outlet)),
-        }
-        if !outlet.room() {
-            return Err((AttachError::OutletFull, outlet));
-        }
-        match admit(&mut self.marks, name) {
-            Ok(()) => {}
-            Err(_) => return Err((AttachError::OutOfMemory, outlet)),
+            Err(e) => return Err((e, outlet)),
         }
         match outlet.offer(burst) {
             Ok(()) => {}

@@ -1,7 +1,5 @@
-use Rattle.std.proofs.Common.{◌≡◌, ◌∷◌, [], ◌++◌, ◌∙◌, map, sym, ap, rules, option_to_list}
-use Rattle.std.specs.Option.{option_map}
+use Rattle.std.proofs.Common.{◌++◌, ◌∙◌, map, ap, rules}
 use Rattle.std.proofs.lemmas.List.{map-append}
-use Rattle.net_view.specs.Readers.{channel_shown}
 use Rattle.hub_core.specs.LostChannels.{joining}
 use Rattle.hub_core.proofs.LostChannels.{added, none_added}
 use Rattle.hub_core.proofs.lost.push_channel.Goals as goal

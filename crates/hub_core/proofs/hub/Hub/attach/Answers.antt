@@ -1,9 +1,10 @@
 use Rattle.std.proofs.Common.{◌≡◌, ◌∙◌, ◌∷◌, ◌++◌, [], refl, sym, ap, subst, map, None}
-use Rattle.std.specs.Option.{option_map}
-use Rattle.history.specs.Messages.{missed_by}
+use Rattle.std.specs.Option.{option_map, option_and_then}
+use Rattle.irc_support.specs.Text.{Text}
+use Rattle.history.specs.Marks.{mark_of}
 use Rattle.welcome.specs.Playback.{burst_of}
 use Rattle.hub_core.specs.declared.session.Session.{Session}
-use Rattle.std.proofs.Common.{Some}
+use Rattle.std.proofs.Common.{Option, Some}
 use Rattle.net_view.specs.View.{View}
 use Rattle.hub_core.specs.Attaching.{Attaches, refusal_of, missed}
 use Rattle.hub_core.specs.States.{HubState, view_now, SessionState, OutletState}
@@ -26,31 +27,37 @@ module _ (g : Given.Over) (c : goal.After-push_reserved g) where
       hub_of g.I.Inlet.taken g.I.Inlet.ahead g.O.Outlet.sent g.O.Outlet.closed g.O.Outlet.capacity
       g.O.Outlet.free c.self.inside
 
-  took : Took g.O.Outlet.alone (outlet c.args.outlet)
-      (burst_of (g.V.NetworkView.view c.self.inside.view) c.args.caps
-      (missed_by c.mark_of-mark.result c.self.inside.history)) (outlet c.offer.new.self)
-  took = record {
-    sent = c.in-Ok-offer.ensures.taken.0
-        ∙ (λ k. c.room.ensures.sent k ++ c.in-Ok-burst_for.ensures k ∷ []);
-    closed = c.offer.ensures.closed ∙ c.room.ensures.closed;
-    capacity = c.offer.ensures.capacity ∙ c.room.ensures.capacity;
-    room = λ alone. sym (c.room.ensures.alone alone) ∙ c.in-Ok-offer.ensures.taken.2 alone;
+  abbrev name : Option Text
+  name = option_map (λ n. n.now) c.args.name
+
+  burst : c.in-Ok.parts.2 ≡ burst_of (view_now old) c.args.caps (missed old name)
+  burst =
+      subst (λ h. c.in-Ok.parts.2 ≡ burst_of (view_now h) c.args.caps (missed h name))
+      (sym c.self.view_is) c.in-Ok.ensures.ok.3
+
+  sent : Took g.O.Outlet.alone (outlet c.args.outlet)
+      (burst_of (view_now old) c.args.caps (missed old name)) (outlet c.offer.new.self)
+  sent = record {
+    sent = c.in-Ok-offer.ensures.taken.0 ∙ (λ k. c.make_room.ensures.sent k ++ burst k ∷ []);
+    closed = c.offer.ensures.closed ∙ c.make_room.ensures.closed;
+    capacity = c.offer.ensures.capacity ∙ c.make_room.ensures.capacity;
+    room = λ alone. sym (c.make_room.ensures.alone alone) ∙ c.in-Ok-offer.ensures.taken.2 alone;
   }
 
   -- the sessions, with the new one
   now : map state c.push_reserved.new.self.items
       ≡ map state c.self.inside.sessions.items ++ record {
-        id = c.in-Ok.id;
-        name = option_map (λ n. n.now) c.args.name;
+        id = c.in-Ok.parts.0;
+        name = name;
         caps = c.args.caps;
         outlet = outlet c.offer.new.self;
       } ∷ []
   now =
-      pushed_states state c.self.inside.sessions.items c.reserve.new.self.items
-      c.push_reserved.new.self.items _ c.reserve.ensures.items c.push_reserved.ensures.items
+      pushed_states state c.self.inside.sessions.items c.make_room.new.sessions.items
+      c.push_reserved.new.self.items _ c.make_room.ensures.sessions c.push_reserved.ensures.items
       ∙ (λ k. map state c.self.inside.sessions.items ++ record {
-        id = c.in-Ok.id;
-        name = c.in-Ok-copy_of.ensures k;
+        id = c.in-Ok.parts.0;
+        name = c.in-Ok.ensures.ok.2 k;
         caps = c.args.caps;
         outlet = outlet c.offer.new.self;
       } ∷ [])
@@ -69,30 +76,19 @@ module _ (g : Given.Over) (c : goal.After-push_reserved g) where
         online = c.self.inside.online;
         history = c.self.inside.history;
         first = c.self.inside.first;
-        marks = c.admit.new.marks;
+        marks = c.make_room.new.marks;
         images = c.self.inside.images;
         made = c.self.inside.made;
         lost = c.self.inside.lost;
       }
 
-  allowed : refusal_of old (option_map (λ n. n.now) c.args.name) ≡ None
-  allowed =
-      subst (λ h. refusal_of h (option_map (λ n. n.now) c.args.name) ≡ None) (sym c.self.view_is)
-      c.in-Ok.ensures.ok.1
+  allowed : refusal_of old name ≡ None
+  allowed = subst (λ h. refusal_of h name ≡ None) (sym c.self.view_is) c.in-Ok.ensures.ok.1
 
-  number : old.next ≡ Some c.in-Ok.id
-  number = subst (λ (h : HubState). h.next ≡ Some c.in-Ok.id) (sym c.self.view_is) c.in-Ok.ensures.ok.0
-
-  sent : Took g.O.Outlet.alone (outlet c.args.outlet)
-      (burst_of (view_now old) c.args.caps (missed old (option_map (λ n. n.now) c.args.name)))
-      (outlet c.offer.new.self)
-  sent =
-      subst (λ v. Took g.O.Outlet.alone (outlet c.args.outlet)
-      (burst_of v c.args.caps (missed old (option_map (λ n. n.now) c.args.name)))
-      (outlet c.offer.new.self)) c.self.invariant.view_is
-      (subst (λ m. Took g.O.Outlet.alone (outlet c.args.outlet)
-      (burst_of (g.V.NetworkView.view c.self.inside.view) c.args.caps
-      (missed_by m c.self.inside.history)) (outlet c.offer.new.self)) c.mark_of-mark.ensures took)
+  number : old.next ≡ Some c.in-Ok.parts.0
+  number =
+      subst (λ (h : HubState). h.next ≡ Some c.in-Ok.parts.0) (sym c.self.view_is)
+      c.in-Ok.ensures.ok.0
 
 pub invariant_of-self-2 : goal.invariant_of-self-2
 invariant_of-self-2 g c =
@@ -100,14 +96,17 @@ invariant_of-self-2 g c =
     c.self.invariant refl refl refl refl refl
     (subst (EachFits (g.V.NetworkView.view c.self.inside.view)) (sym (now g c))
     (attached_fits g.O.Outlet.alone (old g c) (g.V.NetworkView.view c.self.inside.view)
-    c.self.inside.online c.args.caps (option_map (λ n. n.now) c.args.name) c.mark_of-mark.result
-    c.in-Ok.id (outlet g c c.args.outlet) (outlet g c c.offer.new.self) c.self.invariant
-    (ap (λ (v : View). v.ready) c.self.invariant.view_is
-    ∙ is_ready (old g c) (option_map (λ n. n.now) c.args.name) (allowed g c))
-    c.requires.0 c.requires.1 (took g c)))
+    c.self.inside.online c.args.caps (name g c)
+    (option_and_then (λ n. mark_of n c.self.inside.marks) (name g c)) c.in-Ok.parts.0
+    (outlet g c c.args.outlet) (outlet g c c.offer.new.self) c.self.invariant
+    (ap (λ (v : View). v.ready) c.self.invariant.view_is ∙ is_ready (old g c) (name g c) (allowed g c))
+    c.requires.0 c.requires.1
+    (subst (λ v. Took g.O.Outlet.alone (outlet g c c.args.outlet)
+    (burst_of v c.args.caps (missed (old g c) (name g c))) (outlet g c c.offer.new.self))
+    (sym c.self.invariant.view_is) (sent g c))))
 
 attaches : (g : Given.Over) (c : goal.After-push_reserved g) → Attaches g.O.Outlet.alone (old g c)
-    c.args.caps (option_map (λ n. n.now) c.args.name) (outlet g c c.args.outlet) c.in-Ok.id (new g c)
+    c.args.caps (name g c) (outlet g c c.args.outlet) c.in-Ok.parts.0 (new g c)
 attaches g c = record {
   allowed = allowed g c;
   number = number g c;
@@ -122,7 +121,7 @@ attaches g c = record {
     upstream = (old g c).upstream;
     history = (old g c).history;
     first = (old g c).first;
-    marks = c.in-Ok-admit.ensures.ok k;
+    marks = c.in-Ok-make_room.ensures.ok.1 k;
     images = (old g c).images;
   };
 }
