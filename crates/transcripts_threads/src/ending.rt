@@ -2,7 +2,8 @@
 
 use crate::stage::{attach, stage_after};
 use crate::streams::Sink;
-use hub_threads::{Ended, FreeGate, WriteFault, end_session, spawn_writer};
+use hub_threads::{Ended, FreeGate, Network, WriteFault, end_session, spawn_writer};
+use net_view::NetworkView;
 use std::alloc::Global;
 use std::sync::Wait;
 use std::test::Fail;
@@ -25,9 +26,19 @@ fn ended<R: Threads + Wait + Send + Copy + 'static>(
     out: Sink,
 ) -> Result<Ended<Sink>, Fail> {
     let stage = stage_after(&rt, alloc, 1, &READY)?;
-    let (id, end) = attach(&rt, alloc, &stage.network, b"", 8)?;
+    ended_on(rt, alloc, &stage.network, out)
+}
+
+/// A session of this network that is written to this writer, and ends.
+fn ended_on<V: NetworkView + Drop, R: Threads + Wait + Send + Copy + 'static>(
+    rt: R,
+    alloc: Global,
+    network: &Network<V>,
+    out: Sink,
+) -> Result<Ended<Sink>, Fail> {
+    let (id, end) = attach(&rt, alloc, network, b"", 8)?;
     let writer = spawn_writer(rt, end, out, FreeGate, u64::MAX)?;
-    match end_session(&rt, &stage.network, id, writer) {
+    match end_session(&rt, network, id, writer) {
         Ok(ended) => Ok(ended),
         Err(_) => Err("no session")?,
     }
@@ -66,9 +77,18 @@ fn is_refused<R: Threads + Wait + Send + Copy + 'static>(
     alloc: Global,
 ) -> Result<bool, Fail> {
     let stage = stage_after(&rt, alloc, 1, &READY)?;
-    let (_, end) = attach(&rt, alloc, &stage.network, b"", 8)?;
+    is_refused_by(rt, alloc, &stage.network)
+}
+
+/// The same of this network.
+fn is_refused_by<V: NetworkView + Drop, R: Threads + Wait + Send + Copy + 'static>(
+    rt: R,
+    alloc: Global,
+    network: &Network<V>,
+) -> Result<bool, Fail> {
+    let (_, end) = attach(&rt, alloc, network, b"", 8)?;
     let writer = spawn_writer(rt, end, Sink::whole(alloc), FreeGate, 1)?;
-    Ok(end_session(&rt, &stage.network, 99, writer).is_err())
+    Ok(end_session(&rt, network, 99, writer).is_err())
 }
 
 #[test]

@@ -12,7 +12,7 @@ use hub_ends::SessionId;
 use hub_threads::{
     FreeGate, Network, OutletEnd, Stopper, Writer, Written, end_session, spawn_writer,
 };
-use quick_view::QuickView;
+use net_view::NetworkView;
 use std::alloc::Global;
 use std::process::Abort;
 use std::sync::{Arc, Wait};
@@ -21,10 +21,10 @@ use std::thread::Threads;
 use std::time::Clock;
 
 /// A session with room for so many packets, whose writer is held before its first write.
-fn held<R: Threads + Wait + Clock + Send + Copy + Drop + 'static>(
+fn held<V: NetworkView + Drop, R: Threads + Wait + Clock + Send + Copy + Drop + 'static>(
     rt: R,
     alloc: Global,
-    network: &Network<QuickView>,
+    network: &Network<V>,
     capacity: usize,
     door: &SharedDoor,
 ) -> Result<(SessionId, Writer<Sink>), Fail>
@@ -43,9 +43,9 @@ fn held<R: Threads + Wait + Clock + Send + Copy + Drop + 'static>(
 }
 
 /// The bytes of a session that ends, all of them written.
-fn bytes_at_end<R: Threads + Wait>(
+fn bytes_at_end<V: NetworkView + Drop, R: Threads + Wait>(
     rt: &R,
-    network: &Network<QuickView>,
+    network: &Network<V>,
     id: SessionId,
     writer: Writer<Sink>,
 ) -> Result<Vec<u8>, Fail> {
@@ -57,10 +57,10 @@ fn bytes_at_end<R: Threads + Wait>(
 }
 
 /// The bytes of a session that comes and goes.
-fn bytes_of_another<R: Threads + Wait + Send + Copy + 'static>(
+fn bytes_of_another<V: NetworkView + Drop, R: Threads + Wait + Send + Copy + 'static>(
     rt: R,
     alloc: Global,
-    network: &Network<QuickView>,
+    network: &Network<V>,
 ) -> Result<Vec<u8>, Fail> {
     let (id, end) = attach(&rt, alloc, network, b"", 8)?;
     let writer = spawn_writer(rt, end, Sink::whole(alloc), FreeGate, u64::MAX)?;
@@ -72,21 +72,33 @@ fn bytes_of_another<R: Threads + Wait + Send + Copy + 'static>(
 fn writers_do_not_wait_for_one_another(rt: HostRuntime) -> Result<(), Fail> {
     let stage = stage_after(&rt, rt.alloc(), 1, &JOINED)?;
     let door = shut_door(rt.alloc())?;
-    let (id, writer) = held(rt, rt.alloc(), &stage.network, 8, &door)?;
-    another_is_written(rt, &stage.network)?;
+    another_goes_on(rt, &stage.network, &door)
+}
+
+/// The writer of one session is held at this door, and that of another one writes.
+fn another_goes_on<V: NetworkView + Drop, R>(
+    rt: R,
+    network: &Network<V>,
+    door: &SharedDoor,
+) -> Result<(), Fail>
+where
+    R: AllocGlobal + Threads + Wait + Clock + Abort + Send + Copy + Drop + 'static,
+{
+    let (id, writer) = held(rt, rt.alloc(), network, 8, door)?;
+    another_is_written(rt, network)?;
     assert!(&rt; !door.was_forced());
     door.let_go();
-    let bytes = bytes_at_end(&rt, &stage.network, id, writer)?;
+    let bytes = bytes_at_end(&rt, network, id, writer)?;
     assert!(&rt; bytes.as_slice() == BURST);
     assert!(&rt; !door.was_forced());
     Ok(())
 }
 
 /// A session comes and goes, and its burst is written.
-fn another_is_written<R: AllocGlobal + Threads + Wait + Abort + Send + Copy + 'static>(
-    rt: R,
-    network: &Network<QuickView>,
-) -> Result<(), Fail> {
+fn another_is_written<
+    V: NetworkView + Drop,
+    R: AllocGlobal + Threads + Wait + Abort + Send + Copy + 'static,
+>(rt: R, network: &Network<V>) -> Result<(), Fail> {
     let bytes = bytes_of_another(rt, rt.alloc(), network)?;
     assert!(&rt; bytes.as_slice() == BURST);
     Ok(())
@@ -99,10 +111,10 @@ const MESSAGES: [&[u8]; 3] = [
 ];
 
 /// How many sessions are cut at each of the messages.
-fn cut_at_each<R: Wait>(
+fn cut_at_each<V: NetworkView + Drop, R: Wait>(
     rt: &R,
     alloc: Global,
-    stage: &mut Stage<QuickView>,
+    stage: &mut Stage<V>,
 ) -> Result<[usize; 3], Fail> {
     let mut cut = [0, 0, 0];
     for (count, message) in cut.iter_mut().zip(&MESSAGES) {
@@ -112,10 +124,10 @@ fn cut_at_each<R: Wait>(
 }
 
 /// Whether a session is not there any more.
-fn is_gone<R: Wait>(
+fn is_gone<V: NetworkView + Drop, R: Wait>(
     rt: &R,
     alloc: Global,
-    network: &Network<QuickView>,
+    network: &Network<V>,
     id: SessionId,
 ) -> Result<bool, Fail> {
     Ok(say(rt, alloc, network, id, b"PING x")? == Said::NoSession)
@@ -126,8 +138,20 @@ fn is_gone<R: Wait>(
 fn a_session_that_is_cut(rt: HostRuntime) -> Result<(), Fail> {
     let mut stage = stage_after(&rt, rt.alloc(), 1, &JOINED)?;
     let door = shut_door(rt.alloc())?;
-    let (id, writer) = held(rt, rt.alloc(), &stage.network, 2, &door)?;
-    only_this_is_cut(&rt, &mut stage, id)?;
+    held_and_cut(rt, &mut stage, &door)
+}
+
+/// A session whose writer is held at this door is cut, and its writer still writes what was sent.
+fn held_and_cut<V: NetworkView + Drop, R>(
+    rt: R,
+    stage: &mut Stage<V>,
+    door: &SharedDoor,
+) -> Result<(), Fail>
+where
+    R: AllocGlobal + Threads + Wait + Clock + Abort + Send + Copy + Drop + 'static,
+{
+    let (id, writer) = held(rt, rt.alloc(), &stage.network, 2, door)?;
+    only_this_is_cut(&rt, stage, id)?;
     door.let_go();
     let written = writer.join(&rt);
     assert!(&rt; is_joined(rt.alloc(), &written.out.bytes, &[BURST, TWO])?);
@@ -137,9 +161,9 @@ fn a_session_that_is_cut(rt: HostRuntime) -> Result<(), Fail> {
 }
 
 /// Of this session, which has room for two packets, and another one the third message cuts this.
-fn only_this_is_cut<R: AllocGlobal + Wait + Abort>(
+fn only_this_is_cut<V: NetworkView + Drop, R: AllocGlobal + Wait + Abort>(
     rt: &R,
-    stage: &mut Stage<QuickView>,
+    stage: &mut Stage<V>,
     id: SessionId,
 ) -> Result<(), Fail> {
     let (_, mut other) = attach(rt, rt.alloc(), &stage.network, b"", 8)?;
@@ -166,10 +190,10 @@ fn started<R: Threads + Wait + Send + Copy + 'static>(
 }
 
 /// A writer is told to stop, and another one goes on with its end: all that was written.
-fn bytes_of_two<R: Threads + Wait + Send + Copy + 'static>(
+fn bytes_of_two<V: NetworkView + Drop, R: Threads + Wait + Send + Copy + 'static>(
     rt: R,
     alloc: Global,
-    stage: &mut Stage<QuickView>,
+    stage: &mut Stage<V>,
 ) -> Result<Vec<u8>, Fail> {
     let (id, end) = attach(&rt, alloc, &stage.network, b"", 8)?;
     let (stopper, writer) = started(rt, alloc, end)?;

@@ -22,40 +22,55 @@ use std::time::{Clock, Duration};
 #[test]
 fn packets_that_wait(rt: HostRuntime) -> Result<(), Fail> {
     let mut stage = stage_after(&rt, rt.alloc(), 1, &JOINED)?;
-    let (_, mut reads) = attach(&rt, rt.alloc(), &stage.network, b"", 1)?;
-    let (_, mut stands) = attach(&rt, rt.alloc(), &stage.network, b"", 1)?;
-    one_is_cut(&rt, &mut stage, &mut reads, &mut stands)
+    two_wait(&rt, &mut stage)
 }
 
-/// Of two sessions with room for one packet the one that takes its burst is not cut.
-fn one_is_cut<R: AllocGlobal + Wait + Abort>(
+/// Two sessions attach with room for one packet, and one of them is cut.
+fn two_wait<V: NetworkView + Drop, R: AllocGlobal + Wait + Abort>(
     rt: &R,
-    stage: &mut Stage<QuickView>,
+    stage: &mut Stage<V>,
+) -> Result<(), Fail> {
+    let (_, mut reads) = attach(rt, rt.alloc(), &stage.network, b"", 1)?;
+    let (_, mut stands) = attach(rt, rt.alloc(), &stage.network, b"", 1)?;
+    one_is_cut(rt, stage, &mut reads, &mut stands)
+}
+
+const THE_BURST_ALONE: [&[u8]; 1] = [BURST];
+
+const ONE_MESSAGE: [&[u8]; 1] = [b":bob!b@h PRIVMSG #c m1"];
+
+const THE_MESSAGE_IS_SENT: [&[u8]; 1] = [b":bob!b@h PRIVMSG #c m1\r\n"];
+
+/// Of two sessions with room for one packet the one that takes its burst is not cut.
+fn one_is_cut<V: NetworkView + Drop, R: AllocGlobal + Wait + Abort>(
+    rt: &R,
+    stage: &mut Stage<V>,
     reads: &mut OutletEnd,
     stands: &mut OutletEnd,
 ) -> Result<(), Fail> {
-    assert!(rt; is_sent(rt.alloc(), reads, &[BURST])?);
-    let taken = put_and_take(rt, rt.alloc(), stage, &[b":bob!b@h PRIVMSG #c m1"])?;
+    assert!(rt; is_sent(rt.alloc(), reads, &THE_BURST_ALONE)?);
+    let taken = put_and_take(rt, rt.alloc(), stage, &ONE_MESSAGE)?;
     assert!(rt; taken == (1, 1));
-    assert!(rt; is_sent(rt.alloc(), reads, &[b":bob!b@h PRIVMSG #c m1\r\n"])?);
-    assert!(rt; is_sent(rt.alloc(), stands, &[BURST])?);
+    assert!(rt; is_sent(rt.alloc(), reads, &THE_MESSAGE_IS_SENT)?);
+    assert!(rt; is_sent(rt.alloc(), stands, &THE_BURST_ALONE)?);
     Ok(())
 }
 
 /// A network with room for one item at a time, which took a welcome and a JOIN of ours.
 fn narrow_stage<R: Wait>(rt: &R, alloc: Global) -> Result<Stage<QuickView>, Fail> {
     let mut stage = quick_stage(alloc, 1, 1)?;
-    take_one_by_one(rt, alloc, &mut stage)?;
+    take_one_by_one(rt, alloc, &mut stage, &JOINED)?;
     Ok(stage)
 }
 
-/// Has a hub take a welcome and a JOIN of ours, one line at a time.
-fn take_one_by_one<R: Wait>(
+/// Has a hub take these lines, one at a time.
+fn take_one_by_one<V: NetworkView + Drop, R: Wait>(
     rt: &R,
     alloc: Global,
-    stage: &mut Stage<QuickView>,
+    stage: &mut Stage<V>,
+    texts: &[&[u8]],
 ) -> Result<(), Fail> {
-    for text in &JOINED {
+    for text in texts {
         put_and_take(rt, alloc, stage, &[*text])?;
     }
     Ok(())
@@ -78,9 +93,9 @@ fn reader<R: Threads + Wait + Send + Copy + 'static>(
 }
 
 /// Has the hub take so many items, which another thread puts.
-fn take_so_many<R: Wait + Clock>(
+fn take_so_many<V: NetworkView + Drop, R: Wait + Clock>(
     rt: &R,
-    network: &Network<QuickView>,
+    network: &Network<V>,
     count: u64,
 ) -> Result<(), Fail> {
     let mut taken: u64 = 0;
@@ -99,21 +114,35 @@ const MESSAGE: &[u8] = b":bob!b@h PRIVMSG #c m\r\n";
 /// A thread that reads waits for room with each of its lines, and none is lost.
 #[test]
 fn a_thread_that_reads(rt: HostRuntime) -> Result<(), Fail> {
-    let text = joined(rt.alloc(), &[MESSAGE; 20])?;
     let Stage { network, end, .. } = narrow_stage(&rt, rt.alloc())?;
-    let (_, mut out) = attach(&rt, rt.alloc(), &network, b"", 64)?;
-    read_and_taken(rt, rt.alloc(), end, &text, &network)?;
+    a_text_goes_through(rt, &network, end)
+}
+
+const TWENTY_MESSAGES: [&[u8]; 20] = [MESSAGE; 20];
+
+/// A text of 20 lines is read into a network by a thread, and all of it is sent to a session.
+fn a_text_goes_through<V: NetworkView + Drop, R>(
+    rt: R,
+    network: &Network<V>,
+    end: InletEnd,
+) -> Result<(), Fail>
+where
+    R: AllocGlobal + Threads + Wait + Clock + Abort + Send + Copy + 'static,
+{
+    let text = joined(rt.alloc(), &TWENTY_MESSAGES)?;
+    let (_, mut out) = attach(&rt, rt.alloc(), network, b"", 64)?;
+    read_and_taken(rt, rt.alloc(), end, &text, network)?;
     assert!(&rt; is_sent(rt.alloc(), &mut out, &[BURST, &text, b":Me PART #c\r\n"])?);
     Ok(())
 }
 
 /// A thread reads this text of 20 lines into a network, which takes them and the end.
-fn read_and_taken<R: Threads + Wait + Clock + Send + Copy + 'static>(
+fn read_and_taken<V: NetworkView + Drop, R: Threads + Wait + Clock + Send + Copy + 'static>(
     rt: R,
     alloc: Global,
     end: InletEnd,
     text: &[u8],
-    network: &Network<QuickView>,
+    network: &Network<V>,
 ) -> Result<(), Fail> {
     let reading = reader(rt, alloc, end, text)?;
     take_so_many(&rt, network, 21)?;
@@ -128,16 +157,26 @@ fn pump<R: Threads + Wait + Send + Copy + 'static>(
     network: &Arc<Network<QuickView>, Global>,
 ) -> Result<JoinHandle<PumpEnd>, Fail> {
     let network = Arc::try_clone(network)?;
-    let handle = thread::spawn(&rt, move || {
-        pump_loop(&rt, alloc, &network, &FreeGate, &Still, u64::MAX)
-    })?;
-    Ok(handle)
+    Ok(thread::spawn(&rt, move || pumped(&rt, alloc, &network))?)
+}
+
+/// Pumps without an end to its turns.
+fn pumped<V: NetworkView + Drop, R: Wait>(rt: &R, alloc: Global, network: &Network<V>) -> PumpEnd {
+    pump_loop(rt, alloc, network, &FreeGate, &Still, u64::MAX)
+}
+
+/// Whether the network has told of a channel.
+fn has_a_channel<V: NetworkView + Drop, R: Wait>(rt: &R, network: &Network<V>) -> bool {
+    network.lock(rt).view().channel_count() == 1
 }
 
 /// Waits until the network has told of a channel.
-fn wait_for_a_channel<R: Wait + Clock>(rt: &R, network: &Network<QuickView>) -> Result<(), Fail> {
+fn wait_for_a_channel<V: NetworkView + Drop, R: Wait + Clock>(
+    rt: &R,
+    network: &Network<V>,
+) -> Result<(), Fail> {
     for _ in 0..10_000 {
-        if network.lock(rt).view().channel_count() == 1 {
+        if has_a_channel(rt, network) {
             return Ok(());
         }
         thread::sleep(rt, Duration::from_millis(1));
@@ -148,34 +187,38 @@ fn wait_for_a_channel<R: Wait + Clock>(rt: &R, network: &Network<QuickView>) -> 
 /// A pump that sleeps is woken by each item: here until there is no number for a message.
 #[test]
 fn a_thread_that_pumps(rt: HostRuntime) -> Result<(), Fail> {
-    let stage = quick_stage(rt.alloc(), u64::MAX, 8)?;
-    let Stage {
-        network,
-        mut end,
-        ..
-    } = stage;
+    let Stage { network, end, .. } = quick_stage(rt.alloc(), u64::MAX, 8)?;
     let network = Arc::new(rt.alloc(), network)?;
-    let pump = pump(rt, rt.alloc(), &network)?;
-    let mut out = attached_while_pumped(&rt, rt.alloc(), &network, &mut end)?;
+    two_wake_the_pump(rt, &network, end)
+}
+
+const THE_FIRST_IS_SENT: [&[u8]; 2] = [BURST, MESSAGE];
+
+/// A pump ends at the second of two messages, and the first one is sent to a session.
+fn two_wake_the_pump<R: AllocGlobal + Threads + Wait + Clock + Abort + Send + Copy + 'static>(
+    rt: R,
+    network: &Arc<Network<QuickView>, Global>,
+    mut end: InletEnd,
+) -> Result<(), Fail> {
+    let pump = pump(rt, rt.alloc(), network)?;
+    let mut out = attached_while_pumped(&rt, rt.alloc(), network, &mut end)?;
     assert!(&rt; pump.join(&rt) == PumpEnd::Spent);
-    assert!(&rt; is_sent(rt.alloc(), &mut out, &[BURST, MESSAGE])?);
+    assert!(&rt; is_sent(rt.alloc(), &mut out, &THE_FIRST_IS_SENT)?);
     Ok(())
 }
 
+const TWO_MESSAGES: [&[u8]; 2] = [b":bob!b@h PRIVMSG #c m", b":eve!b@h PRIVMSG #c m"];
+
 /// A client attaches once we are in a channel, and two messages are put behind that.
-fn attached_while_pumped<R: Wait + Clock>(
+fn attached_while_pumped<V: NetworkView + Drop, R: Wait + Clock>(
     rt: &R,
     alloc: Global,
-    network: &Network<QuickView>,
+    network: &Network<V>,
     end: &mut InletEnd,
 ) -> Result<OutletEnd, Fail> {
     put(alloc, end, &JOINED)?;
     wait_for_a_channel(rt, network)?;
     let (_, out) = attach(rt, alloc, network, b"", 8)?;
-    put(
-        alloc,
-        end,
-        &[b":bob!b@h PRIVMSG #c m", b":eve!b@h PRIVMSG #c m"],
-    )?;
+    put(alloc, end, &TWO_MESSAGES)?;
     Ok(out)
 }

@@ -101,10 +101,10 @@ fn line(alloc: Global, text: &[u8]) -> Result<Line<Global>, Fail> {
 }
 
 /// What a client says.
-pub(crate) fn say<R: Wait>(
+pub(crate) fn say<V: NetworkView + Drop, R: Wait>(
     rt: &R,
     alloc: Global,
-    network: &Network<QuickView>,
+    network: &Network<V>,
     id: SessionId,
     text: &[u8],
 ) -> Result<Said, Fail> {
@@ -145,10 +145,10 @@ pub(crate) fn stage_after<R: Wait>(
 }
 
 /// Puts lines, and has the hub take them.
-pub(crate) fn put_and_take<R: Wait>(
+pub(crate) fn put_and_take<V: NetworkView + Drop, R: Wait>(
     rt: &R,
     alloc: Global,
-    stage: &mut Stage<QuickView>,
+    stage: &mut Stage<V>,
     texts: &[&[u8]],
 ) -> Result<(u64, usize), Fail> {
     put(alloc, &mut stage.end, texts)?;
