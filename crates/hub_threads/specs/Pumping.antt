@@ -1,5 +1,6 @@
 -- When a loop of pumps ends.
-use Rattle.std.specs.Prelude.{◌+◌, ℕ, Option, None, Some, Result, Ok, Err, min, nat_le, if◌then◌else◌}
+use Rattle.std.specs.Prelude.{◌+◌, ℕ, Option, None, Some, Result, Ok, Err, min, nat_le}
+use Rattle.std.specs.Prelude.{if◌then◌else◌}
 use Rattle.hub_core.specs.declared.hub.HubError.{HubError}
 use Rattle.hub_core.specs.declared.hub.HubError.TheVariants as fault
 use Rattle.hub_core.specs.declared.hub.Pumped.{Pumped}

@@ -1,6 +1,7 @@
 //! Bytes that wait to be written in one go.
 
-ghost use Rattle.std.specs.Prelude.{ℕ, ◌≡◌, ◌≤◌, ◌+◌, ◌++◌, [], List, MatchBool, false, length};
+ghost use Rattle.std.specs.Prelude.{ℕ, ◌≡◌, ◌≤◌, ◌+◌, ◌++◌, ◌↔◌, [], List, MatchBool, length};
+ghost use Rattle.std.specs.Prelude.{false, true};
 ghost use Rattle.std.specs.Prelude.{take, vec_len};
 ghost use Rattle.std.specs.Vec.{vec_capacity};
 ghost use Rattle.std.specs.Io.KnownBytes.{Appends};
@@ -45,9 +46,8 @@ fn write_through<W: Write, G: Gate>(out: &mut W, bytes: &[u8], gate: &G) -> bool
 }
 
 /// Whether something waits in the batch.
-#[tactic(auto, using(crate::proofs::Bytes::nothing_left))]
 pub fn waits(batch: &Vec<u8>) -> bool
-    ensures { result ≡ false → batch.now.items ≡ [] }
+    ensures { (result ≡ false) ↔ (batch.now.items ≡ []) }
 {
     !batch.as_slice().is_empty()
 }
@@ -84,11 +84,12 @@ pub fn put_in_batch<W: Write, G: Gate>(
     bytes: &[u8],
     gate: &G,
 ) -> bool
-    ensures { MatchBool result
+    ensures put { MatchBool result
         ((put : List ℕ) × Appends (W.contents out.old) (W.contents out.new) put ×
         (put ++ batch.new.items ≡ batch.old.items ++ bytes.now))
         ((k : ℕ) × Appends (W.contents out.old) (W.contents out.new)
         (take k (batch.old.items ++ bytes.now))) }
+    ensures room { vec_len batch.old + length bytes.now ≤ vec_capacity batch.old → result ≡ true }
 {
     if bytes.len() <= batch.capacity() - batch.len() {
         append(batch, bytes);

@@ -1,6 +1,7 @@
 //! The end of a session.
 
-ghost use Rattle.std.specs.Prelude.{◌≡◌, ◌↔◌, IfOk, IsTrue, Some, true};
+ghost use Rattle.std.specs.Prelude.{◌≡◌, ◌↔◌, IfOk, IsTrue, OnErr, OnOk, Some, true};
+ghost use Rattle.hub_threads.specs.Endings.{WasDetached, WasMissing};
 ghost use Rattle.hub_threads.specs.Queues.{closed_in};
 ghost use Rattle.hub_threads.specs.Writes.{IsWhole, IsWritten};
 
@@ -31,8 +32,9 @@ pub struct Ended<W: Write> {
     pub written: Result<u64, WriteFault>,
 }
 
-/// Ends a session: detaches it, drops its outlet, and waits for its writer. At `NoSession` the
-/// writer runs on to its own end.
+/// Ends a session: detaches it, drops its outlet, and waits for its writer. `NoSession` where the
+/// hub had no session of this number when its lock was taken; the writer runs on to its own end
+/// then.
 pub fn end_session<V: NetworkView + Drop, W: Write + Drop, R: Threads + Wait>(
     rt: &R,
     network: &Network<V>,
@@ -45,6 +47,8 @@ pub fn end_session<V: NetworkView + Drop, W: Write + Drop, R: Threads + Wait>(
         (W.contents writer.promise.1.value) (W.contents e.out) e.fresh e.written) }
     ensures whole { IfOk result (λ e. e.token ≡ true → IfOk e.written
         (IsWhole id e.end (W.contents writer.promise.1.value) (W.contents e.out))) }
+    ensures detached { OnOk result (WasDetached id) }
+    ensures missing { OnErr result (WasMissing id) }
 {
     let outlet = network.lock(rt).detach(id)?;
     drop(outlet);

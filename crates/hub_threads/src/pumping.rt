@@ -47,7 +47,7 @@ impl Refusals {
         Refusals { count: 0 }
     }
 
-    /// Counts what a pump answered, and tells whether the loop ends there: with `Spent` at the first
+    /// Counts what a pump answered, and tells whether the loop ends there: with `Spent` at a
     /// message without a number, with `Memory` at the thousandth refusal for memory in succession.
     /// An item, or none, begins the count anew.
     pub fn note(&mut self, outcome: Result<Pumped, HubError>) -> Option<PumpEnd>

@@ -63,12 +63,10 @@ fn put_waiting<R: Wait>(rt: &R, end: &mut InletEnd, item: Item, moment: Moment)
     unreachable!()
 }
 
-/// Puts lines, in order, each with this moment, and wakes the pump. Where the ring is full it sleeps
-/// until there is room.
+/// Puts lines, in order, each with this moment, and wakes the pump. Where the ring is full it
+/// sleeps until there is room.
 pub fn put_lines<R: Wait>(rt: &R, end: &mut InletEnd, lines: Vec<Line>, moment: Moment)
-    ensures lines { arrivals (put_of end.new)
-        ≡ arrivals (put_of end.old) ++ map Received lines.items }
-    ensures at { put_of end.new ≡ put_of end.old ++ received_at moment.0 lines.items }
+    ensures { put_of end.new ≡ put_of end.old ++ received_at moment.0 lines.items }
 {
     for line in lines {
         put_waiting(rt, end, Item::Line(line), moment);
@@ -78,6 +76,7 @@ pub fn put_lines<R: Wait>(rt: &R, end: &mut InletEnd, lines: Vec<Line>, moment: 
 
 /// Takes a piece of what was read: puts the lines that it completes. After a refusal nothing was
 /// put, and the splitter is as it was.
+#[tactic(auto, using(crate::proofs::ReadLemmas::arrived))]
 fn take_piece<C: Clock, R: Wait>(
     rt: &R,
     alloc: Global,

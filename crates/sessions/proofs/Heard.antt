@@ -1,6 +1,6 @@
 -- A client that is heard, piece by piece.
 use Rattle.std.proofs.Common.{◌≡◌, ◌∙◌, refl, sym, ap, ap₂, subst, ℕ, Bool, true, false, List, []}
-use Rattle.std.proofs.Common.{◌∷◌, ◌++◌, ◌+◌, ◌||◌, Option, None, Some}
+use Rattle.std.proofs.Common.{◌∷◌, ◌++◌, ◌||◌, Option, None, Some}
 use Rattle.std.proofs.Common.{append-nil, append_assoc}
 use Rattle.std.specs.Prelude.{IsTrue}
 use Rattle.std.specs.List.{concat}

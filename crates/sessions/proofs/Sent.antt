@@ -1,5 +1,5 @@
 -- What a login sends, line by line and piece by piece.
-use Rattle.std.proofs.Common.{◌≡◌, ◌∙◌, refl, sym, ap, ap₂, subst, ℕ, ◌+◌, ◌<◌, false}
+use Rattle.std.proofs.Common.{◌≡◌, ◌∙◌, refl, sym, ap, ap₂, subst, ℕ, false}
 use Rattle.std.proofs.Common.{List, [], ◌∷◌, ◌++◌, ◌||◌}
 use Rattle.std.proofs.Common.{append_assoc, append-nil, Option, Err}
 use Rattle.std.specs.Prelude.{◌↔◌, IsErrOf, IsTrue}
@@ -10,7 +10,6 @@ use Rattle.irc_line.specs.Lines.{start}
 use Rattle.irc_line.specs.declared.splitter.FeedError.{FeedError}
 use Rattle.irc_line.specs.declared.splitter.FeedError.TheVariants as feed
 use Rattle.irc_line.specs.Writing.{bytes_of}
-use Rattle.hub_threads.proofs.Bytes.{appends_then}
 use Rattle.sessions.specs.Answers.{Answer, answer_to, has_ended, is_end}
 use Rattle.sessions.specs.Logins.{IsCauseOf, IsSendCause, lines_in, piece_fault, sent_for}
 use Rattle.sessions.specs.declared.fault.LoginFault.{LoginFault}
@@ -18,7 +17,7 @@ use Rattle.sessions.specs.declared.fault.LoginFault.TheVariants.{Memory, NoRoom,
 use Rattle.sessions.specs.declared.fault.LoginFault.TheVariants.{Write}
 use Rattle.sessions.proofs.Ends.{ended_step}
 use Rattle.irc_line.proofs.PiecesTaken.{long_more}
-use Rattle.irc_line.proofs.Sent.{bytes_more}
+use Rattle.irc_line.proofs.Sent.{appends_more, bytes_more}
 
 -- ---- one line more
 
@@ -47,7 +46,7 @@ sent_step before done lines line u v w is first next =
       sent_more before done line,
       bytes_more (sent_for before done) (lines_in (answer_to (before ++ done) line)),
     )
-    (appends_then u v w _ _ first next)
+    (appends_more u v w _ _ first next)
 
 pub still_going : (before : List Parts) (line : Parts) → has_ended before ≡ false
     → is_end (answer_to before line) ≡ false → has_ended (before ++ line ∷ []) ≡ false
@@ -71,7 +70,7 @@ sent_for_more a b lines u v w is first next =
     let e = ap (λ t. bytes_of (sent_for [] t)) is
     ∙ ap bytes_of (sent_append [] a b)
     ∙ bytes_more (sent_for [] a) (sent_for a b) in
-    subst (λ t. Appends u w t) (sym e) (appends_then u v w _ _ first next)
+    subst (λ t. Appends u w t) (sym e) (appends_more u v w _ _ first next)
 
 -- why a piece was not taken
 pub piece_cause : (s : Pending) (a b : List ℕ) (e : FeedError) → s ≡ fed start a

@@ -6,5 +6,10 @@ use Rattle.hub_threads.proofs.inlet_ring.waiting.Goals as goal
 
 pub returns-clause-waiting : goal.returns-clause-waiting
 returns-clause-waiting c =
-    let end = c.slots_beside.new.self in
-    (map came (known_items end), length-map (known_items end) came ∙ sym c.slots_beside.ensures.value, sym (map-append came (received end) (known_items end)) ∙ ap (map came) c.slots_beside.ensures.fifo)
+    let end = c.slots_beside.new.self in (
+      map came (known_items end),
+      length-map (known_items end) came
+          ∙ sym c.slots_beside.ensures.value,
+      sym (map-append came (received end) (known_items end))
+          ∙ ap (map came) c.slots_beside.ensures.fifo,
+    )

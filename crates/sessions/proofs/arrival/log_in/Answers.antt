@@ -2,7 +2,7 @@ use Rattle.std.proofs.Common.{◌∙◌, ◌+◌, ◌++◌, ◌∷◌, [], refl,
 use Rattle.std.proofs.Common.{drop, length, append_assoc}
 use Rattle.std.specs.Io.KnownBytes.{Consumes}
 use Rattle.irc_line.specs.Lines.{lines_of}
-use Rattle.hub_threads.proofs.Bytes.{appends_none}
+use Rattle.irc_line.proofs.Sent.{appends_nothing}
 use Rattle.hub_threads.proofs.ReadLemmas.{consumes_more, consumes_nil, front_read}
 use Rattle.hub_threads.proofs.ReadLemmas.{keeps_is_nothing, zero_is_nothing}
 use Rattle.sessions.specs.Logins.{IsCauseOf}
@@ -28,7 +28,7 @@ loop-init g c = record {
         split = c.new-splitter.ensures;
         short = refl;
       };
-      sent = appends_none (g.W.Write.contents c.args.writer.now);
+      sent = appends_nothing (g.W.Write.contents c.args.writer.now);
     },
   );
 }

@@ -1,5 +1,5 @@
 use Rattle.std.proofs.Common.{ap, subst, sym}
-use Rattle.hub_threads.proofs.Bytes.{appends_none}
+use Rattle.irc_line.proofs.Sent.{appends_nothing}
 use Rattle.std.specs.Io.KnownBytes.{Appends}
 use Rattle.irc_line.specs.Writing.{bytes_of}
 use Rattle.sessions.specs.Answers.{answer_to, claims, closes, is_end, sends}
@@ -25,7 +25,7 @@ returns-in-Done-clause-sent g c = λ before taken.
     let now = g.W.Write.contents c.args.writer.now in
     sent_by (claims (parts_of c.in-Done.claim)) (answer_to before c.args.line.now) now now
     (rw c.in-Done.is at (c.in_ok-lines.ensures.answer before taken))
-    (appends_none now)
+    (appends_nothing now)
 
 pub returns-in-Done-clause-ended : goal.returns-in-Done-clause-ended
 returns-in-Done-clause-ended g c = λ before taken.

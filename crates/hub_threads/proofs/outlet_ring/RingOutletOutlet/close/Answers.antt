@@ -10,13 +10,15 @@ use Rattle.hub_threads.proofs.outlet_ring.RingOutletOutlet.close.Goals.{in-Ok, i
 pub returns-clause-sent : goal.returns-clause-sent
 returns-clause-sent c =
     elim c.match-push.branch [
-      | in-Ok w ↦ rw w.self-is (ap (λ (l : List Queued). packets_in l) w.in-Ok.ensures.ok.0 ∙ packets_in_closing (sent c.args.self.now.producer) c.args.id _)
+      | in-Ok w ↦ rw w.self-is (ap (λ (l : List Queued). packets_in l) w.in-Ok.ensures.ok.0
+          ∙ packets_in_closing (sent c.args.self.now.producer) c.args.id _)
       | in-Err w ↦ rw w.self-is (ap (λ (l : List Queued). packets_in l) w.in-Err.ensures.full.1)
     ]
 
 pub returns-clause-told : goal.returns-clause-told
 returns-clause-told c h =
     elim c.match-push.branch [
-      | in-Ok w ↦ rw w.self-is (ap (λ (l : List Queued). is_closed l) w.in-Ok.ensures.ok.0 ∙ closing_told (sent c.args.self.now.producer) c.args.id _)
+      | in-Ok w ↦ rw w.self-is (ap (λ (l : List Queued). is_closed l) w.in-Ok.ensures.ok.0
+          ∙ closing_told (sent c.args.self.now.producer) c.args.id _)
       | in-Err w ↦ absurd (false≢true (w.in-Err.ensures.succeeds (slot_free _ _ h)))
     ]

@@ -7,7 +7,8 @@ use Rattle.hub_threads.proofs.outlet_ring.RingOutletOutlet.offer.Goals as goal
 
 pub returns-in-Ok-clause-taken : goal.returns-in-Ok-clause-taken
 returns-in-Ok-clause-taken c = (
-  ap (λ (l : List Queued). packets_in l) c.in-Ok.ensures.ok.0 ∙ packets_in_lines (sent c.args.self.now.producer) c.args.packet,
+  ap (λ (l : List Queued). packets_in l) c.in-Ok.ensures.ok.0
+      ∙ packets_in_lines (sent c.args.self.now.producer) c.args.packet,
   rw (← c.if-is_some.ensures) c.in-Ok.ensures.ok.1,
   λ other. cc,
 )
