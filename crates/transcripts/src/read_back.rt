@@ -181,12 +181,32 @@ fn check_since<R: AllocGlobal + Abort>(
 ) -> Result<(), Fail> {
     let (before, since) = session.split_at(late.min(session.len()));
     for row in rows {
-        knows_since(rt, &mut tape_of(rt.alloc(), before)?, since, *row)?;
-    }
-    for row in rows {
-        knows_since(rt, &mut quick_of(rt.alloc(), before)?, since, *row)?;
+        tape_knows_since(rt, before, since, *row)?;
+        tables_know_since(rt, before, since, *row)?;
     }
     Ok(())
+}
+
+/// One of these clients, by the view that searches.
+fn tape_knows_since<R: AllocGlobal + Abort>(
+    rt: &R,
+    before: &[&[u8]],
+    since: &[&[u8]],
+    row: (&[u8], &[u8]),
+) -> Result<(), Fail> {
+    let mut view = tape_of(rt.alloc(), before)?;
+    knows_since(rt, &mut view, since, row)
+}
+
+/// The same by the view of tables.
+fn tables_know_since<R: AllocGlobal + Abort>(
+    rt: &R,
+    before: &[&[u8]],
+    since: &[&[u8]],
+    row: (&[u8], &[u8]),
+) -> Result<(), Fail> {
+    let mut view = quick_of(rt.alloc(), before)?;
+    knows_since(rt, &mut view, since, row)
 }
 
 const IN_THE_MIDDLE_OF_NGIRCD: [(&[u8], &[u8]); 2] = [

@@ -120,11 +120,18 @@ fn how_many_stand_above_a_mark(rt: HostRuntime) -> Result<(), Fail> {
 #[test]
 fn a_message_made_beforehand(rt: HostRuntime) -> Result<(), Fail> {
     let mut history = History::<Global>::new(rt.alloc(), 1, 7)?;
-    let entry = entry_of(rt.alloc(), b":a!b@c NOTICE Me :")?.ok_or("a message")?;
-    assert!(&rt; matches!(history.add(entry), Ok(7)));
-    let entry = history.entry(0).ok_or("it is kept")?;
-    assert!(&rt; entry.source() == b"a!b@c".as_slice() && entry.text().is_empty());
+    let number = add(rt.alloc(), &mut history, b":a!b@c NOTICE Me :")?;
+    assert!(&rt; matches!(number, Ok(7)));
+    assert!(&rt; is_empty_notice_of_a(history.entry(0)));
     Ok(())
+}
+
+/// Whether it is a message of a without a text.
+fn is_empty_notice_of_a(entry: Option<&Entry>) -> bool {
+    match entry {
+        Some(entry) => entry.source() == b"a!b@c".as_slice() && entry.text().is_empty(),
+        None => false,
+    }
 }
 
 /// A message that is made by its parts.

@@ -5,7 +5,7 @@ mod name_lists;
 use crate::lines::line;
 use irc_line::Line;
 use irc_names::CaseMapping;
-use irc_support::{Kind, Support, changes};
+use irc_support::{Change, Kind, Support, changes};
 use std::alloc::Global;
 use std::process::Abort;
 use std::test::Fail;
@@ -290,15 +290,20 @@ fn names_of_channels(rt: HostRuntime) -> Result<(), Fail> {
 /// Appends the changes of a line, each with its sign and its letter, and `=` before what it took.
 fn push_changes(text: &mut Vec<u8>, settings: &Support, line: &Line) -> Result<(), Fail> {
     for change in changes(settings, line) {
-        text.push(if change.plus { b'+' } else { b'-' })?;
-        text.push(change.letter)?;
-        if let Some(param) = change.param {
-            text.push(b'=')?;
-            text.extend_from_slice(param)?;
-        }
-        text.push(b' ')?;
+        push_change(text, change)?;
     }
     Ok(())
+}
+
+/// Appends one change.
+fn push_change(text: &mut Vec<u8>, change: Change<'_>) -> Result<(), Fail> {
+    text.push(if change.plus { b'+' } else { b'-' })?;
+    text.push(change.letter)?;
+    if let Some(param) = change.param {
+        text.push(b'=')?;
+        text.extend_from_slice(param)?;
+    }
+    Ok(text.push(b' ')?)
 }
 
 /// The changes of a line are this text.

@@ -116,11 +116,12 @@ fn cut_at_each<V: NetworkView + Drop, R: Wait>(
     alloc: Global,
     stage: &mut Stage<V>,
 ) -> Result<[usize; 3], Fail> {
-    let mut cut = [0, 0, 0];
-    for (count, message) in cut.iter_mut().zip(&MESSAGES) {
-        *count = put_and_take(rt, alloc, stage, &[*message])?.1;
-    }
-    Ok(cut)
+    let [first, second, third] = MESSAGES;
+    Ok([
+        put_and_take(rt, alloc, stage, &[first])?.1,
+        put_and_take(rt, alloc, stage, &[second])?.1,
+        put_and_take(rt, alloc, stage, &[third])?.1,
+    ])
 }
 
 /// Whether a session is not there any more.
@@ -208,7 +209,15 @@ fn bytes_of_two<V: NetworkView + Drop, R: Threads + Wait + Send + Copy + 'static
 #[test]
 fn a_writer_that_is_told_to_stop(rt: HostRuntime) -> Result<(), Fail> {
     let mut stage = stage_after(&rt, rt.alloc(), 1, &JOINED)?;
-    let bytes = bytes_of_two(rt, rt.alloc(), &mut stage)?;
+    two_write_all(rt, &mut stage)
+}
+
+/// What both writers write is all that was sent.
+fn two_write_all<V: NetworkView + Drop, R>(rt: R, stage: &mut Stage<V>) -> Result<(), Fail>
+where
+    R: AllocGlobal + Threads + Wait + Abort + Send + Copy + 'static,
+{
+    let bytes = bytes_of_two(rt, rt.alloc(), stage)?;
     assert!(&rt; is_joined(rt.alloc(), &bytes, &[BURST, THREE])?);
     Ok(())
 }

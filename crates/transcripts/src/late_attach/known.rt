@@ -94,20 +94,57 @@ fn is_known(
     let mut name = Vec::from_slice(alloc, nick)?;
     for behind in 0..session.len().saturating_sub(late) {
         let (before, _) = session.split_at(session.len() - behind);
-        let last = before.last().ok_or("a line")?;
-        let line = line(alloc, last)?;
-        if gives(support, &line, channel, &name, rank) {
-            return Ok(true);
-        }
-        if lists(support, &line, channel, &name) {
-            return Ok(top_after(alloc, before, channel, &name)? == Some(rank));
-        }
-        if let Some(earlier) = name_before(support, &line, &name) {
-            name = Vec::from_slice(alloc, earlier)?;
+        match told_last(alloc, before, support, channel, &name, rank)? {
+            Told::Known(known) => return Ok(known),
+            Told::Nothing => {}
+            Told::Under(earlier) => name = earlier,
         }
     }
     let (before, _) = session.split_at(late.min(session.len()));
-    Ok(top_after(alloc, before, channel, &name)? == Some(rank))
+    is_top_after(alloc, before, channel, &name, rank)
+}
+
+/// What the last of some lines tells of a member's rank.
+#[derive(Drop)]
+enum Told {
+    /// Whether the client knows of it.
+    Known(bool),
+    /// That the member had another name before.
+    Under(Vec<u8>),
+    Nothing,
+}
+
+/// Whether a member's highest rank is this one behind these lines.
+fn is_top_after(
+    alloc: Global,
+    lines: &[&[u8]],
+    channel: &[u8],
+    nick: &[u8],
+    rank: u8,
+) -> Result<bool, Fail> {
+    Ok(top_after(alloc, lines, channel, nick)? == Some(rank))
+}
+
+/// What the last of these lines tells.
+fn told_last(
+    alloc: Global,
+    lines: &[&[u8]],
+    support: &Support,
+    channel: &[u8],
+    nick: &[u8],
+    rank: u8,
+) -> Result<Told, Fail> {
+    let line = line(alloc, lines.last().ok_or("a line")?)?;
+    if gives(support, &line, channel, nick, rank) {
+        return Ok(Told::Known(true));
+    }
+    if lists(support, &line, channel, nick) {
+        return Ok(Told::Known(is_top_after(alloc, lines, channel, nick, rank)?));
+    }
+    match name_before(support, &line, nick) {
+        Some(earlier) => Ok(Told::Under(Vec::from_slice(alloc, earlier)?)),
+        None => Ok(Told::Nothing),
+    }
 }
 
 /// The ranks of a member that the client knows of.

@@ -40,10 +40,15 @@ fn feed_two<R: AllocGlobal + Abort>(
     has_lines(rt, splitter, lines, piece, 0)?;
     has_lines(rt, splitter, lines, rest, 1)?;
     assert_eq!(rt; splitter.skipped(), 0);
-    for line in &*lines {
-        assert!(rt; line.param(1) == Some(b"hi".as_slice()));
-    }
+    assert!(rt; all_say_hi(lines.as_slice()));
     Ok(())
+}
+
+/// Whether each line has `hi` as its second parameter.
+fn all_say_hi(lines: &[Line]) -> bool {
+    lines
+        .iter()
+        .all(|line| line.param(1) == Some(b"hi".as_slice()))
 }
 
 #[test]
