@@ -21,7 +21,7 @@ use std::marker::Model;
 use toml::{Table, Value};
 
 /// A network that the bouncer stays connected to for a user.
-#[derive(Debug, Drop)]
+#[derive(Debug)]
 pub struct NetworkConfig {
     name: Text,
     address: Text,
@@ -30,6 +30,22 @@ pub struct NetworkConfig {
     realname: Text,
     password: Option<Text>,
     join: Vec<Text>,
+}
+
+// By hand, so that whoever owns a network proves one call where it goes, and not the way of each
+// field.
+impl Drop for NetworkConfig {
+    fn drop(self) {
+        let NetworkConfig {
+            name: _name,
+            address: _address,
+            nick: _nick,
+            user: _user,
+            realname: _realname,
+            password: _password,
+            join: _join,
+        } = self;
+    }
 }
 
 impl Model for NetworkConfig {

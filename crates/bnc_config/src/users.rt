@@ -22,12 +22,24 @@ use std::marker::Model;
 use toml::{Table, Value};
 
 /// A user of the bouncer.
-#[derive(Debug, Drop)]
+#[derive(Debug)]
 pub struct UserConfig {
     name: Text,
     salt: Vec<u8>,
     digest: [u8; 32],
     networks: Vec<NetworkConfig>,
+}
+
+// By hand, so that whoever owns a user proves one call where it goes, and not the way of each field.
+impl Drop for UserConfig {
+    fn drop(self) {
+        let UserConfig {
+            name: _name,
+            salt: _salt,
+            digest: _,
+            networks: _networks,
+        } = self;
+    }
 }
 
 impl Model for UserConfig {
