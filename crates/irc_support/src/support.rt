@@ -31,12 +31,23 @@ use std::marker::Model;
 /// `:s 005 Me PREFIX=(ov)@+ CHANTYPES=# :are supported by this server`: its tokens, in order.
 ///
 /// A name that is set again keeps its place; one that is set again after it was removed goes last.
-#[derive(Drop)]
 pub struct Support<A: Allocator = Global> {
     tokens: Table<A>,
     // what PREFIX and CASEMAPPING mean
     prefix: Prefix,
     mapping: CaseMapping,
+}
+
+// By hand, so that whoever owns settings proves one call where they go, and not the way of each
+// field of a map.
+impl<A: Allocator> Drop for Support<A> {
+    fn drop(self) {
+        let Support {
+            tokens: _tokens,
+            prefix: _prefix,
+            mapping: _,
+        } = self;
+    }
 }
 
 impl<A: Allocator> Model for Support<A> {
