@@ -2,14 +2,15 @@
 use Rattle.std.proofs.Common.{◌≡◌, ℕ, zero, suc, ◌+◌, ◌<◌, ◌≤◌, inl, inr, Bool, true, false, List}
 use Rattle.std.proofs.Common.{[], ◌∷◌, ◌++◌}
 use Rattle.std.proofs.Common.{Option, Some, None, refl, sym, ap, ◌∙◌, arith, map, take, drop}
-use Rattle.std.proofs.Common.{length, cond}
+use Rattle.std.proofs.Common.{length, cond, get_or, subst}
 use Rattle.std.proofs.Common.{◌↔◌, slice_index_or, slice_set}
 use Rattle.std.specs.Prelude.{IsTrue, option_to_list}
-use Rattle.std.specs.List.{fold, slice_get}
+use Rattle.std.specs.List.{AllByRecursion, fold, slice_get}
 use Rattle.std.specs.Borrow.{Bor}
 use Rattle.std.specs.Option.{option_map}
 use Rattle.std.specs.FinMap as fin
-use Rattle.std.proofs.lemmas.List.{length-map, map-append}
+use Rattle.std.proofs.lemmas.List.{length-map, map-append, map_more, take_more}
+use Rattle.std.proofs.lemmas.List.Sums.{fold_push}
 use Rattle.std.proofs.lemmas.Option.{slice_get_cases}
 use Rattle.irc_names.specs.CaseMapping.{AreOneName, key_of}
 use Rattle.irc_names.specs.declared.case_mapping.CaseMapping.{CaseMapping}
@@ -167,3 +168,37 @@ empty_next names i before now within is e = elim (slice_get_cases names i).1 [
       ∙ map-append (λ (name : Bor Text). []) (take i names) (_ ∷ []))
   | inr past ↦ absurd (omega (past.0, within, arith))
 ]
+
+-- ---- one entry more
+
+pub grouped_next : (mapping : CaseMapping) (names : List Text) (entries : List (Bor EntryParts))
+    (i place : ℕ) (e : Bor EntryParts) (target : Text) (before now : List (List EntryParts))
+    → i < length entries → e ≡ get_or entries i e
+    → before ≡ grouped_by mapping names (map (λ (x : Bor EntryParts). x.now) (take i entries))
+    → target ≡ e.now.target → place ≡ place_among mapping target names
+    → now ≡ push_at place e.now before
+    → now ≡ grouped_by mapping names (map (λ (x : Bor EntryParts). x.now) (take (i + 1) entries))
+grouped_next mapping names entries i place e target before now within is so_far at is_place next =
+    let parts : List EntryParts = map (λ (x : Bor EntryParts). x.now) (take i entries) in
+    let more : map (λ (x : Bor EntryParts). x.now) (take (i + 1) entries) ≡ parts ++ e.now ∷ [] =
+    map_more (λ (x : Bor EntryParts). x.now) entries i e within
+    ∙ ap (λ (x : Bor EntryParts). parts ++ x.now ∷ []) (sym is) in
+    next ∙ ap (push_at place e.now) so_far
+    ∙ ap (λ n. push_at n e.now (grouped_by mapping names parts))
+    (is_place ∙ ap (λ t. place_among mapping t names) at)
+    ∙ sym (ap (grouped_by mapping names) more
+    ∙ fold_push (λ groups (x : EntryParts). push_at (place_among mapping x.target names) x groups)
+    (no_entries names) parts e.now)
+
+all_push : {X : Type 0} (P : X → Type 0) (xs : List X) (x : X) → AllByRecursion P xs → P x
+    → AllByRecursion P (xs ++ x ∷ [])
+all_push P [] x all holds = (holds, tt)
+all_push P (y ∷ xs) x all holds = (all.0, all_push P xs x all.1 holds)
+
+pub all_next : {X : Type 0} (P : X → Type 0) (xs : List X) (i : ℕ) (x : X) → i < length xs
+    → x ≡ get_or xs i x → AllByRecursion P (take i xs) → P x
+    → AllByRecursion P (take (i + 1) xs)
+all_next P xs i x within is all holds =
+    subst (AllByRecursion P)
+    (sym (take_more xs i x within ∙ ap (λ y. take i xs ++ y ∷ []) (sym is)))
+    (all_push P (take i xs) x all holds)

@@ -142,13 +142,14 @@ fn push_batch<A: Allocator + Copy, B: Allocator>(
         (batch_of caps place name.now (map (λ entry. entry.now) entries.now))) }
 {
     let alloc = *text.allocator();
-    let begun = format!(in alloc; "+h{place}")?;
-    push_begin(text, begun.as_bytes(), name)?;
-    let tag = format!(in alloc; "batch=h{place}")?;
-    push_tagged(text, caps, tag.as_bytes(), entries)?;
-    let ended = format!(in alloc; "-h{place}")?;
-    push_end(text, ended.as_bytes())?;
-    Ok(())
+    push_begin(text, format!(in alloc; "+h{place}")?.as_bytes(), name)?;
+    push_tagged(
+        text,
+        caps,
+        format!(in alloc; "batch=h{place}")?.as_bytes(),
+        entries,
+    )?;
+    push_end(text, format!(in alloc; "-h{place}")?.as_bytes())
 }
 
 /// Adds the messages of the channel at a place, with batch between `:bnc BATCH +h0 chathistory #c`
@@ -226,8 +227,7 @@ pub fn push_playback<V: NetworkView, A: Allocator + Copy, B: Allocator>(
     let _count = view.channel_count();
     let names = channel_names(alloc, view)?;
     let groups = grouped(alloc, view.support().mapping(), &names, entries)?;
-    push_groups(text, caps, &names, &groups)?;
-    Ok(())
+    push_groups(text, caps, &names, &groups)
 }
 
 /// The packet of the playback, from its bytes. That its lines can be written follows from where the

@@ -112,10 +112,7 @@ fn push_mode_line<'v, V: NetworkView, A: Allocator + Copy>(
         (reply (V.view view.now) (codes "324") (name.now ∷ letters.now
         ∷ filter_map (λ m. m.1) (modes_at (V.view view.now) i)))) }
 {
-    let mut params = Vec::new(*text.allocator());
-    params.push(own_nick(view))?;
-    params.push(name)?;
-    params.push(letters)?;
+    let mut params = Vec::from_slice(*text.allocator(), &[own_nick(view), name, letters])?;
     push_params(&mut params, view, i)?;
     push_reply(text, b"324", &params)
 }
@@ -168,14 +165,16 @@ fn push_channel<V: NetworkView, A: Allocator + Copy>(
         ++ option_map_or (λ ch. flat_map written (channel_lines (V.view view.now) caps ch))
         (channel_shown (V.view view.now) i) []) }
 {
-    if let Some(channel) = view.channel_at(i) {
-        push_join(text, view, caps, channel)?;
-        push_topic(text, view, channel)?;
-        push_modes(text, view, i, channel)?;
-        push_names(text, view, caps, i, channel.name)?;
-        push_names_end(text, view, channel)?;
+    match view.channel_at(i) {
+        Some(channel) => {
+            push_join(text, view, caps, channel)?;
+            push_topic(text, view, channel)?;
+            push_modes(text, view, i, channel)?;
+            push_names(text, view, caps, i, channel.name)?;
+            push_names_end(text, view, channel)
+        }
+        None => Ok(()),
     }
-    Ok(())
 }
 
 /// Adds what tells a client of all channels, in key order.

@@ -47,8 +47,7 @@ pub fn push_greeting<V: NetworkView, A: Allocator>(
         &[nick, b"Your host is bnc, running version 1"],
     )?;
     push_reply(text, b"003", &[nick, b"This server was created for you"])?;
-    push_reply(text, b"004", &[nick, b"bnc", b"1", b"i", b"biklmnopstv"])?;
-    Ok(())
+    push_reply(text, b"004", &[nick, b"bnc", b"1", b"i", b"biklmnopstv"])
 }
 
 /// Adds 422 ERR_NOMOTD.

@@ -160,6 +160,5 @@ pub fn push_names<V: NetworkView, A: Allocator + Copy>(
             is_begun = true;
         }
     }
-    push_row(text, nick, name, is_begun, &row)?;
-    Ok(())
+    push_row(text, nick, name, is_begun, &row)
 }

@@ -69,14 +69,12 @@ fn push_tokens<'x, A: Allocator + Copy>(
     if tokens.is_empty() {
         return Ok(());
     }
-    let mut params = Vec::new(*text.allocator());
-    params.push(nick)?;
+    let mut params = Vec::from_slice(*text.allocator(), &[nick])?;
     for token in tokens {
         params.push(token.as_slice())?;
     }
     params.push(b"are supported by this server")?;
-    push_reply(text, b"005", &params)?;
-    Ok(())
+    push_reply(text, b"005", &params)
 }
 
 /// Whether the token goes onto a row of so many tokens that take `len` bytes. A token goes onto an
@@ -113,6 +111,5 @@ pub fn push_settings<V: NetworkView, A: Allocator + Copy>(
             token.len()
         };
     }
-    push_tokens(text, nick, &tokens[start..])?;
-    Ok(())
+    push_tokens(text, nick, &tokens[start..])
 }

@@ -1,4 +1,5 @@
 use Rattle.std.proofs.Common.{◌≡◌, ◌<◌, ap, sym, ◌∙◌, map, length, arith}
+use Rattle.std.proofs.lemmas.Result.{on_ok_weaker}
 use Rattle.irc_support.specs.Settings.{mapping_of}
 use Rattle.welcome.proofs.BacklogsSaid.{keyed_of, playback_said}
 use Rattle.welcome.proofs.Grouping.{has_place, texts_of}
@@ -20,13 +21,14 @@ pub returns-clause-said : goal.returns-clause-said
 returns-clause-said g c =
     let v = g.V.NetworkView.view c.args.view.now in
     let source = c.comes_from_lines.ensures in
-    playback_said v c.args.caps (map (λ entry. entry.now) c.args.entries.now)
+    on_ok_weaker c.push_groups.result
+    (λ said. playback_said v c.args.caps (map (λ entry. entry.now) c.args.entries.now)
     (texts_of c.deref-2.result.now) (texts_of c.deref.result.now)
     (map (λ group. map (λ entry. entry.now) group.items) c.deref-3.result.now) c.mapping.result
-    c.args.text.now.items c.push_groups.new.text.items c.in_ok-push_groups.ensures
+    c.args.text.now.items c.push_groups.new.text.items said
     (ap texts_of c.deref-2.ensures.value ∙ c.in_ok-names.ensures)
     (ap (map (λ group. map (λ entry. entry.now) group.items)) c.deref-3.ensures.value
     ∙ c.in_ok-groups.ensures.groups)
     (ap texts_of c.deref.ensures.value ∙ c.in_ok-names.ensures)
     (c.mapping.ensures ∙ ap mapping_of c.support.ensures)
-    (keyed_of v (source.0) (source.2))
+    (keyed_of v (source.0) (source.2))) c.push_groups.ensures

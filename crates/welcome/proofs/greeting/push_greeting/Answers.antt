@@ -1,5 +1,6 @@
 use Rattle.std.proofs.Common.{[], ◌∷◌, ◌++◌, sym, ap, ◌∙◌, append-nil, codes}
 use Rattle.std.specs.List.{flat_map}
+use Rattle.std.proofs.lemmas.Result.{on_ok_weaker}
 use Rattle.irc_line.specs.Writing.{written}
 use Rattle.client_caps.specs.Answers.{from_bouncer}
 use Rattle.welcome.proofs.Said.{greeting_to, said_next}
@@ -19,9 +20,11 @@ returns g c =
     let four =
     from_bouncer (codes "004")
     (n ∷ codes "bnc" ∷ codes "1" ∷ codes "i" ∷ codes "biklmnopstv" ∷ []) in
-    said_next t0 t3 t4 (one ∷ two ∷ three ∷ []) four
+    on_ok_weaker c.push_reply-4.result
+    (λ said. said_next t0 t3 t4 (one ∷ two ∷ three ∷ []) four
     (said_next t0 t2 t3 (one ∷ two ∷ []) three
     (said_next t0 t1 t2 (one ∷ []) two
     (said_next t0 t0 t1 [] one (sym (append-nil t0)) c.in_ok-push_reply.ensures)
-    c.in_ok-push_reply-2.ensures) c.in_ok-push_reply-3.ensures) c.in_ok-push_reply-4.ensures
-    ∙ ap (λ nick. t0 ++ flat_map written (greeting_to nick)) c.own_nick-nick.ensures
+    c.in_ok-push_reply-2.ensures) c.in_ok-push_reply-3.ensures) said
+    ∙ ap (λ nick. t0 ++ flat_map written (greeting_to nick)) c.own_nick-nick.ensures)
+    c.push_reply-4.ensures

@@ -2,6 +2,7 @@ use Rattle.std.proofs.Common.{Bool, ◌≡◌, ◌+◌, true, false, cond, List,
 use Rattle.std.proofs.Common.{ap, subst, ◌∙◌, arith, codes, map}
 use Rattle.std.specs.Prelude.{nat_le, unwrap_or}
 use Rattle.std.specs.List.{join_with_byte}
+use Rattle.std.proofs.lemmas.Result.{on_ok_weaker}
 use Rattle.irc_line.specs.Writing.{written}
 use Rattle.irc_support.specs.Text.{Text}
 use Rattle.net_view.specs.Readers.{members_shown}
@@ -125,6 +126,7 @@ returns g c =
     let said =
     row_said c.own_nick-nick.result.now (unwrap_or v.own []) name c.deref-2.result.now f.1
     c.own_nick-nick.ensures (c.deref-2.ensures.value ∙ is.row_is) in
-    filling_ends line words c.args.text.now.items c.loop-j.text.items c.push_row-2.new.text.items
-    row c.loop-j.is_begun is (c.in_ok-push_row-2.ensures
-    ∙ ap (λ t. c.loop-j.text.items ++ cond c.loop-j.is_begun t []) said)
+    on_ok_weaker c.push_row-2.result
+    (λ pushed. filling_ends line words c.args.text.now.items c.loop-j.text.items
+    c.push_row-2.new.text.items row c.loop-j.is_begun is (pushed
+    ∙ ap (λ t. c.loop-j.text.items ++ cond c.loop-j.is_begun t []) said)) c.push_row-2.ensures

@@ -6,6 +6,7 @@ use Rattle.std.specs.Option.{option_map}
 use Rattle.std.proofs.lemmas.List.{length-map}
 use Rattle.std.proofs.lemmas.Option.{slice_get-map, slice_get_read}
 use Rattle.std.proofs.lemmas.Bool.Decides.{nat_tests}
+use Rattle.std.proofs.lemmas.Result.{on_ok_weaker}
 use Rattle.irc_line.specs.Writing.{written}
 use Rattle.irc_support.specs.Text.{Text}
 use Rattle.net_view.proofs.Tests.{no_true}
@@ -125,11 +126,12 @@ returns g c =
       count,
       arith,
     ) in
+    on_ok_weaker c.push_tokens-2.result (λ pushed.
     let said : c.push_tokens-2.new.text.items
     ≡ c.loop-place.text.items
     ++ cond (is_open (fill is_token_row ([], []) (take place words)).1)
     (written (line (fill is_token_row ([], []) (take place words)).1)) [] =
-    c.in_ok-push_tokens-2.ensures
+    pushed
     ∙ ap (λ ts. c.loop-place.text.items
     ++ cond (nat_eq (length (slice_range ts c.loop-place.start (length ts))) 0) []
     (written (settings_row nick
@@ -152,4 +154,4 @@ returns g c =
     c.own_nick-nick.ensures
     ∙ ap (λ ws. before
     ++ flat_map written (map (settings_row (unwrap_or v.own [])) (rows_of is_token_row ws)))
-    (c.in_ok-tokens.ensures ∙ ap (map token_text) c.support.ensures)
+    (c.in_ok-tokens.ensures ∙ ap (map token_text) c.support.ensures)) c.push_tokens-2.ensures
