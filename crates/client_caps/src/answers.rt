@@ -284,17 +284,16 @@ pub fn answer<A: Allocator, B: Allocator + Copy + Drop>(
         ≡ answer_to (option_map (λ n. n.now) nick.entry) held is_granted line.now) }
 {
     let name = name_shown(nick);
-    match Asked::of(line) {
-        Asked::Offered => Ok(Some(cap_line(alloc, name, b"LS", ALL_NAMES)?)),
-        Asked::Held => Ok(Some(held_line(alloc, name, held)?)),
-        Asked::Change if is_granted => {
-            Ok(Some(cap_line(alloc, name, b"ACK", asked_text(line))?))
-        }
-        Asked::Change => Ok(Some(cap_line(alloc, name, b"NAK", asked_text(line))?)),
-        Asked::Unknown => Ok(Some(unknown_line(alloc, name, line)?)),
-        Asked::Ping => Ok(Some(pong_line(alloc, line)?)),
-        Asked::End | Asked::Nothing => Ok(None),
-    }
+    let answer = match Asked::of(line) {
+        Asked::Offered => cap_line(alloc, name, b"LS", ALL_NAMES),
+        Asked::Held => held_line(alloc, name, held),
+        Asked::Change if is_granted => cap_line(alloc, name, b"ACK", asked_text(line)),
+        Asked::Change => cap_line(alloc, name, b"NAK", asked_text(line)),
+        Asked::Unknown => unknown_line(alloc, name, line),
+        Asked::Ping => pong_line(alloc, line),
+        Asked::End | Asked::Nothing => return Ok(None),
+    };
+    Ok(Some(answer?))
 }
 
 /// No view reads an answer: none is a state line.
