@@ -1,4 +1,4 @@
-use Rattle.std.proofs.Common.{[], ◌∷◌, ◌++◌, ap, ◌∙◌, map}
+use Rattle.std.proofs.Common.{[], ◌∷◌, ◌++◌, ap, ◌∙◌, map, take_all}
 use Rattle.std.proofs.lemmas.List.{map-append}
 use Rattle.welcome.proofs.Grouping.{empty_next}
 use Rattle.welcome.proofs.groups.empty_groups.Goals as goal
@@ -14,3 +14,13 @@ loop-preserved g c =
     (c.new.result ∷ [])
     ∙ ap (λ t. map (λ group. map (λ entry. entry.now) group.items) c.loop.groups.items
     ++ map (λ entry. entry.now) t ∷ []) c.new.ensures.items)
+
+pub returns : goal.returns
+returns g c =
+    ap (map (λ group. map (λ entry. entry.now) group.items)) c.in_ok-push-2.ensures.items
+    ∙ map-append (λ group. map (λ entry. entry.now) group.items) c.loop.groups.items
+    (c.new-2.result ∷ [])
+    ∙ ap (λ t. map (λ group. map (λ entry. entry.now) group.items) c.loop.groups.items
+    ++ map (λ entry. entry.now) t ∷ []) c.new-2.ensures.items
+    ∙ ap (λ groups. groups ++ [] ∷ []) (c.loop.invariant
+    ∙ ap (map (λ name. [])) (take_all c.loop.index c.args.names.now c.loop-test.false))
