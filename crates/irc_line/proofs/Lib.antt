@@ -8,9 +8,11 @@ pub mod Again
 pub mod Making
 pub mod Limit
 pub mod ReadOn
+pub mod ReadSegment
 pub mod Streams
 pub mod WrittenStream
 pub mod LinesTaken
 pub mod PiecesTaken
 pub mod Outcomes
+pub mod More
 pub mod Sent

@@ -1,6 +1,6 @@
 -- What is known of a result, from what is known of its value or its error.
 use Rattle.std.proofs.Common.{◌≡◌, Option, Some, None, Result, Ok, Err}
-use Rattle.std.specs.Prelude.{IfErr, IfNone, IfOk, IfSome, IsErrAnd, OnOk}
+use Rattle.std.specs.Prelude.{IfErr, IfNone, IfOk, IfSome, IsErr, IsErrAnd, OnErr, OnOk}
 
 -- a result that is this fault
 pub refused_by : {T E : Type 0} (r : Result T E) (P : E → Type 0) (fault : E)
@@ -33,3 +33,16 @@ err_more A B (Err e) f h = f e h
 pub on_ok : {T E A : Type 0} (r : Result T E) → A → OnOk r A
 on_ok (Ok x) h = h
 on_ok (Err e) h = tt
+
+pub on_err : {T E A : Type 0} (r : Result T E) → A → OnErr r A
+on_err (Ok x) h = tt
+on_err (Err e) h = h
+
+-- what is said of a value says nothing of an error
+pub not_ok : {T E : Type 0} (A : Type 0) (r : Result T E) → IsErr r → OnOk r A
+not_ok A (Ok x) h = absurd cc
+not_ok A (Err e) h = tt
+
+pub no_value : {T E : Type 0} (P : T → Type 0) (r : Result T E) → IsErr r → IfOk r P
+no_value P (Ok x) h = absurd cc
+no_value P (Err e) h = tt
