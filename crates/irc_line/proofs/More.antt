@@ -1,5 +1,5 @@
 -- Lists that grew at their ends.
-use Rattle.std.proofs.Common.{◌≡◌, List, ◌++◌, [], ap, sym, ◌∙◌, append-nil, append_assoc}
+use Rattle.std.proofs.Common.{◌≡◌, length, refl, arith, ◌∷◌, List, ◌++◌, [], ap, sym, ◌∙◌, append-nil, append_assoc}
 
 pub same_more : {X : Type 0} (old new : List X) → new ≡ old
     → (more : List X) × (new ≡ old ++ more)
@@ -25,3 +25,12 @@ line_joined old tagged sourced whole new tags source body end t s b e =
     joined old whole new (tags ++ (source ++ body)) end
     (joined old tagged whole tags (source ++ body) t
     (joined tagged sourced whole source body s b)) e
+
+pub empty_is : {X : Type 0} (xs : List X) → length xs ≡ 0 → xs ≡ []
+empty_is [] h = refl
+empty_is (x ∷ xs) h = absurd (omega (arith, h))
+
+pub rest_joined : {X : Type 0} (done piece right left all : List X) → left ≡ piece ++ right
+    → done ++ left ≡ all → (done ++ piece) ++ right ≡ all
+rest_joined done piece right left all cut whole =
+    append_assoc done piece right ∙ ap (λ r. done ++ r) (sym cut) ∙ whole
