@@ -28,13 +28,25 @@ use std::alloc::Allocator;
 pub type Members<A> = Table<Ranks, A>;
 
 /// A channel that we are on.
-#[derive(Drop)]
 pub struct Room<A: Allocator> {
     /// As spelled in our own last JOIN.
     pub name: Vec<u8, A>,
     pub topic: Option<Vec<u8, A>>,
     pub modes: Modes<A>,
     pub members: Members<A>,
+}
+
+// By hand, so that whoever owns a channel proves one call where it goes, and not the way of each
+// field.
+impl<A: Allocator> Drop for Room<A> {
+    fn drop(self) {
+        let Room {
+            name: _name,
+            topic: _topic,
+            modes: _modes,
+            members: _members,
+        } = self;
+    }
 }
 
 /// The channels that we are on, by the keys of their names.
