@@ -162,10 +162,10 @@ impl<A: Allocator + Copy> State<A> {
         if !self.rooms.contains_near(&mut near, channel) {
             return Ok(());
         }
+        self.people.reserve(1)?;
+        let account = copy_of_told(self.alloc, account)?;
         let mut member = new_member(self.alloc, mapping, who, Ranks::none())?;
         let person = new_person(self.alloc, mapping, who)?;
-        let account = copy_of_told(self.alloc, account)?;
-        self.people.reserve(1)?;
         let number = self.people.number_for(&person.known.key);
         member.near = number;
         seat(self.alloc, &mut self.rooms, near, channel, member)?;
@@ -225,11 +225,11 @@ impl<A: Allocator + Copy> State<A> {
         ensures kept { OnErr result (view_kept self.new ≡ view_kept self.old) }
     {
         let mapping = self.support.mapping();
-        let room = fresh_room(self.alloc, mapping, channel, who)?;
-        let person = new_person(self.alloc, mapping, who)?;
-        let account = copy_of_told(self.alloc, account)?;
         self.rooms.reserve(1)?;
         self.people.reserve(1)?;
+        let account = copy_of_told(self.alloc, account)?;
+        let person = new_person(self.alloc, mapping, who)?;
+        let room = fresh_room(self.alloc, mapping, channel, who)?;
         let mut near = usize::MAX;
         let again = self
             .rooms
