@@ -97,3 +97,33 @@ returns-in-IsAway-clause-taken g c = on_ok c.take_away.result c.take_away.ensure
     let said = ap (meant s) (sym c.in-IsAway.is) ∙ c.told_as.ensures s in
     e ∙ sym (after_away v sets sound.known (key_by s c.in-IsAway.who.now) (option_map (λ t. t.now)
     c.in-IsAway.text)) ∙ ap (after_told v) said)
+
+pub returns-in-Welcomed-clause-kept : goal.returns-in-Welcomed-clause-kept
+returns-in-Welcomed-clause-kept g c = c.welcome.ensures.kept
+
+pub returns-in-Supports-clause-kept : goal.returns-in-Supports-clause-kept
+returns-in-Supports-clause-kept g c = c.take_supports.ensures.kept
+
+pub returns-in-Joined-clause-kept : goal.returns-in-Joined-clause-kept
+returns-in-Joined-clause-kept g c = c.take_join.ensures.kept
+
+pub returns-in-Renamed-clause-kept : goal.returns-in-Renamed-clause-kept
+returns-in-Renamed-clause-kept g c = c.take_nick.ensures.kept
+
+pub returns-in-Changed-clause-kept : goal.returns-in-Changed-clause-kept
+returns-in-Changed-clause-kept g c = c.take_mode.ensures.kept
+
+pub returns-in-Listed-clause-kept : goal.returns-in-Listed-clause-kept
+returns-in-Listed-clause-kept g c = c.take_modes.ensures.kept
+
+pub returns-in-Titled-clause-kept : goal.returns-in-Titled-clause-kept
+returns-in-Titled-clause-kept g c = c.take_topic.ensures.kept
+
+pub returns-in-Present-clause-kept : goal.returns-in-Present-clause-kept
+returns-in-Present-clause-kept g c = c.take_names.ensures.kept
+
+pub returns-in-HasAccount-clause-kept : goal.returns-in-HasAccount-clause-kept
+returns-in-HasAccount-clause-kept g c = c.take_account.ensures.kept
+
+pub returns-in-IsAway-clause-kept : goal.returns-in-IsAway-clause-kept
+returns-in-IsAway-clause-kept g c = c.take_away.ensures.kept
