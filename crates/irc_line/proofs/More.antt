@@ -1,5 +1,6 @@
 -- Lists that grew at their ends.
-use Rattle.std.proofs.Common.{◌≡◌, length, refl, arith, ◌∷◌, List, ◌++◌, [], ap, sym, ◌∙◌, append-nil, append_assoc}
+use Rattle.std.proofs.Common.{◌≡◌, List, [], ◌∷◌, ◌++◌, length, ap, refl, sym, ◌∙◌, append-nil}
+use Rattle.std.proofs.Common.{append_assoc, arith}
 
 pub same_more : {X : Type 0} (old new : List X) → new ≡ old
     → (more : List X) × (new ≡ old ++ more)

@@ -16,8 +16,8 @@ loop-param-preserved g c =
       held.0 ++ piece,
       record {
         added =
-            joined c.args.out.now.items c.loop-param.out.items c.push_param.new.out.items held.0 piece
-            held.1.added c.in_ok-push_param.ensures.ok;
+            joined c.args.out.now.items c.loop-param.out.items c.push_param.new.out.items held.0
+            piece held.1.added c.in_ok-push_param.ensures.ok;
         all =
             rest_joined held.0 piece (flat_map param_text (params_at false c.in-Some.after.now))
             (flat_map param_text (params_at false c.loop-param.rest.now))
