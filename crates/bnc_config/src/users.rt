@@ -30,7 +30,8 @@ pub struct UserConfig {
     networks: Vec<NetworkConfig>,
 }
 
-// By hand, so that whoever owns a user proves one call where it goes, and not the way of each field.
+// By hand, so that whoever owns a user proves one call where it goes, and not the way of each
+// field.
 impl Drop for UserConfig {
     fn drop(self) {
         let UserConfig {

@@ -6,7 +6,8 @@ pub returns-clause-value : goal.returns-clause-value
 returns-clause-value g c =
     c.rank_of_letter.ensures.value
     ∙ ap (λ ranking. position (λ b. b == c.args.letter) ranking.letters) c.self.invariant.0
-    ∙ ap (λ settings. position (λ b. b == c.args.letter) (ranking_of settings).letters) c.self.view_is
+    ∙ ap (λ settings. position (λ b. b == c.args.letter) (ranking_of settings).letters)
+    c.self.view_is
 
 pub returns-clause-small : goal.returns-clause-small
 returns-clause-small g c = c.rank_of_letter.ensures.small
