@@ -1,6 +1,6 @@
 -- Lists that grew at their ends.
-use Rattle.std.proofs.Common.{◌≡◌, List, [], ◌∷◌, ◌++◌, length, ap, refl, sym, ◌∙◌, append-nil}
-use Rattle.std.proofs.Common.{append_assoc, arith}
+use Rattle.std.proofs.Common.{◌≡◌, List, [], ◌++◌, ap, sym, ◌∙◌, append-nil}
+use Rattle.std.proofs.Common.{append_assoc}
 
 pub same_more : {X : Type 0} (old new : List X) → new ≡ old
     → (more : List X) × (new ≡ old ++ more)
@@ -26,10 +26,6 @@ line_joined old tagged sourced whole new tags source body end t s b e =
     joined old whole new (tags ++ (source ++ body)) end
     (joined old tagged whole tags (source ++ body) t
     (joined tagged sourced whole source body s b)) e
-
-pub empty_is : {X : Type 0} (xs : List X) → length xs ≡ 0 → xs ≡ []
-empty_is [] h = refl
-empty_is (x ∷ xs) h = absurd (omega (arith, h))
 
 pub rest_joined : {X : Type 0} (done piece right left all : List X) → left ≡ piece ++ right
     → done ++ left ≡ all → (done ++ piece) ++ right ≡ all

@@ -8,7 +8,6 @@ use Rattle.std.proofs.lemmas.List.Folds.{list_any-append}
 use Rattle.irc_line.specs.Line.{Parts}
 use Rattle.irc_line.specs.Lines.{Pending, all_but_last, ended_of, fed, is_too_long, line_limit}
 use Rattle.irc_line.specs.Lines.{lines_of, rest_of, segments_of, start}
-use Rattle.irc_line.specs.declared.splitter.FeedError.{FeedError}
 use Rattle.irc_line.specs.declared.splitter.FeedError.TheVariants as feed
 use Rattle.irc_line.proofs.Pieces.{fed_all-start, lines-append}
 use Rattle.irc_line.proofs.Segments.{segments-append}

@@ -1,6 +1,6 @@
-use Rattle.std.proofs.Common.{◌≡◌, [], arith, refl, sym}
+use Rattle.std.proofs.Common.{refl, sym}
 use Rattle.irc_line.proofs.Outcomes.{no_value, not_ok, on_err}
-use Rattle.irc_line.proofs.More.{empty_is, same_more}
+use Rattle.irc_line.proofs.More.{same_more}
 use Rattle.irc_line.proofs.splitter.read_first.Goals as goal
 
 pub returns-in_err-extend_from_slice-clause-added :
@@ -22,18 +22,6 @@ pub returns-in_err-extend_from_slice-clause-grown :
 returns-in_err-extend_from_slice-clause-grown g c =
     same_more c.args.rest.now.items c.extend_from_slice.new.self.items
     c.in_err-extend_from_slice.ensures.items
-
-pub returns-then-is_empty-clause-added : goal.returns-then-is_empty-clause-added
-returns-then-is_empty-clause-added g c =
-    let none : c.args.rest.now.items ≡ [] =
-    empty_is c.args.rest.now.items (grind arith) in
-    rw none c.read_segment.ensures.added
-
-pub returns-then-is_empty-clause-skips : goal.returns-then-is_empty-clause-skips
-returns-then-is_empty-clause-skips g c =
-    let none : c.args.rest.now.items ≡ [] =
-    empty_is c.args.rest.now.items (grind arith) in
-    rw none c.read_segment.ensures.skips
 
 pub returns-then-is_empty-clause-err : goal.returns-then-is_empty-clause-err
 returns-then-is_empty-clause-err g c = c.read_segment.ensures.err
