@@ -1,5 +1,5 @@
 -- What a writer got.
-use Rattle.std.proofs.Common.{◌≡◌, ◌≤◌, ◌+◌, ◌-◌, ◌^◌, min, Bool, true, false, MatchBool, ℕ, suc}
+use Rattle.std.proofs.Common.{◌≡◌, ◌≤◌, ◌+◌, ◌-◌, ◌^◌, min, Bool, true, false, ℕ, suc}
 use Rattle.std.proofs.Common.{zero, List, [], ◌∷◌, ◌++◌, refl, sym, ap, ◌∙◌, Option, Ok}
 use Rattle.std.proofs.Common.{Err, length, take, drop, append-nil, append_assoc, subst, arith}
 use Rattle.std.proofs.Common.{length-append, length-drop}
@@ -57,19 +57,21 @@ pub bound_rest : (i n : ℕ) (xs : List ℕ) → n ≤ length (take (length xs -
 bound_rest i n xs b h = let e : length (take (length xs - i) (drop i xs))
     ≡ length xs - i = ap (λ l. length l) (rest_whole i xs) ∙ length-drop i xs in omega arith
 
--- what waited was written, and then the new bytes, as far as the writer took them
-pub through_put : (r : Bool) (a b c : Option (List ℕ)) (was bytes now : List ℕ) → Appends a b was
-    → now ≡ []
-    → MatchBool r (Appends b c bytes) ((k : ℕ) × Appends b c (take k bytes))
-    → MatchBool r ((put : List ℕ) × Appends a c put × (put ++ now ≡ was ++ bytes))
-    ((k : ℕ) × Appends a c (take k (was ++ bytes)))
-through_put true a b c was bytes now p none q = (
+-- what waited was written, and then the new bytes
+pub through_all : (a b c : Option (List ℕ)) (was bytes now : List ℕ) → Appends a b was → now ≡ []
+    → Appends b c bytes
+    → (put : List ℕ) × Appends a c put × (put ++ now ≡ was ++ bytes)
+through_all a b c was bytes now p none q = (
   was ++ bytes,
   appends_more a b c was bytes p q,
   ap (λ l. (was ++ bytes) ++ l) none
       ∙ append-nil _,
 )
-through_put false a b c was bytes now p none q = part_appends a b c was bytes [] (was ++ bytes)
+
+-- as far as the writer took them
+pub through_part : (a b c : Option (List ℕ)) (was bytes : List ℕ) → Appends a b was
+    → (k : ℕ) × Appends b c (take k bytes) → (k : ℕ) × Appends a c (take k (was ++ bytes))
+through_part a b c was bytes p q = part_appends a b c was bytes [] (was ++ bytes)
     (ap (λ l. was ++ l) (sym (append-nil bytes))) p q
 
 nothing_left : (xs : List ℕ) → (length xs == 0) ≡ true → xs ≡ []

@@ -12,6 +12,12 @@ packets_in [] = []
 packets_in (Lines packet ∷ items) = packet ∷ packets_in items
 packets_in (Closing id count ∷ items) = packets_in items
 
+-- the packet at the head, if one is there
+abbrev pub first_packet : List Queued → Option (List Parts)
+first_packet [] = None
+first_packet (Lines packet ∷ items) = Some packet
+first_packet (Closing id count ∷ items) = None
+
 -- the number in the first closing item
 abbrev pub closed_in : List Queued → Option ℕ
 closed_in [] = None

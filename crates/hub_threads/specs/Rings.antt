@@ -1,12 +1,14 @@
 -- What contracts see of the rings between threads.
-use Rattle.std.specs.Prelude.{ℕ, List, Option, Bool, map, cond, is_some}
+use Rattle.std.specs.Prelude.{ℕ, List, Option, None, Bool, map, cond, is_some}
 use Rattle.irc_line.specs.Line.{Parts}
 use Rattle.rtrb.specs.Ring.{sent, received, known_free, known_items, producer_capacity, IsPair}
 use Rattle.hub_ends.specs.Came.{Came, came}
 use Rattle.hub_threads.specs.declared.inlet_ring.InletEnd.{InletEnd}
 use Rattle.hub_threads.specs.declared.inlet_ring.RingInlet.{RingInlet}
+use Rattle.hub_threads.specs.declared.outlet_end.OutletEnd.{OutletEnd}
 use Rattle.hub_threads.specs.declared.outlet_ring.RingOutlet.{RingOutlet}
-use Rattle.hub_threads.specs.Queues.{packets_in, is_closed}
+use Rattle.hub_threads.specs.declared.queued.Queued.{Queued}
+use Rattle.hub_threads.specs.Queues.{packets_in, is_closed, first_packet}
 
 -- ---- items, from the thread that reads to the hub
 
@@ -54,3 +56,11 @@ free_of outlet = cond (is_some outlet.closed) 0 (known_free outlet.producer)
 -- whether the closing item found a slot
 abbrev pub told_of : RingOutlet → Bool
 told_of outlet = is_closed (sent outlet.producer)
+
+-- all items that the end ever took
+abbrev pub items_of : OutletEnd → List Queued
+items_of end = received end.consumer
+
+-- the packet that is known to come next: none once the closing item was taken
+abbrev pub next_of : OutletEnd → Option (List Parts)
+next_of end = cond (is_some end.closed) None (first_packet (known_items end.consumer))

@@ -1,13 +1,16 @@
 -- What a thread that writes packets did.
-use Rattle.std.specs.Prelude.{◌≡◌, ℕ, List, ◌++◌, Option, Some, Bool, Result, Ok, Err, length, take}
+use Rattle.std.specs.Prelude.{◌≡◌, ℕ, List, ◌++◌, Option, Some, Bool, true, Result, Ok, Err, length, take}
+use Rattle.std.specs.Prelude.{IsSome, ◌⊎◌, ◌≤◌}
 use Rattle.std.specs.List.{flat_map}
 use Rattle.std.specs.Io.KnownBytes.{Appends}
 use Rattle.irc_line.specs.Line.{Parts}
 use Rattle.irc_line.specs.Lines.{counted}
 use Rattle.irc_line.specs.Writing.{bytes_of}
+use Rattle.hub_threads.specs.declared.outlet_end.OutletEnd.{OutletEnd}
 use Rattle.hub_threads.specs.declared.queued.Queued.{Queued}
 use Rattle.hub_threads.specs.declared.writing.WriteFault.{WriteFault}
-use Rattle.hub_threads.specs.Queues.{packets_in, ended_by, is_nil}
+use Rattle.hub_threads.specs.Queues.{packets_in, ended_by, is_nil, closed_in}
+use Rattle.hub_threads.specs.Rings.{items_of}
 
 -- the written form of packets, one behind the other: their lines, each with CR LF (RFC 2812,
 -- section 2.3)
@@ -31,6 +34,12 @@ pub record IsWritten (was all : List Queued) (began out : Option (List ℕ)) (fr
   -- they are all that the end ever took
   pub fresh_is : fresh ≡ is_nil (packets_in was)
   pub wrote : Wrote began out taken outcome
+
+-- Nothing more is to be written: the closing item was taken, so many takes of the writer in
+-- succession gave nothing, or at the last look the other end was gone and nothing was left, or the
+-- sign to stop was up.
+abbrev pub IsOver : OutletEnd → ℕ → Type 0
+IsOver end idle = IsSome (closed_in (items_of end)) ⊎ ((idle ≤ end.misses) ⊎ (end.left ≡ true))
 
 -- A session's end was seen whole: all that the end ever took is packets, and then the closing item
 -- of this session with their count; and the writer got the written form of all of them, so many

@@ -1,6 +1,6 @@
 //! Bytes that wait to be written in one go.
 
-ghost use Rattle.std.specs.Prelude.{ℕ, ◌≡◌, ◌≤◌, ◌+◌, ◌++◌, ◌↔◌, [], List, MatchBool, length};
+ghost use Rattle.std.specs.Prelude.{ℕ, ◌≡◌, ◌<◌, ◌≤◌, ◌+◌, ◌++◌, ◌↔◌, [], List, MatchBool, length};
 ghost use Rattle.std.specs.Prelude.{false, true};
 ghost use Rattle.std.specs.Prelude.{take, vec_len};
 ghost use Rattle.std.specs.Vec.{vec_capacity};
@@ -10,11 +10,12 @@ use crate::gate::{Gate, Point};
 use std::io::Write;
 
 /// Writes all bytes, as far as the writer takes them. False after a fault, or where a
-/// write takes no byte.
+/// write takes no byte, and then some were not written.
 fn write_whole<W: Write>(out: &mut W, bytes: &[u8]) -> bool
     ensures { MatchBool result
         (Appends (W.contents out.old) (W.contents out.new) bytes.now)
-        ((k : ℕ) × Appends (W.contents out.old) (W.contents out.new) (take k bytes.now)) }
+        ((k : ℕ) × (k < length bytes.now) ×
+        Appends (W.contents out.old) (W.contents out.new) (take k bytes.now)) }
 {
     let mut at = 0;
     while at < bytes.len() {
@@ -27,24 +28,6 @@ fn write_whole<W: Write>(out: &mut W, bytes: &[u8]) -> bool
     true
 }
 
-/// The same, between the gate's points before and after a write, and flushes.
-fn write_through<W: Write, G: Gate>(out: &mut W, bytes: &[u8], gate: &G) -> bool
-    ensures { MatchBool result
-        (Appends (W.contents out.old) (W.contents out.new) bytes.now)
-        ((k : ℕ) × Appends (W.contents out.old) (W.contents out.new) (take k bytes.now)) }
-{
-    gate.pass(Point::BeforeWrite);
-    if !write_whole(out, bytes) {
-        return false;
-    }
-    match out.flush() {
-        Ok(()) => {}
-        Err(_) => return false,
-    }
-    gate.pass(Point::AfterWrite);
-    true
-}
-
 /// Whether something waits in the batch.
 pub fn waits(batch: &Vec<u8>) -> bool
     ensures { (result ≡ false) ↔ (batch.now.items ≡ []) }
@@ -52,15 +35,19 @@ pub fn waits(batch: &Vec<u8>) -> bool
     !batch.as_slice().is_empty()
 }
 
-/// Writes what waits in the batch, and empties it.
+/// Writes what waits in the batch, and flushes; the batch is empty then.
 pub fn flush_batch<W: Write, G: Gate>(out: &mut W, batch: &mut Vec<u8>, gate: &G) -> bool
     ensures written { MatchBool result
         (Appends (W.contents out.old) (W.contents out.new) batch.old.items)
         ((k : ℕ) × Appends (W.contents out.old) (W.contents out.new) (take k batch.old.items)) }
     ensures empty { batch.new.items ≡ [] }
 {
-    let done = write_through(out, batch.as_slice(), gate);
+    gate.pass(Point::BeforeWrite);
+    let done = write_whole(out, batch.as_slice()) && out.flush().is_ok();
     batch.clear();
+    if done {
+        gate.pass(Point::AfterWrite);
+    }
     done
 }
 
@@ -102,5 +89,13 @@ pub fn put_in_batch<W: Write, G: Gate>(
         append(batch, bytes);
         return true;
     }
-    write_through(out, bytes, gate)
+    gate.pass(Point::BeforeWrite);
+    if !write_whole(out, bytes) {
+        return false;
+    }
+    if out.flush().is_err() {
+        return false;
+    }
+    gate.pass(Point::AfterWrite);
+    true
 }

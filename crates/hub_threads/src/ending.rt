@@ -3,7 +3,8 @@
 ghost use Rattle.std.specs.Prelude.{◌≡◌, ◌↔◌, IfOk, IsTrue, OnErr, OnOk, Some, true};
 ghost use Rattle.hub_threads.specs.Endings.{WasDetached, WasMissing};
 ghost use Rattle.hub_threads.specs.Queues.{closed_in};
-ghost use Rattle.hub_threads.specs.Writes.{IsWhole, IsWritten};
+ghost use Rattle.hub_threads.specs.Rings.{items_of};
+ghost use Rattle.hub_threads.specs.Writes.{IsOver, IsWhole, IsWritten};
 
 use crate::network::Network;
 use crate::outlet_end::OutletEnd;
@@ -42,11 +43,13 @@ pub fn end_session<V: NetworkView + Drop, W: Write + Drop, R: Threads + Wait>(
     writer: PromisedHandle<Written<W>, Given<W>>,
 ) -> Result<Ended<W>, NoSession>
     ensures token { IfOk result (λ e. IsTrue e.token
-        ↔ ((e.fresh ≡ true) × (closed_in e.end ≡ Some id))) }
-    ensures written { IfOk result (λ e. IsWritten writer.promise.0.value e.end
+        ↔ ((e.fresh ≡ true) × (closed_in (items_of e.end) ≡ Some id))) }
+    ensures written { IfOk result (λ e. IsWritten (items_of writer.promise.0.value) (items_of e.end)
         (W.contents writer.promise.1.value) (W.contents e.out) e.fresh e.written) }
+    ensures over { IfOk result (λ e. IfOk e.written
+        (λ count. IsOver e.end writer.promise.2.value)) }
     ensures whole { IfOk result (λ e. e.token ≡ true → IfOk e.written
-        (IsWhole id e.end (W.contents writer.promise.1.value) (W.contents e.out))) }
+        (IsWhole id (items_of e.end) (W.contents writer.promise.1.value) (W.contents e.out))) }
     ensures detached { OnOk result (WasDetached id) }
     ensures missing { OnErr result (WasMissing id) }
 {

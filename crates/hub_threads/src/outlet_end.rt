@@ -1,52 +1,38 @@
 //! Packets taken out by the thread that writes.
 
-ghost use Rattle.std.specs.Prelude.{◌≡◌, ◌<◌, [], IfOk, None, false};
-ghost use Rattle.hub_threads.specs.Rings.{capacity_of, closed_of, free_of, sent_of, told_of};
+ghost use Rattle.std.specs.Prelude.{◌≡◌};
+ghost use Rattle.rtrb.specs.Ring.{received};
+ghost use Rattle.hub_threads.specs.Queues.{ended_by, is_nil, packets_in};
 
 use crate::OutOfMemory;
-use crate::bell::{SharedBell, shared_bell};
-use crate::outlet_ring::RingOutlet;
+use crate::bell::SharedBell;
 use crate::queued::{Counted, Queued};
 use hub_ends::SessionId;
-use rtrb::{Consumer, RingBuffer};
+use rtrb::Consumer;
 use std::alloc::Global;
-use std::marker::Model;
 use std::mem;
 use std::sync::{Arc, Wait};
 use welcome::Packet;
 
-/// How many bytes are written in one go at most, of more than one packet.
-const BATCH: usize = 65_536;
-
-/// The end that packets are taken from. Contracts see it as the list of all items that it ever
-/// took.
+/// The end that packets are taken from. Contracts see the list of all items that it ever took, and
+/// the packet that is known to come next.
 pub struct OutletEnd {
     consumer: Consumer<Queued, Global, Counted>,
     closed: Option<SessionId>,
     // no packet was taken yet
     fresh: bool,
+    // how many takes in succession gave nothing, at most the greatest count
+    misses: u64,
+    // the other end was gone and nothing left, or the sign to stop was up, at the last look
+    left: bool,
     // room for what is written in one go, empty
     buffer: Vec<u8>,
     // wakes the thread that has this end; its flag tells it to stop
     writer: SharedBell,
     // wakes the pump; its flag says that the pump waits for room
     pump: SharedBell,
-}
-
-impl Model for OutletEnd {
-    ghost use Rattle.std.specs.Prelude.{◌≡◌, List};
-    ghost use Rattle.hub_threads.specs.declared.queued.Queued.{Queued};
-
-    ghost Value = { List Queued };
-
-    ghost use Rattle.rtrb.specs.Ring.{received};
-    ghost use Rattle.hub_threads.specs.Queues.{ended_by, is_nil, packets_in};
-
-    ghost view = { λ e. received e.consumer };
-
-    ghost invariant = { λ e.
-        (received e.consumer ≡ ended_by (packets_in (received e.consumer)) e.closed) ×
-        (e.fresh ≡ is_nil (packets_in (received e.consumer))) };
+    ghost ended: { received consumer ≡ ended_by (packets_in (received consumer)) closed },
+    ghost first: { fresh ≡ is_nil (packets_in (received consumer)) },
 }
 
 impl Drop for OutletEnd {
@@ -55,6 +41,8 @@ impl Drop for OutletEnd {
             consumer,
             closed: _,
             fresh: _,
+            misses: _,
+            left: _,
             buffer,
             writer,
             pump,
@@ -67,44 +55,45 @@ impl Drop for OutletEnd {
     }
 }
 
-/// Both ends of one ring, for this many packets at a time, and 64 KiB of room to write from. Who
-/// sleeps on `pump` with its flag up is woken when a packet is taken and no further one is known.
-/// `OutOfMemory` is told where an allocation was refused, and for no other cause.
-pub fn outlet(
-    alloc: Global,
-    capacity: usize,
-    pump: SharedBell,
-) -> Result<(RingOutlet, OutletEnd), OutOfMemory>
-    requires { 0 < capacity }
-    ensures outlet { IfOk result (λ r. (sent_of r.0 ≡ []) × (closed_of r.0 ≡ None) ×
-        (capacity_of r.0 ≡ capacity) × (free_of r.0 ≡ capacity) × (told_of r.0 ≡ false)) }
-    ensures end { IfOk result (λ r. r.1 ≡ []) }
-{
-    let writer = shared_bell(alloc)?;
-    let theirs = Arc::try_clone(&writer)?;
-    let buffer = Vec::with_capacity(alloc, BATCH)?;
-    let (producer, consumer) = RingBuffer::with_protocol::<Global, Counted>(alloc, capacity)?;
-    let outlet = RingOutlet::new(producer, theirs);
-    let end = OutletEnd {
-        consumer,
-        closed: None,
-        fresh: true,
-        buffer,
-        writer,
-        pump,
-    };
-    Ok((outlet, end))
-}
-
 impl OutletEnd {
-    ghost use Rattle.std.specs.Prelude.{◌≡◌, ◌++◌, ◌<◌, ◌≤◌, []};
+    ghost use Rattle.std.specs.Prelude.{ℕ, ◌≡◌, ◌+◌, ◌++◌, [], IfSome, IsTrue, Some};
+    ghost use Rattle.std.specs.Prelude.{cond, is_some};
     ghost use Rattle.std.specs.Option.{option_to_list};
+    ghost use Rattle.irc_line.specs.Lines.{counted};
+    ghost use Rattle.rtrb.specs.Ring.{received};
     ghost use Rattle.hub_threads.specs.Queues.{closed_in, ended_by, is_nil, packets_in};
+    ghost use Rattle.hub_threads.specs.Rings.{items_of, next_of};
+    ghost use Rattle.hub_threads.specs.Writes.{IsOver};
+
+    /// The end of a ring from which nothing was taken, with room to write from.
+    pub(crate) fn new(
+        consumer: Consumer<Queued, Global, Counted>,
+        buffer: Vec<u8>,
+        writer: SharedBell,
+        pump: SharedBell,
+    ) -> OutletEnd
+        requires { received consumer ≡ [] }
+        ensures { items_of result ≡ [] }
+    {
+        OutletEnd {
+            consumer,
+            closed: None,
+            fresh: true,
+            misses: 0,
+            left: false,
+            buffer,
+            writer,
+            pump,
+        }
+    }
 
     /// Takes a packet; `None` where there is none for now, and for good once the closing item was
     /// taken. It takes no lock and waits for nobody.
     pub fn take(&mut self) -> Option<Packet>
-        ensures { packets_in self.new ≡ packets_in self.old ++ option_to_list result }
+        ensures taken { packets_in (items_of self.new)
+            ≡ packets_in (items_of self.old) ++ option_to_list result }
+        ensures next { IfSome (next_of self.old) (λ packet. result ≡ Some packet) }
+        ensures misses { self.new.misses ≡ self.old.misses }
     {
         if self.closed.is_some() {
             return None;
@@ -127,55 +116,66 @@ impl OutletEnd {
     /// packets, and behind them that item with their count.
     #[tactic(auto, using(crate::proofs::Lists::closed_is))]
     pub fn closed(&self) -> Option<SessionId>
-        ensures value { result ≡ closed_in self.now }
-        ensures all { self.now ≡ ended_by (packets_in self.now) result }
+        ensures value { result ≡ closed_in (items_of self.now) }
+        ensures all { items_of self.now ≡ ended_by (packets_in (items_of self.now)) result }
     {
         self.closed
     }
 
     /// Whether no packet was taken yet.
     pub fn is_fresh(&self) -> bool
-        ensures { result ≡ is_nil (packets_in self.now) }
+        ensures { result ≡ is_nil (packets_in (items_of self.now)) }
     {
         self.fresh
     }
 
     /// The next packet for the writer: none once it is told to stop.
     pub(crate) fn next_to_write(&mut self) -> Option<Packet>
-        ensures { packets_in self.new ≡ packets_in self.old ++ option_to_list result }
+        ensures taken { packets_in (items_of self.new)
+            ≡ packets_in (items_of self.old) ++ option_to_list result }
+        ensures misses { self.new.misses
+            ≡ cond (is_some result) 0 (counted (self.old.misses + 1)) }
     {
-        if self.writer.is_raised() {
-            return None;
-        }
-        self.take()
+        let packet = if self.writer.is_raised() {
+            None
+        } else {
+            self.take()
+        };
+        self.misses = match &packet {
+            Some(_) => 0,
+            None => self.misses.saturating_add(1),
+        };
+        packet
     }
 
-    /// Whether nothing more is to be written: the closing item was taken, the other end is gone and
-    /// nothing is left, or the writer is told to stop.
-    pub(crate) fn is_over(&mut self) -> bool
-        ensures { self.new ≡ self.old }
+    /// Whether nothing more is to be written: so many takes in succession gave nothing, the closing
+    /// item was taken, the other end is gone and nothing is left, or the writer is told to stop.
+    pub(crate) fn is_over(&mut self, idle: u64) -> bool
+        ensures end { (items_of self.new ≡ items_of self.old) × (self.new.misses ≡ self.old.misses) }
+        ensures over { IsTrue result → IsOver self.new idle }
     {
-        self.closed.is_some()
-            || self.writer.is_raised()
-            || (self.consumer.is_abandoned() && self.consumer.is_empty())
+        self.looks_left() || self.misses >= idle || self.closed.is_some()
     }
 
-    /// Sleeps until a packet may be there; answers how many takes gave nothing, this one among
-    /// them.
-    pub(crate) fn sleep<R: Wait>(&mut self, rt: &R, empty: u64, idle: u64) -> u64
-        requires { empty < idle }
-        ensures end { self.new ≡ self.old }
-        ensures empty { result ≤ idle }
+    /// Whether the other end is gone and nothing is left, or the writer is told to stop.
+    fn looks_left(&mut self) -> bool
+        ensures end { (items_of self.new ≡ items_of self.old) × (self.new.misses ≡ self.old.misses) }
+        ensures left { result ≡ self.new.left }
+    {
+        self.left = self.writer.is_raised()
+            || (self.consumer.is_abandoned() && self.consumer.is_empty());
+        self.left
+    }
+
+    /// Sleeps until a packet may be there.
+    pub(crate) fn sleep<R: Wait>(&mut self, rt: &R, idle: u64)
+        ensures { (items_of self.new ≡ items_of self.old) × (self.new.misses ≡ self.old.misses) }
     {
         self.writer.nod();
         if self.consumer.is_empty() {
             self.writer.sleep(rt, idle);
         }
         self.writer.rise();
-        if idle == u64::MAX {
-            return empty;
-        }
-        empty + 1
     }
 
     /// Rests after a write, so that what comes meanwhile goes in one write: at most 1 ms, and until
@@ -186,11 +186,13 @@ impl OutletEnd {
         }
     }
 
-    /// The room to write from.
+    /// The room to write from, for a writer that has missed nothing yet.
     pub(crate) fn lend_buffer(&mut self) -> Vec<u8>
-        ensures end { self.new ≡ self.old }
+        ensures end { items_of self.new ≡ items_of self.old }
+        ensures misses { self.new.misses ≡ 0 }
         ensures buffer { result.items ≡ [] }
     {
+        self.misses = 0;
         let none = Vec::new(*self.buffer.allocator());
         let mut buffer = mem::replace(&mut self.buffer, none);
         buffer.clear();
@@ -199,7 +201,8 @@ impl OutletEnd {
 
     /// Takes the room back.
     pub(crate) fn take_back(&mut self, buffer: Vec<u8>)
-        ensures { self.new ≡ self.old }
+        ensures end { items_of self.new ≡ items_of self.old }
+        ensures over { (idle : ℕ) → IsOver self.old idle → IsOver self.new idle }
     {
         self.buffer = buffer;
     }

@@ -13,23 +13,27 @@ use std::sync::Wait;
 use std::thread;
 use std::thread::{Promise, PromisedHandle, Threads};
 
-/// What a writer was given: its end, and what it writes to. Its thread promises what `write_out`
-/// says of them. It has no bytes.
-pub struct Given<W>(Snapshot<OutletEnd>, Snapshot<W>);
+/// What a writer was given: its end, what it writes to, and after how many takes that give nothing
+/// it ends. Its thread promises what `write_out` says of them. It has no bytes.
+pub struct Given<W>(Snapshot<OutletEnd>, Snapshot<W>, Snapshot<u64>);
 
 impl<W> Drop for Given<W> {
     fn drop(self) {
-        let Given(end, out) = self;
+        let Given(end, out, idle) = self;
         drop(end);
         drop(out);
+        drop(idle);
     }
 }
 
 impl<W: Write> Promise<Written<W>> for Given<W> {
-    ghost use Rattle.hub_threads.specs.Writes.{IsWritten};
+    ghost use Rattle.std.specs.Prelude.{IfOk};
+    ghost use Rattle.hub_threads.specs.Rings.{items_of};
+    ghost use Rattle.hub_threads.specs.Writes.{IsOver, IsWritten};
 
-    ghost kept_by = { λ p r. IsWritten p.0.value r.end (W.contents p.1.value) (W.contents r.out)
-        r.fresh r.outcome };
+    ghost kept_by = { λ p r. IsWritten (items_of p.0.value) (items_of r.end)
+        (W.contents p.1.value) (W.contents r.out) r.fresh r.outcome
+        × IfOk r.outcome (λ count. IsOver r.end p.2.value) };
 }
 
 /// The thread of a writer.
@@ -48,9 +52,10 @@ pub fn spawn_writer<
     gate: G,
     idle: u64,
 ) -> Result<PromisedHandle<Written<W>, Given<W>>, OutOfMemory>
-    ensures { IfOk result (λ h. (h.promise.0.value ≡ end) × (h.promise.1.value ≡ out)) }
+    ensures { IfOk result (λ h. (h.promise.0.value ≡ end) × (h.promise.1.value ≡ out) ×
+        (h.promise.2.value ≡ idle)) }
 {
-    let given = Given(Snapshot::of(&end), Snapshot::of(&out));
+    let given = Given(Snapshot::of(&end), Snapshot::of(&out), Snapshot::of(&idle));
     match thread::spawn_with(&rt, given, move || write_out(&rt, end, out, &gate, idle)) {
         Ok(handle) => Ok(handle),
         Err(_) => Err(AllocError),

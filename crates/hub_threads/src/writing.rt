@@ -1,9 +1,10 @@
 //! Packets from a ring to a writer.
 
-ghost use Rattle.std.specs.Prelude.{ℕ, ◌≡◌, ◌++◌, List, MatchOption, length, take};
+ghost use Rattle.std.specs.Prelude.{ℕ, ◌≡◌, ◌++◌, IfOk, List, MatchOption, length, take};
 ghost use Rattle.std.specs.Io.KnownBytes.{Appends};
 ghost use Rattle.irc_line.specs.Writing.{bytes_of};
-ghost use Rattle.hub_threads.specs.Writes.{IsWritten};
+ghost use Rattle.hub_threads.specs.Rings.{items_of};
+ghost use Rattle.hub_threads.specs.Writes.{IsOver, IsWritten};
 
 use crate::batch::{flush_batch, put_in_batch, waits};
 use crate::gate::Gate;
@@ -39,8 +40,9 @@ fn handed_back<W: Write>(
     fresh: bool,
     outcome: Result<u64, WriteFault>,
 ) -> Written<W>
-    ensures { (result.end ≡ end) × (result.out ≡ out) × (result.fresh ≡ fresh) ×
-        (result.outcome ≡ outcome) }
+    ensures parts { (items_of result.end ≡ items_of end) × (result.out ≡ out) ×
+        (result.fresh ≡ fresh) × (result.outcome ≡ outcome) }
+    ensures over { (idle : ℕ) → IsOver end idle → IsOver result.end idle }
 {
     let mut end = end;
     end.take_back(batch);
@@ -89,22 +91,19 @@ pub fn write_out<W: Write, G: Gate, R: Wait>(
     gate: &G,
     idle: u64,
 ) -> Written<W>
-    ensures { IsWritten end result.end (W.contents out) (W.contents result.out)
-        result.fresh result.outcome }
+    ensures written { IsWritten (items_of end) (items_of result.end) (W.contents out)
+        (W.contents result.out) result.fresh result.outcome }
+    ensures over { IfOk result.outcome (λ count. IsOver result.end idle) }
 {
     let fresh = end.is_fresh();
     let mut end = end;
     let mut out = out;
     let mut batch = end.lend_buffer();
     let mut count = 0u64;
-    let mut empty = 0u64;
     for _ in rt.forever() {
         match end.next_to_write() {
             Some(packet) => match put_packet(&mut out, &mut batch, packet, gate) {
-                Some(bytes) => {
-                    count = count.saturating_add(bytes);
-                    empty = 0;
-                }
+                Some(bytes) => count = count.saturating_add(bytes),
                 None => return handed_back(end, batch, out, fresh, Err(WriteFault)),
             },
             None if waits(&batch) => {
@@ -114,13 +113,10 @@ pub fn write_out<W: Write, G: Gate, R: Wait>(
                 end.rest(rt);
             }
             None => {
-                if empty >= idle {
+                if end.is_over(idle) {
                     return handed_back(end, batch, out, fresh, Ok(count));
                 }
-                if end.is_over() {
-                    return handed_back(end, batch, out, fresh, Ok(count));
-                }
-                empty = end.sleep(rt, empty, idle);
+                end.sleep(rt, idle);
             }
         }
     }

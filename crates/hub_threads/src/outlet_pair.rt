@@ -1,0 +1,38 @@
+//! Both ends of a ring of packets.
+
+ghost use Rattle.std.specs.Prelude.{◌≡◌, ◌<◌, [], IfOk, None, false};
+ghost use Rattle.hub_threads.specs.Rings.{capacity_of, closed_of, free_of, items_of, sent_of};
+ghost use Rattle.hub_threads.specs.Rings.{told_of};
+
+use crate::OutOfMemory;
+use crate::bell::{SharedBell, shared_bell};
+use crate::outlet_end::OutletEnd;
+use crate::outlet_ring::RingOutlet;
+use crate::queued::Counted;
+use rtrb::RingBuffer;
+use std::alloc::Global;
+use std::sync::Arc;
+
+/// How many bytes are written in one go at most, of more than one packet.
+const BATCH: usize = 65_536;
+
+/// Both ends of one ring, for this many packets at a time, and 64 KiB of room to write from. Who
+/// sleeps on `pump` with its flag up is woken when a packet is taken and no further one is known.
+/// `OutOfMemory` is told where an allocation was refused, and for no other cause.
+pub fn outlet(
+    alloc: Global,
+    capacity: usize,
+    pump: SharedBell,
+) -> Result<(RingOutlet, OutletEnd), OutOfMemory>
+    requires { 0 < capacity }
+    ensures outlet { IfOk result (λ r. (sent_of r.0 ≡ []) × (closed_of r.0 ≡ None) ×
+        (capacity_of r.0 ≡ capacity) × (free_of r.0 ≡ capacity) × (told_of r.0 ≡ false)) }
+    ensures end { IfOk result (λ r. items_of r.1 ≡ []) }
+{
+    let writer = shared_bell(alloc)?;
+    let theirs = Arc::try_clone(&writer)?;
+    let buffer = Vec::with_capacity(alloc, BATCH)?;
+    let (producer, consumer) = RingBuffer::with_protocol::<Global, Counted>(alloc, capacity)?;
+    let outlet = RingOutlet::new(producer, theirs);
+    Ok((outlet, OutletEnd::new(consumer, buffer, writer, pump)))
+}
