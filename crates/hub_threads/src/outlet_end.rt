@@ -57,7 +57,7 @@ impl Drop for OutletEnd {
 
 impl OutletEnd {
     ghost use Rattle.std.specs.Prelude.{ℕ, ◌≡◌, ◌+◌, ◌++◌, [], IfSome, IsTrue, Some};
-    ghost use Rattle.std.specs.Prelude.{cond, is_some};
+    ghost use Rattle.std.specs.Prelude.{cond, false, is_some};
     ghost use Rattle.std.specs.Option.{option_to_list};
     ghost use Rattle.irc_line.specs.Lines.{counted};
     ghost use Rattle.rtrb.specs.Ring.{received};
@@ -93,7 +93,7 @@ impl OutletEnd {
         ensures taken { packets_in (items_of self.new)
             ≡ packets_in (items_of self.old) ++ option_to_list result }
         ensures next { IfSome (next_of self.old) (λ packet. result ≡ Some packet) }
-        ensures misses { self.new.misses ≡ self.old.misses }
+        ensures writer { (self.new.misses ≡ self.old.misses) × (self.new.left ≡ self.old.left) }
     {
         if self.closed.is_some() {
             return None;
@@ -135,6 +135,7 @@ impl OutletEnd {
             ≡ packets_in (items_of self.old) ++ option_to_list result }
         ensures misses { self.new.misses
             ≡ cond (is_some result) 0 (counted (self.old.misses + 1)) }
+        ensures left { self.new.left ≡ self.old.left }
     {
         let packet = if self.writer.is_raised() {
             None
@@ -186,13 +187,14 @@ impl OutletEnd {
         }
     }
 
-    /// The room to write from, for a writer that has missed nothing yet.
+    /// The room to write from, for a writer that has looked for nothing yet.
     pub(crate) fn lend_buffer(&mut self) -> Vec<u8>
         ensures end { items_of self.new ≡ items_of self.old }
-        ensures misses { self.new.misses ≡ 0 }
+        ensures writer { (self.new.misses ≡ 0) × (self.new.left ≡ false) }
         ensures buffer { result.items ≡ [] }
     {
         self.misses = 0;
+        self.left = false;
         let none = Vec::new(*self.buffer.allocator());
         let mut buffer = mem::replace(&mut self.buffer, none);
         buffer.clear();
