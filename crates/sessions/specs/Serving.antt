@@ -5,6 +5,7 @@ use Rattle.irc_line.specs.Lines.{Pending}
 use Rattle.bnc_config.specs.Settings.{Settings}
 use Rattle.bnc_config.specs.declared.place.Place.{Place}
 use Rattle.hub_threads.specs.declared.ending.Ended.{Ended}
+use Rattle.hub_threads.specs.Rings.{items_of}
 use Rattle.sessions.specs.Admission.{IsLetIn}
 use Rattle.sessions.specs.Claims.{parts_of}
 use Rattle.sessions.specs.Leaving.{HasEnded, WasAttached, WasHeard}
@@ -37,7 +38,7 @@ module _ {W : Type 0} (contents : W → Option (List ℕ)) (settings : Settings)
     pub heard : WasHeard came.splitter came.lines came.left left why
     pub id : ℕ
     pub attached : WasAttached (parts_of came.claim) id
-    pub ended : HasEnded id e.token e.fresh e.end came.now (contents e.out) e.written
+    pub ended : HasEnded id e.token e.fresh (items_of e.end) came.now (contents e.out) e.written
 
   -- nobody has a session, or is refused one, but who came in
   abbrev pub IsServed : Served W → Type 0

@@ -1,6 +1,7 @@
 //! A client, from its first byte to the end of its session.
 
 ghost use Rattle.std.specs.Prelude.{ℕ, ◌≡◌, [], IfOk, map};
+ghost use Rattle.hub_threads.specs.Rings.{items_of};
 ghost use Rattle.sessions.specs.Claims.{parts_of};
 ghost use Rattle.sessions.specs.Leaving.{HasEnded, WasAttached, WasHeard};
 ghost use Rattle.sessions.specs.Serving.{IsServed};
@@ -69,7 +70,7 @@ fn join_in<V: NetworkView + Drop, R: Wait>(
     claim: &Claim,
     network: &Network<V>,
 ) -> Result<(SessionId, OutletEnd), ServeFault>
-    ensures end { IfOk result (λ x. x.1 ≡ []) }
+    ensures end { IfOk result (λ x. items_of x.1 ≡ []) }
     ensures attached { IfOk result (λ x. WasAttached (parts_of claim.now) x.0) }
 {
     let (outlet, end) = outlet(alloc, PACKETS, network.pump_bell()?)?;
@@ -121,7 +122,7 @@ pub fn serve<
     ensures heard { IfOk result (λ x. WasHeard unread.splitter unread.lines.items
         (I.remaining reader.old) (I.remaining reader.new) x.0) }
     ensures ended { IfOk result (λ x. (id : ℕ) × WasAttached (parts_of claim.now) id
-        × HasEnded id x.1.token x.1.fresh x.1.end
+        × HasEnded id x.1.token x.1.fresh (items_of x.1.end)
         (W.contents writer) (W.contents x.1.out) x.1.written) }
 {
     let mut writer = writer;
