@@ -45,7 +45,7 @@ pub fn limits(accepts: u64, dials: u64) -> Limits {
         silence: Duration::from_secs(10),
         silences: 2,
         turns: 100,
-        packets: 64,
+        packets: 256,
     }
 }
 
