@@ -199,9 +199,9 @@ impl<A: Allocator> Line<A> {
         Ok(Line { text, command_at })
     }
 
-    /// A line of the same parameters over another allocator, with this source, or none, this command
-    /// and no tags. That the source is no empty text and holds no space, NUL, CR or LF, and that the
-    /// command is one, is for the caller to see to. One allocation.
+    /// A line of the same parameters over another allocator, with this source, or none, this
+    /// command and no tags. That the source is no empty text and holds no space, NUL, CR or LF, and
+    /// that the command is one, is for the caller to see to. One allocation.
     pub fn copy_as_in<B: Allocator>(
         &self,
         alloc: B,

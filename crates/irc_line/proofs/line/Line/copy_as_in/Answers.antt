@@ -6,7 +6,8 @@ use Rattle.irc_line.proofs.line.Line.copy_as_in.Goals as goal
 
 pub invariant_of-result : goal.invariant_of-result
 invariant_of-result g c =
-    let line = untagged_line (option_map (λ s. s.now) c.args.source) c.args.command.now c.args.self.now.params in
+    let line = untagged_line
+    (option_map (λ s. s.now) c.args.source) c.args.command.now c.args.self.now.params in
     let can =
     renamed-writable c.args.self.now (option_map (λ s. s.now) c.args.source) c.args.command.now
     (value-writable c.self.inside.text.items c.args.self.now c.self.invariant.0 c.self.view_is)
@@ -16,7 +17,8 @@ invariant_of-result g c =
 
 pub returns : goal.returns
 returns g c =
-    let line = untagged_line (option_map (λ s. s.now) c.args.source) c.args.command.now c.args.self.now.params in
+    let line = untagged_line
+    (option_map (λ s. s.now) c.args.source) c.args.command.now c.args.self.now.params in
     let can =
     renamed-writable c.args.self.now (option_map (λ s. s.now) c.args.source) c.args.command.now
     (value-writable c.self.inside.text.items c.args.self.now c.self.invariant.0 c.self.view_is)
