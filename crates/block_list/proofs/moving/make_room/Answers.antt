@@ -14,7 +14,8 @@ loop-hole-preserved g c =
     let s = c.loop-hole.invariant.short in
     let inside = s.inside in
     let test = c.loop-hole-test.true in
-    let at = c.index_mut-in-Some.ensures.value ∙ get_or-set_other bs (h - 1) h n k (λ e. omega (arith, e, test)) in
+    let at = c.index_mut-in-Some.ensures.value
+    ∙ get_or-set_other bs (h - 1) h n k (λ e. omega (arith, e, test)) in
     let whole = length-set bs (h - 1) n in
     record {
       items = passed bs (h - 1) h b k n m c.in-Some.item (omega (arith, test)) inside

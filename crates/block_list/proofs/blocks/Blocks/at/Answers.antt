@@ -1,11 +1,13 @@
 use Rattle.std.proofs.Common.{arith, sym, ap, ◌∙◌, ◌/◌, ◌%◌, get_or}
-use Rattle.block_list.proofs.Tiles.{tiled_within, tiled_full, place_at, place_block, place_offset, item_in}
+use Rattle.block_list.proofs.Tiles.{tiled_within, tiled_full, place_at, place_block, place_offset}
+use Rattle.block_list.proofs.Tiles.{item_in}
 use Rattle.block_list.proofs.blocks.Blocks.at.Goals as goal
 
 pub index-requires : goal.index-requires
 index-requires g c =
     let bs = c.self.inside.blocks.items in
-    let p = tiled_within bs c.self.inside.len c.args.place _ c.self.invariant c.self.view_is c.requires in
+    let p = tiled_within bs c.self.inside.len c.args.place _ c.self.invariant c.self.view_is
+    c.requires in
     let inside = place_block bs c.self.inside.len c.args.place c.self.invariant p in
     let ok = c.self.inside.blocks.ok.0 in
     omega (arith, inside, ok)
@@ -13,8 +15,10 @@ index-requires g c =
 pub index-requires-2 : goal.index-requires-2
 index-requires-2 g c =
     let bs = c.self.inside.blocks.items in
-    let p = tiled_within bs c.self.inside.len c.args.place _ c.self.invariant c.self.view_is c.requires in
-    place_offset bs c.self.inside.len c.args.place c.index.result.now c.self.invariant p c.index.ensures
+    let p = tiled_within bs c.self.inside.len c.args.place _ c.self.invariant c.self.view_is
+    c.requires in
+    place_offset bs c.self.inside.len c.args.place c.index.result.now c.self.invariant p
+    c.index.ensures
 
 pub returns : goal.returns
 returns g c =

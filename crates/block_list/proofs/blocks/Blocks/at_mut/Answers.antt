@@ -1,12 +1,15 @@
-use Rattle.std.proofs.Common.{arith, refl, sym, ap, ◌∙◌, ◌*◌, ◌-◌, ◌/◌, ◌%◌, get_or, set, length-set}
+use Rattle.std.proofs.Common.{arith, refl, sym, ap, ◌∙◌, ◌*◌, ◌-◌, ◌/◌, ◌%◌, get_or, set}
+use Rattle.std.proofs.Common.{length-set}
 use Rattle.std.specs.VecDeque.{deque_with_item}
-use Rattle.block_list.proofs.Tiles.{tiled_within, tiled_full, place_at, place_block, place_offset, item_in, written_in}
+use Rattle.block_list.proofs.Tiles.{tiled_within, tiled_full, place_at, place_block, place_offset}
+use Rattle.block_list.proofs.Tiles.{item_in, written_in}
 use Rattle.block_list.proofs.blocks.Blocks.at_mut.Goals as goal
 
 pub index_mut-block-requires : goal.index_mut-block-requires
 index_mut-block-requires g c =
     let bs = c.self.inside.blocks.items in
-    let p = tiled_within bs c.self.inside.len c.args.place _ c.self.invariant c.self.view_is c.requires in
+    let p = tiled_within bs c.self.inside.len c.args.place _ c.self.invariant c.self.view_is
+    c.requires in
     let inside = place_block bs c.self.inside.len c.args.place c.self.invariant p in
     let ok = c.self.inside.blocks.ok.0 in
     omega (arith, inside, ok)
@@ -14,7 +17,8 @@ index_mut-block-requires g c =
 pub index_mut-requires : goal.index_mut-requires
 index_mut-requires g c =
     let bs = c.self.inside.blocks.items in
-    let p = tiled_within bs c.self.inside.len c.args.place _ c.self.invariant c.self.view_is c.requires in
+    let p = tiled_within bs c.self.inside.len c.args.place _ c.self.invariant c.self.view_is
+    c.requires in
     place_offset bs c.self.inside.len c.args.place c.index_mut-block.result.now c.self.invariant p
     c.index_mut-block.ensures.value
 
@@ -37,7 +41,8 @@ returns g c =
           items = (written_in bs place (place / 128) (place % 128) at b inside is full
               (deque_with_item b (place % 128) w) w (omega (arith, offset, ok)) refl
               ∙ ap (λ s. set s.items place w) c.self.view_is) i;
-          spare = (ap (λ n. n * 128 - len) (length-set bs (place / 128) (deque_with_item b (place % 128) w))
+          spare = (ap (λ n. n * 128 - len)
+              (length-set bs (place / 128) (deque_with_item b (place % 128) w))
               ∙ ap (λ s. s.spare) c.self.view_is) i;
         },
       ),

@@ -1,4 +1,5 @@
-use Rattle.std.proofs.Common.{arith, refl, sym, ap, subst, ◌∙◌, ◌≡◌, ◌+◌, ◌*◌, ◌/◌, ◌-◌, length, true, false}
+use Rattle.std.proofs.Common.{arith, refl, sym, ap, subst, ◌∙◌, ◌≡◌, ◌+◌, ◌*◌, ◌/◌, ◌-◌, length}
+use Rattle.std.proofs.Common.{true, false}
 use Rattle.std.specs.declared.cmp.Ordering.TheVariants.{Less, Equal, Greater}
 use Rattle.std.specs.Ordering.{is_gt}
 use Rattle.std.specs.List.{HoldsAt}
@@ -11,15 +12,20 @@ pub returns-then-self-eq0-clause-position : goal.returns-then-self-eq0-clause-po
 returns-then-self-eq0-clause-position g c =
     let xs = c.args.self.now.items in
     let e = ap (λ s. s.items) c.self.view_is in
-    let all = ap length (sym e) ∙ tiled_long c.self.inside.blocks.items c.self.inside.len c.self.invariant in
+    let all = ap length (sym e)
+    ∙ tiled_long c.self.inside.blocks.items c.self.inside.len c.self.invariant in
     let none = c.if-self-eq0.true in
-    λ ord h up. (λ k d a b. absurd (omega (arith, b)), λ k d a b. absurd (omega (arith, b, all, none)))
+    λ ord h up. (
+      λ k d a b. absurd (omega (arith, b)),
+      λ k d a b. absurd (omega (arith, b, all, none)),
+    )
 
 pub loop-count-init : goal.loop-count-init
 loop-count-init g c =
     let xs = c.args.self.now.items in
     let e = ap (λ s. s.items) c.self.view_is in
-    let all = ap length (sym e) ∙ tiled_long c.self.inside.blocks.items c.self.inside.len c.self.invariant in
+    let all = ap length (sym e)
+    ∙ tiled_long c.self.inside.blocks.items c.self.inside.len c.self.invariant in
     let some = c.if-self-eq0.false in
     record {
       some = omega arith;
@@ -31,13 +37,15 @@ pub loop-count-preserved-then-is_gt : goal.loop-count-preserved-then-is_gt
 loop-count-preserved-then-is_gt g c =
     let xs = c.args.self.now.items in
     let e = ap (λ s. s.items) c.self.view_is in
-    let all = ap length (sym e) ∙ tiled_long c.self.inside.blocks.items c.self.inside.len c.self.invariant in
+    let all = ap length (sym e)
+    ∙ tiled_long c.self.inside.blocks.items c.self.inside.len c.self.invariant in
     let i = c.loop-count.first in
     let n = c.loop-count.count in
     let within = c.loop-count.invariant.within in
     let some = c.if-self-eq0.false in
     let more = c.loop-count-test.true in
-    let there = holds_at c.self.inside.blocks.items c.self.inside.len xs c.self.invariant e (i + n / 2)
+    let there = holds_at c.self.inside.blocks.items c.self.inside.len xs c.self.invariant e
+    (i + n / 2)
     c.index.result.now c.index.ensures 0 (omega (arith, within, some, more, all)) (omega arith)
     c.index-in-loop-count.result.now c.index-in-loop-count.ensures in
     record {
@@ -46,7 +54,8 @@ loop-count-preserved-then-is_gt g c =
       narrowed = λ ord h.
           let p = there (λ y. is_gt (ord y) ≡ true)
           (ap is_gt (sym (h _ _ (says_at g.F.Fn c.order.ensures refl))) ∙ sym c.if-is_gt.ensures) in
-          lower ord xs (i * 128) ((i + n) * 128) ((i + n / 2) * 128) (c.loop-count.invariant.narrowed ord h)
+          lower ord xs (i * 128) ((i + n) * 128) ((i + n / 2) * 128)
+          (c.loop-count.invariant.narrowed ord h)
           (subst (λ k. HoldsAt (λ y. is_gt (ord y) ≡ true) xs k) (omega arith) p);
     }
 
@@ -54,13 +63,15 @@ pub loop-count-preserved : goal.loop-count-preserved
 loop-count-preserved g c =
     let xs = c.args.self.now.items in
     let e = ap (λ s. s.items) c.self.view_is in
-    let all = ap length (sym e) ∙ tiled_long c.self.inside.blocks.items c.self.inside.len c.self.invariant in
+    let all = ap length (sym e)
+    ∙ tiled_long c.self.inside.blocks.items c.self.inside.len c.self.invariant in
     let i = c.loop-count.first in
     let n = c.loop-count.count in
     let within = c.loop-count.invariant.within in
     let some = c.if-self-eq0.false in
     let more = c.loop-count-test.true in
-    let there = holds_at c.self.inside.blocks.items c.self.inside.len xs c.self.invariant e (i + n / 2)
+    let there = holds_at c.self.inside.blocks.items c.self.inside.len xs c.self.invariant e
+    (i + n / 2)
     c.index.result.now c.index.ensures 0 (omega (arith, within, some, more, all)) (omega arith)
     c.index-in-loop-count.result.now c.index-in-loop-count.ensures in
     record {
@@ -69,7 +80,8 @@ loop-count-preserved g c =
       narrowed = λ ord h.
           let p = there (λ y. is_gt (ord y) ≡ false)
           (ap is_gt (sym (h _ _ (says_at g.F.Fn c.order.ensures refl))) ∙ sym c.if-is_gt.ensures) in
-          upper ord xs (i * 128) ((i + n) * 128) ((i + n / 2) * 128) ((i + n / 2 + (n - n / 2)) * 128)
+          upper ord xs (i * 128) ((i + n) * 128) ((i + n / 2) * 128)
+          ((i + n / 2 + (n - n / 2)) * 128)
           (λ k a b. omega (arith, a, more)) (c.loop-count.invariant.narrowed ord h)
           (subst (λ k. HoldsAt (λ y. is_gt (ord y) ≡ false) xs k) (omega arith) p);
     }
@@ -78,7 +90,8 @@ pub loop-size-init : goal.loop-size-init
 loop-size-init g c =
     let xs = c.args.self.now.items in
     let e = ap (λ s. s.items) c.self.view_is in
-    let all = ap length (sym e) ∙ tiled_long c.self.inside.blocks.items c.self.inside.len c.self.invariant in
+    let all = ap length (sym e)
+    ∙ tiled_long c.self.inside.blocks.items c.self.inside.len c.self.invariant in
     let i = c.loop-count.first in
     let n = c.loop-count.count in
     let within = c.loop-count.invariant.within in
@@ -98,14 +111,16 @@ loop-size-init g c =
       block = omega (arith, long, size, ok);
       small = omega (arith, all, w, few);
       narrowed = λ ord h. moved ord xs (i * 128) ((i + n) * 128) _ _ (omega arith)
-          (λ k a z. omega (arith, a, z, one, left, long, size, ok)) (c.loop-count.invariant.narrowed ord h);
+          (λ k a z. omega (arith, a, z, one, left, long, size, ok))
+          (c.loop-count.invariant.narrowed ord h);
     }
 
 pub loop-size-preserved-then-is_gt-2 : goal.loop-size-preserved-then-is_gt-2
 loop-size-preserved-then-is_gt-2 g c =
     let xs = c.args.self.now.items in
     let e = ap (λ s. s.items) c.self.view_is in
-    let all = ap length (sym e) ∙ tiled_long c.self.inside.blocks.items c.self.inside.len c.self.invariant in
+    let all = ap length (sym e)
+    ∙ tiled_long c.self.inside.blocks.items c.self.inside.len c.self.invariant in
     let i = c.loop-count.first in
     let o = c.loop-size.base in
     let s = c.loop-size.size in
@@ -126,7 +141,8 @@ loop-size-preserved-then-is_gt-2 g c =
           let p = there (λ y. is_gt (ord y) ≡ true)
           (ap is_gt (sym (h _ _ (says_at g.F.Fn c.order-in-loop-size.ensures refl)))
           ∙ sym c.if-is_gt-2.ensures) in
-          lower ord xs (i * 128 + o) (i * 128 + o + s) (i * 128 + o + s / 2) (c.loop-size.invariant.narrowed ord h)
+          lower ord xs (i * 128 + o) (i * 128 + o + s) (i * 128 + o + s / 2)
+          (c.loop-size.invariant.narrowed ord h)
           (subst (λ k. HoldsAt (λ y. is_gt (ord y) ≡ true) xs k) (omega arith) p);
     }
 
@@ -134,7 +150,8 @@ pub loop-size-preserved : goal.loop-size-preserved
 loop-size-preserved g c =
     let xs = c.args.self.now.items in
     let e = ap (λ s. s.items) c.self.view_is in
-    let all = ap length (sym e) ∙ tiled_long c.self.inside.blocks.items c.self.inside.len c.self.invariant in
+    let all = ap length (sym e)
+    ∙ tiled_long c.self.inside.blocks.items c.self.inside.len c.self.invariant in
     let i = c.loop-count.first in
     let o = c.loop-size.base in
     let s = c.loop-size.size in
@@ -155,7 +172,8 @@ loop-size-preserved g c =
           let p = there (λ y. is_gt (ord y) ≡ false)
           (ap is_gt (sym (h _ _ (says_at g.F.Fn c.order-in-loop-size.ensures refl)))
           ∙ sym c.if-is_gt-2.ensures) in
-          upper ord xs (i * 128 + o) (i * 128 + o + s) (i * 128 + (o + s / 2)) (i * 128 + (o + s / 2) + (s - s / 2))
+          upper ord xs (i * 128 + o) (i * 128 + o + s) (i * 128 + (o + s / 2))
+          (i * 128 + (o + s / 2) + (s - s / 2))
           (λ k a b. omega (arith, a, more)) (c.loop-size.invariant.narrowed ord h) p;
     }
 
@@ -192,7 +210,8 @@ returns-in-Less-clause-position g c =
     (omega (arith, block, some)) c.index-2.result.now c.index-2.ensures in
     λ ord h. let p = there (λ y. ord y ≡ Less)
     (sym (h _ _ (says_at g.F.Fn c.order-2.ensures refl)) ∙ c.in-Less.is) in λ up.
-    after_Less ord xs (i * 128 + o) (i * 128 + o + s) (omega (arith, one)) (omega (arith, reached, some))
+    after_Less ord xs (i * 128 + o) (i * 128 + o + s) (omega (arith, one))
+    (omega (arith, reached, some))
     (c.loop-size.invariant.narrowed ord h) p up
 
 pub returns-clause-position : goal.returns-clause-position

@@ -1,7 +1,8 @@
 use Rattle.std.proofs.Common.{arith, ap, ◌∙◌, ◌+◌, ◌/◌, ◌%◌, length-set, length}
 use Rattle.std.specs.List.{insert}
 use Rattle.block_list.proofs.Results.{done}
-use Rattle.block_list.proofs.Tiles.{tiled_long, short_full, place_at, gap_offset, gap_room, inserted_in}
+use Rattle.block_list.proofs.Tiles.{tiled_long, short_full, place_at, gap_offset, gap_room}
+use Rattle.block_list.proofs.Tiles.{inserted_in}
 use Rattle.block_list.proofs.blocks.Blocks.insert.Goals as goal
 
 pub make_room-requires-clause-first : goal.make_room-requires-clause-first
@@ -32,12 +33,15 @@ returns-clause-items g c =
     let within = c.requires.place in
     let at = place_at place in
     let ok = b.ok.0 in
-    let offset = gap_offset bs c.self.inside.len place b short (omega (arith, all, whole, within)) is in
+    let offset =
+    gap_offset bs c.self.inside.len place b short (omega (arith, all, whole, within)) is in
     inserted_in bs place (place / 128) (place % 128) at b short.inside is
-    (short_full bs (c.self.inside.len + 1) (place / 128) short (omega (arith, at, all, whole, within)))
+    (short_full bs (c.self.inside.len + 1) (place / 128) short
+    (omega (arith, at, all, whole, within)))
     c.insert.new.self c.args.item (omega (arith, offset, ok))
     (done c.insert.result c.insert.ensures.items c.insert.ensures.full
-    (λ full. let room = gap_room bs (c.self.inside.len + 1) (place / 128) b short is in omega (arith, room, full)))
+    (λ full. let room = gap_room bs (c.self.inside.len + 1) (place / 128) b short is in
+    omega (arith, room, full)))
     ∙ ap (λ l. insert l place c.args.item) c.make_room.ensures.items
     ∙ ap (λ s. insert s.items place c.args.item) c.self.view_is
 

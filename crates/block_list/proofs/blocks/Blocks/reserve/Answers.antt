@@ -20,7 +20,8 @@ loop-self-smaller g c =
     let within = c.loop-self.invariant.tiled.within in
     let same = c.loop-self.invariant.same in
     let test = c.loop-self-test.true in
-    let pushed = ap (λ l. length l) c.in_ok-push.ensures.items ∙ length_push bs c.in_ok-block.block in
+    let pushed =
+    ap (λ l. length l) c.in_ok-push.ensures.items ∙ length_push bs c.in_ok-block.block in
     omega (arith, long, ok, within, same, test, pushed)
 
 pub loop-self-preserved : goal.loop-self-preserved
