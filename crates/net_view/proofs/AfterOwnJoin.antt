@@ -134,7 +134,8 @@ module _ (v : View) (sets : HasSets v) (known : IsKnowing v) (channel who : Name
             → Some (told_person (cond b (Some (Some who.spelled)) None) (cond b account None) None
             (fin.get v.people n)) ≡ cond b (Some own_joiner) (fin.get v.people n)) [
               | true ↦ λ e. ap
-                  (λ m. Some (told_person (Some (Some who.spelled)) account None (fin.get v.people m)))
+                  (λ m. Some (told_person (Some (Some who.spelled)) account None
+                  (fin.get v.people m)))
                   (is_same n who.key e)
               | false ↦ λ e. person_stays true (fin.get v.people n) (known n ∙ was_seen n e s)
             ] refl

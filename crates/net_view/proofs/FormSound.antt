@@ -206,7 +206,8 @@ letters_unsigned items c ch at letter param on =
           → fin.get ch.modes letter ≡ mode_of (readings_of (reverse items)) c letter
       in_channel None e = cc
       in_channel (Some name) e =
-          ap (λ (o : Option Channel). unwrap_or (option_map (λ (x : Channel). fin.get x.modes letter) o)
+          ap (λ (o : Option Channel).
+          unwrap_or (option_map (λ (x : Channel). fin.get x.modes letter) o)
           None) (sym e) ∙ modes_get (readings_of (reverse items)) c letter
 
 -- ---- tokens in force

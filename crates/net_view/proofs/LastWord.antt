@@ -269,7 +269,8 @@ module _ (says : Says) where
                           said = r.said;
                           silent = known_silent_later x r.newer (r.at ∷ r.older) n k
                               (subst (λ zs. speaks zs x n ≡ None) r.items_are e) b r.silent;
-                          seen = seen_later x r.newer (r.at ∷ r.older) n k (subst (λ zs. in_sight (x ∷ zs) n
+                          seen = seen_later x r.newer (r.at ∷ r.older) n k
+                              (subst (λ zs. in_sight (x ∷ zs) n
                               ≡ true) r.items_are i) b r.seen;
                         }
                   ] refl h

@@ -1,5 +1,5 @@
--- Who is a member and which ranks are held, which channels we are on, our own nick and the settings: looked
--- back through by computation.
+-- Who is a member and which ranks are held, which channels we are on, our own nick and the
+-- settings: looked back through by computation.
 use Rattle.std.specs.Prelude.{◌≡◌, true, false, List, [], ◌∷◌, ◌++◌, map}
 use Rattle.std.proofs.Common.{Some, None, refl, codes}
 use Rattle.irc_support.specs.Text.{Text, is_word}
@@ -27,12 +27,16 @@ ranks_go_along = read (joined ++
     ∷ codes ":s MODE #c -o rob"
     ∷ [])
 
-bob_is_rob : members ranks_go_along (codes "#c") (codes "bob" ∷ codes "me" ∷ codes "rob" ∷ []) ≡ codes "me" ∷ codes "rob" ∷ []
-unfolding told state_lines ranks_that rank_count words ranking_of spelled_by mapping_of is_channel is_word set_tokens changes kind_of
+bob_is_rob : members ranks_go_along (codes "#c") (codes "bob" ∷ codes "me" ∷ codes "rob" ∷ [])
+    ≡ codes "me" ∷ codes "rob" ∷ []
+unfolding told state_lines ranks_that rank_count words ranking_of spelled_by mapping_of is_channel
+    is_word set_tokens changes kind_of
 bob_is_rob = refl
 
-one_rank_left : member ranks_go_along (codes "#c") (codes "rob") ≡ Some (1 ∷ [], (Some (codes "rob")), None, None)
-unfolding told state_lines ranks_that rank_count words ranking_of spelled_by mapping_of is_channel is_word set_tokens changes kind_of
+one_rank_left : member ranks_go_along (codes "#c") (codes "rob")
+    ≡ Some (1 ∷ [], (Some (codes "rob")), None, None)
+unfolding told state_lines ranks_that rank_count words ranking_of spelled_by mapping_of is_channel
+    is_word set_tokens changes kind_of
 one_rank_left = refl
 
 -- two NICKs in a row, and a KICK under the last name; ours changes too
@@ -43,16 +47,24 @@ two_nicks = read (with_bob ++
     ∷ codes ":Me!m@h NICK Moi"
     ∷ [])
 
-bob_twice_renamed : members two_nicks (codes "#c") (codes "bob" ∷ codes "rob" ∷ codes "bob2" ∷ codes "me" ∷ codes "moi" ∷ []) ≡ codes "bob2" ∷ codes "moi" ∷ []
-unfolding told state_lines ranks_that rank_count words ranking_of spelled_by mapping_of is_channel is_word set_tokens changes kind_of
+bob_twice_renamed : members two_nicks (codes "#c")
+    (codes "bob" ∷ codes "rob" ∷ codes "bob2" ∷ codes "me" ∷ codes "moi" ∷ [])
+    ≡ codes "bob2" ∷ codes "moi" ∷ []
+unfolding told state_lines ranks_that rank_count words ranking_of spelled_by mapping_of is_channel
+    is_word set_tokens changes kind_of
 bob_twice_renamed = refl
 
-traced_to_bob : name_traced (read_after with_bob (codes ":bob!b@h NICK rob" ∷ codes ":rob!b@h NICK Bob2" ∷ [])) (codes "bob2") ≡ Some (codes "bob")
-unfolding told state_lines ranks_that rank_count words ranking_of spelled_by mapping_of is_channel is_word set_tokens changes kind_of
+traced_to_bob : name_traced
+    (read_after with_bob (codes ":bob!b@h NICK rob" ∷ codes ":rob!b@h NICK Bob2" ∷ []))
+    (codes "bob2") ≡ Some (codes "bob")
+unfolding told state_lines ranks_that rank_count words ranking_of spelled_by mapping_of is_channel
+    is_word set_tokens changes kind_of
 traced_to_bob = refl
 
-own_nick_renamed : (standing (heard (with_bob ++ codes ":Me!m@h NICK Moi" ∷ []))).own ≡ Some (codes "Moi")
-unfolding told state_lines ranks_that rank_count words ranking_of spelled_by mapping_of is_channel is_word set_tokens changes kind_of
+own_nick_renamed : (standing (heard (with_bob ++ codes ":Me!m@h NICK Moi" ∷ []))).own
+    ≡ Some (codes "Moi")
+unfolding told state_lines ranks_that rank_count words ranking_of spelled_by mapping_of is_channel
+    is_word set_tokens changes kind_of
 own_nick_renamed = refl
 
 -- a KICK names the nick in any case
@@ -63,8 +75,10 @@ kicked = read (with_bob ++
     ∷ codes ":s KICK #c bOB2 :out"
     ∷ [])
 
-bob_kicked : members kicked (codes "#c") (codes "bob" ∷ codes "rob" ∷ codes "bob2" ∷ codes "me" ∷ []) ≡ codes "me" ∷ []
-unfolding told state_lines ranks_that rank_count words ranking_of spelled_by mapping_of is_channel is_word set_tokens changes kind_of
+bob_kicked : members kicked (codes "#c")
+    (codes "bob" ∷ codes "rob" ∷ codes "bob2" ∷ codes "me" ∷ []) ≡ codes "me" ∷ []
+unfolding told state_lines ranks_that rank_count words ranking_of spelled_by mapping_of is_channel
+    is_word set_tokens changes kind_of
 bob_kicked = refl
 
 -- another's NICK onto our own nick tells nothing, nor does an actor that is not nameable
@@ -74,8 +88,10 @@ nick_onto_ours = read (with_bob ++
     ∷ codes ":@x!u@h JOIN #c"
     ∷ [])
 
-both_stay : members nick_onto_ours (codes "#c") (codes "bob" ∷ codes "me" ∷ codes "@x" ∷ []) ≡ codes "bob" ∷ codes "me" ∷ []
-unfolding told state_lines ranks_that rank_count words ranking_of spelled_by mapping_of is_channel is_word set_tokens changes kind_of
+both_stay : members nick_onto_ours (codes "#c") (codes "bob" ∷ codes "me" ∷ codes "@x" ∷ [])
+    ≡ codes "bob" ∷ codes "me" ∷ []
+unfolding told state_lines ranks_that rank_count words ranking_of spelled_by mapping_of is_channel
+    is_word set_tokens changes kind_of
 both_stay = refl
 
 -- a NICK onto another's nick: who was called so before is gone
@@ -86,8 +102,10 @@ nick_onto_another = read (with_bob ++
     ∷ codes ":bob!b@h NICK eve"
     ∷ [])
 
-eve_is_bob : member nick_onto_another (codes "#c") (codes "eve") ≡ Some ([], (Some (codes "eve")), None, None)
-unfolding told state_lines ranks_that rank_count words ranking_of spelled_by mapping_of is_channel is_word set_tokens changes kind_of
+eve_is_bob : member nick_onto_another (codes "#c") (codes "eve")
+    ≡ Some ([], (Some (codes "eve")), None, None)
+unfolding told state_lines ranks_that rank_count words ranking_of spelled_by mapping_of is_channel
+    is_word set_tokens changes kind_of
 eve_is_bob = refl
 
 -- when we join anew the members start with us alone, without ranks
@@ -98,11 +116,14 @@ joined_anew = read (with_bob ++
     ∷ [])
 
 alone : members joined_anew (codes "#c") (codes "bob" ∷ codes "me" ∷ []) ≡ codes "me" ∷ []
-unfolding told state_lines ranks_that rank_count words ranking_of spelled_by mapping_of is_channel is_word set_tokens changes kind_of
+unfolding told state_lines ranks_that rank_count words ranking_of spelled_by mapping_of is_channel
+    is_word set_tokens changes kind_of
 alone = refl
 
-rank_lost : member joined_anew (codes "#c") (codes "me") ≡ Some ([], (Some (codes "Me")), None, None)
-unfolding told state_lines ranks_that rank_count words ranking_of spelled_by mapping_of is_channel is_word set_tokens changes kind_of
+rank_lost : member joined_anew (codes "#c") (codes "me")
+    ≡ Some ([], (Some (codes "Me")), None, None)
+unfolding told state_lines ranks_that rank_count words ranking_of spelled_by mapping_of is_channel
+    is_word set_tokens changes kind_of
 rank_lost = refl
 
 -- a name list after a PART counts; one of a channel that we left does not
@@ -112,8 +133,10 @@ listed_after_part = read (with_bob ++
     ∷ codes ":s 353 Me = #c :+bob @Me"
     ∷ [])
 
-bob_listed : member listed_after_part (codes "#c") (codes "bob") ≡ Some (1 ∷ [], (Some (codes "bob")), None, None)
-unfolding told state_lines ranks_that rank_count words ranking_of spelled_by mapping_of is_channel is_word set_tokens changes kind_of
+bob_listed : member listed_after_part (codes "#c") (codes "bob")
+    ≡ Some (1 ∷ [], (Some (codes "bob")), None, None)
+unfolding told state_lines ranks_that rank_count words ranking_of spelled_by mapping_of is_channel
+    is_word set_tokens changes kind_of
 bob_listed = refl
 
 -- a name list of a channel that we left tells nothing
@@ -124,7 +147,8 @@ left = read (with_bob ++
     ∷ [])
 
 nobody : members left (codes "#c") (codes "bob" ∷ codes "me" ∷ []) ≡ []
-unfolding told state_lines ranks_that rank_count words ranking_of spelled_by mapping_of is_channel is_word set_tokens changes kind_of
+unfolding told state_lines ranks_that rank_count words ranking_of spelled_by mapping_of is_channel
+    is_word set_tokens changes kind_of
 nobody = refl
 
 -- the last word of a name list on a person decides each rank
@@ -134,8 +158,10 @@ several_ranks = read (joined ++
     ∷ codes ":bob!b@h JOIN #c"
     ∷ [])
 
-joined_without_ranks : member several_ranks (codes "#c") (codes "bob") ≡ Some ([], (Some (codes "bob")), None, None)
-unfolding told state_lines ranks_that rank_count words ranking_of spelled_by mapping_of is_channel is_word set_tokens changes kind_of
+joined_without_ranks : member several_ranks (codes "#c") (codes "bob")
+    ≡ Some ([], (Some (codes "bob")), None, None)
+unfolding told state_lines ranks_that rank_count words ranking_of spelled_by mapping_of is_channel
+    is_word set_tokens changes kind_of
 joined_without_ranks = refl
 
 -- a limit takes its parameter when it is set, and none when it is unset
@@ -145,12 +171,15 @@ modes_and_ranks = read (with_bob ++
     ∷ codes ":s MODE #c -l+v bob"
     ∷ [])
 
-both_ranks : member modes_and_ranks (codes "#c") (codes "bob") ≡ Some (0 ∷ 1 ∷ [], (Some (codes "bob")), None, None)
-unfolding told state_lines ranks_that rank_count words ranking_of spelled_by mapping_of is_channel is_word set_tokens changes kind_of
+both_ranks : member modes_and_ranks (codes "#c") (codes "bob")
+    ≡ Some (0 ∷ 1 ∷ [], (Some (codes "bob")), None, None)
+unfolding told state_lines ranks_that rank_count words ranking_of spelled_by mapping_of is_channel
+    is_word set_tokens changes kind_of
 both_ranks = refl
 
 no_limit : map (mode_of modes_and_ranks (codes "#c")) (codes "l") ≡ None ∷ []
-unfolding told state_lines ranks_that rank_count words ranking_of spelled_by mapping_of is_channel is_word set_tokens changes kind_of
+unfolding told state_lines ranks_that rank_count words ranking_of spelled_by mapping_of is_channel
+    is_word set_tokens changes kind_of
 no_limit = refl
 
 -- names are compared by their keys
@@ -161,58 +190,79 @@ key_of_a_name = read (joined ++
     ∷ [])
 
 one_name : members key_of_a_name (codes "#c") (codes "a{b" ∷ codes "me" ∷ []) ≡ codes "me" ∷ []
-unfolding told state_lines ranks_that rank_count words ranking_of spelled_by mapping_of is_channel is_word set_tokens changes kind_of
+unfolding told state_lines ranks_that rank_count words ranking_of spelled_by mapping_of is_channel
+    is_word set_tokens changes kind_of
 one_name = refl
 
 -- ---- the channels that we are on
 
-name_as_joined : name_on (read (welcome ++ codes ":Me!m@h JOIN #C" ∷ codes ":bob!b@h JOIN #c" ∷ [])) (codes "#c") ≡ Some (codes "#C")
-unfolding told state_lines ranks_that rank_count words ranking_of spelled_by mapping_of is_channel is_word set_tokens changes kind_of
+name_as_joined : name_on (read (welcome ++ codes ":Me!m@h JOIN #C" ∷ codes ":bob!b@h JOIN #c" ∷ []))
+    (codes "#c") ≡ Some (codes "#C")
+unfolding told state_lines ranks_that rank_count words ranking_of spelled_by mapping_of is_channel
+    is_word set_tokens changes kind_of
 name_as_joined = refl
 
 no_channel_name : name_on (read (welcome ++ codes ":Me!m@h JOIN &c" ∷ [])) (codes "&c") ≡ None
-unfolding told state_lines ranks_that rank_count words ranking_of spelled_by mapping_of is_channel is_word set_tokens changes kind_of
+unfolding told state_lines ranks_that rank_count words ranking_of spelled_by mapping_of is_channel
+    is_word set_tokens changes kind_of
 no_channel_name = refl
 
 off_after_our_quit : name_on (read (joined ++ codes ":Me!m@h QUIT :bye" ∷ [])) (codes "#c") ≡ None
-unfolding told state_lines ranks_that rank_count words ranking_of spelled_by mapping_of is_channel is_word set_tokens changes kind_of
+unfolding told state_lines ranks_that rank_count words ranking_of spelled_by mapping_of is_channel
+    is_word set_tokens changes kind_of
 off_after_our_quit = refl
 
 off_after_a_kick : name_on (read (joined ++ codes ":s KICK #c me :out" ∷ [])) (codes "#c") ≡ None
-unfolding told state_lines ranks_that rank_count words ranking_of spelled_by mapping_of is_channel is_word set_tokens changes kind_of
+unfolding told state_lines ranks_that rank_count words ranking_of spelled_by mapping_of is_channel
+    is_word set_tokens changes kind_of
 off_after_a_kick = refl
 
 off_after_a_loss : name_on (readings_of (Lost ∷ heard joined)) (codes "#c") ≡ None
-unfolding told state_lines ranks_that rank_count words ranking_of spelled_by mapping_of is_channel is_word set_tokens changes kind_of
+unfolding told state_lines ranks_that rank_count words ranking_of spelled_by mapping_of is_channel
+    is_word set_tokens changes kind_of
 off_after_a_loss = refl
 
 off_after_a_welcome : name_on (read (joined ++ codes ":t 001 You :hi" ∷ [])) (codes "#c") ≡ None
-unfolding told state_lines ranks_that rank_count words ranking_of spelled_by mapping_of is_channel is_word set_tokens changes kind_of
+unfolding told state_lines ranks_that rank_count words ranking_of spelled_by mapping_of is_channel
+    is_word set_tokens changes kind_of
 off_after_a_welcome = refl
 
 -- ---- own nick, ready, settings
 
 a_loss_keeps_us : standing (Lost ∷ heard joined) ≡ standing (heard joined)
-unfolding told state_lines ranks_that rank_count words ranking_of spelled_by mapping_of is_channel is_word set_tokens changes kind_of
+unfolding told state_lines ranks_that rank_count words ranking_of spelled_by mapping_of is_channel
+    is_word set_tokens changes kind_of
 a_loss_keeps_us = refl
 
-a_welcome_begins_anew : standing (heard (joined ++ codes ":t 001 You :hi" ∷ [])) ≡ record { own = Some (codes "You"); ready = false; settings = [] }
-unfolding told state_lines ranks_that rank_count words ranking_of spelled_by mapping_of is_channel is_word set_tokens changes kind_of
+a_welcome_begins_anew : standing (heard (joined ++ codes ":t 001 You :hi" ∷ []))
+    ≡ record { own = Some (codes "You"); ready = false; settings = [] }
+unfolding told state_lines ranks_that rank_count words ranking_of spelled_by mapping_of is_channel
+    is_word set_tokens changes kind_of
 a_welcome_begins_anew = refl
 
-no_welcome : standing (heard (codes ":s 001 @x :hi" ∷ codes ":s 376 Me :end" ∷ codes ":s 005 Me A=1 :are supported" ∷ [])) ≡ record { own = None; ready = false; settings = [] }
-unfolding told state_lines ranks_that rank_count words ranking_of spelled_by mapping_of is_channel is_word set_tokens changes kind_of
+no_welcome : standing (heard (codes ":s 001 @x :hi" ∷ codes ":s 376 Me :end"
+    ∷ codes ":s 005 Me A=1 :are supported" ∷ []))
+    ≡ record { own = None; ready = false; settings = [] }
+unfolding told state_lines ranks_that rank_count words ranking_of spelled_by mapping_of is_channel
+    is_word set_tokens changes kind_of
 no_welcome = refl
 
-settings_follow_no_late_isupport : (standing (heard (joined ++ codes ":s 005 Me CASEMAPPING=ascii :are supported" ∷ []))).settings ≡ (standing (heard joined)).settings
-unfolding told state_lines ranks_that rank_count words ranking_of spelled_by mapping_of is_channel is_word set_tokens changes kind_of
+settings_follow_no_late_isupport : (standing
+    (heard (joined ++ codes ":s 005 Me CASEMAPPING=ascii :are supported" ∷ []))).settings
+    ≡ (standing (heard joined)).settings
+unfolding told state_lines ranks_that rank_count words ranking_of spelled_by mapping_of is_channel
+    is_word set_tokens changes kind_of
 settings_follow_no_late_isupport = refl
 
-a_join_without_a_source_fixes_the_settings : standing (heard (codes ":s 001 Me :hi" ∷ codes "JOIN" ∷ codes ":s 005 Me A=1 :are supported" ∷ [])) ≡ record { own = Some (codes "Me"); ready = true; settings = [] }
-unfolding told state_lines ranks_that rank_count words ranking_of spelled_by mapping_of is_channel is_word set_tokens changes kind_of
+a_join_without_a_source_fixes_the_settings : standing
+    (heard (codes ":s 001 Me :hi" ∷ codes "JOIN" ∷ codes ":s 005 Me A=1 :are supported" ∷ []))
+    ≡ record { own = Some (codes "Me"); ready = true; settings = [] }
+unfolding told state_lines ranks_that rank_count words ranking_of spelled_by mapping_of is_channel
+    is_word set_tokens changes kind_of
 a_join_without_a_source_fixes_the_settings = refl
 
--- our own JOIN of a name that is no channel's, but has the key of a channel that we are on, takes our ranks
+-- our own JOIN of a name that is no channel's, but has the key of a channel that we are on, takes
+-- our ranks
 abbrev own_other_spelling : List Text
 own_other_spelling = codes ":s 001 Me :hi"
     ∷ codes ":s 005 Me CHANTYPES=[# :x"
@@ -221,14 +271,20 @@ own_other_spelling = codes ":s 001 Me :hi"
     ∷ codes ":s MODE [c +ov Me Me"
     ∷ []
 
-both_ranks_held : member (read own_other_spelling) (codes "{c") (codes "me") ≡ Some (0 ∷ 1 ∷ [], (Some (codes "Me")), None, None)
-unfolding told state_lines ranks_that rank_count words ranking_of spelled_by mapping_of is_channel is_word set_tokens changes kind_of
+both_ranks_held : member (read own_other_spelling) (codes "{c") (codes "me")
+    ≡ Some (0 ∷ 1 ∷ [], (Some (codes "Me")), None, None)
+unfolding told state_lines ranks_that rank_count words ranking_of spelled_by mapping_of is_channel
+    is_word set_tokens changes kind_of
 both_ranks_held = refl
 
-own_ranks_taken : member (read (own_other_spelling ++ codes ":Me!m@h JOIN {c" ∷ [])) (codes "{c") (codes "me") ≡ Some ([], (Some (codes "Me")), None, None)
-unfolding told state_lines ranks_that rank_count words ranking_of spelled_by mapping_of is_channel is_word set_tokens changes kind_of
+own_ranks_taken : member (read (own_other_spelling ++ codes ":Me!m@h JOIN {c" ∷ [])) (codes "{c")
+    (codes "me") ≡ Some ([], (Some (codes "Me")), None, None)
+unfolding told state_lines ranks_that rank_count words ranking_of spelled_by mapping_of is_channel
+    is_word set_tokens changes kind_of
 own_ranks_taken = refl
 
-still_on_it : name_on (read (own_other_spelling ++ codes ":Me!m@h JOIN {c" ∷ [])) (codes "{c") ≡ Some (codes "[c")
-unfolding told state_lines ranks_that rank_count words ranking_of spelled_by mapping_of is_channel is_word set_tokens changes kind_of
+still_on_it : name_on (read (own_other_spelling ++ codes ":Me!m@h JOIN {c" ∷ [])) (codes "{c")
+    ≡ Some (codes "[c")
+unfolding told state_lines ranks_that rank_count words ranking_of spelled_by mapping_of is_channel
+    is_word set_tokens changes kind_of
 still_on_it = refl

@@ -28,7 +28,9 @@ read_after before lines = newest lines (read (before ++ lines))
 -- the ranks, spelling, account and away text of a member
 abbrev pub member : List Reading → Text → Text
     → Option (List ℕ × Option Text × Option Text × Option Text)
-member rs c n = if is_member rs c n then Some (ranks_that (rank_decided rs c n), spelling_of rs n, account_of rs n, away_of rs n) else None
+member rs c n =
+    if is_member rs c n then Some
+    (ranks_that (rank_decided rs c n), spelling_of rs n, account_of rs n, away_of rs n) else None
 
 -- whom of these a channel has
 abbrev pub members : List Reading → Text → List Text → List Text
@@ -38,7 +40,8 @@ members rs c people = filter (is_member rs c) people
 
 -- the network takes us in, names its settings and ends its greeting
 abbrev pub welcome : List Text
-welcome = codes ":s 001 Me :hi" ∷ codes ":s 005 Me PREFIX=(ov)@+ CHANTYPES=# :are supported" ∷ codes ":s 376 Me :end" ∷ []
+welcome = codes ":s 001 Me :hi" ∷ codes ":s 005 Me PREFIX=(ov)@+ CHANTYPES=# :are supported"
+    ∷ codes ":s 376 Me :end" ∷ []
 
 -- then we join a channel
 abbrev pub joined : List Text
