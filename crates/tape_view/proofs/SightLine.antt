@@ -33,7 +33,8 @@ pub all_on : (items : List Reading) (n : Text) → AreOn items items n
 all_on items n =
     record {
       on =
-          λ c m. (and_parts (is_on items c) (unwrap_or (last_of (says_member c) items n) false) m).0;
+          λ c m. (and_parts (is_on items c)
+          (unwrap_or (last_of (says_member c) items n) false) m).0;
     }
 
 -- where we are on none of them, nobody is in sight

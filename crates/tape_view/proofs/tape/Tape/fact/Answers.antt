@@ -5,7 +5,9 @@ use Rattle.tape_view.specs.FactKinds.{says_of}
 use Rattle.tape_view.specs.Tape.{key}
 use Rattle.tape_view.proofs.SightLine.{all_on, none_seen, known_here, known_line, seen_before}
 use Rattle.tape_view.proofs.tape.Tape.fact.Goals as goal
-use Rattle.tape_view.proofs.tape.Tape.fact.Goals.{else-is_some-via-then-is_some+else-not-is_in_sight-2}
+use Rattle.tape_view.proofs.tape.Tape.fact.Goals.{
+  else-is_some-via-then-is_some+else-not-is_in_sight-2,
+}
 use Rattle.tape_view.proofs.tape.Tape.fact.Goals.{else-is_some-via-else-is_some}
 
 pub returns-then-not-is_in_sight : goal.returns-then-not-is_in_sight

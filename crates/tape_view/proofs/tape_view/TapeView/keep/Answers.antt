@@ -11,10 +11,16 @@ use Rattle.tape_view.proofs.Counted.{counted_so}
 use Rattle.tape_view.proofs.TapeTake.{line_kept, pushed_tape, supports_settings, late_settings}
 use Rattle.tape_view.proofs.TapeTake.{idle_settings}
 use Rattle.tape_view.proofs.tape_view.TapeView.keep.Goals as goal
-use Rattle.tape_view.proofs.tape_view.TapeView.keep.Goals.{in-Welcomed+in_ok-support-in-Welcomed+in_ok-push-in-Welcomed}
-use Rattle.tape_view.proofs.tape_view.TapeView.keep.Goals.{in-Supports+in_ok-push-in-Supports+in_default-take}
+use Rattle.tape_view.proofs.tape_view.TapeView.keep.Goals.{
+  in-Welcomed+in_ok-support-in-Welcomed+in_ok-push-in-Welcomed,
+}
+use Rattle.tape_view.proofs.tape_view.TapeView.keep.Goals.{
+  in-Supports+in_ok-push-in-Supports+in_default-take,
+}
 use Rattle.tape_view.proofs.tape_view.TapeView.keep.Goals.{in_default+in_ok-push-in_default}
-use Rattle.tape_view.proofs.tape_view.TapeView.keep.Goals.{in_default-via-in-Supports+then-is_some+else-not-ready_in}
+use Rattle.tape_view.proofs.tape_view.TapeView.keep.Goals.{
+  in_default-via-in-Supports+then-is_some+else-not-ready_in,
+}
 use Rattle.tape_view.proofs.tape_view.TapeView.keep.Goals.{in_default-via-in-Supports+else-is_some}
 use Rattle.tape_view.proofs.tape_view.TapeView.keep.Goals.{in_default-via-in_default}
 
