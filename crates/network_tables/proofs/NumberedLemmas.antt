@@ -16,7 +16,8 @@ use Rattle.irc_support.specs.Text.{Text}
 use Rattle.net_view.specs.Names.{bytes_cmp, same}
 use Rattle.net_view.proofs.Keys.{bytes_exact, is_same, same_refl}
 use Rattle.network_tables.specs.Table.{swapped_in, swapped_out}
-use Rattle.network_tables.specs.Numbered.{value_at, joined, AreTied, with_value_in, value_out, seen_in}
+use Rattle.network_tables.specs.Numbered.{value_at, joined, AreTied, with_value_in, value_out}
+use Rattle.network_tables.specs.Numbered.{seen_in}
 use Rattle.network_tables.specs.declared.numbered.Keyed.{Keyed}
 use Rattle.network_tables.proofs.ShownLemmas.{both, first, second}
 
@@ -58,17 +59,19 @@ module _ {X A : Type 0} where
       by_value None is later = rw is later
       by_value (Some x) is later = rw is (both _ _ (below_joined cells e.0 es (first _ _ h)) later)
 
-  find_joined : (cells : Slab (Keyed X A)) (q : Text) (es : List (Text × ℕ)) → T (fin.is_sorted
-      bytes_cmp es) → fin.find bytes_cmp q (filter_map (paired cells) es) ≡ option_and_then (value_at
-      cells) (fin.find bytes_cmp q es)
+  find_joined : (cells : Slab (Keyed X A)) (q : Text) (es : List (Text × ℕ))
+      → T (fin.is_sorted bytes_cmp es)
+      → fin.find bytes_cmp q (filter_map (paired cells) es)
+      ≡ option_and_then (value_at cells) (fin.find bytes_cmp q es)
   find_joined cells q [] h = refl
-  find_joined cells q (e ∷ es) h = by_value (value_at cells e.1) refl (find_joined cells q es (second
-      _ _ h))
+  find_joined cells q (e ∷ es) h =
+      by_value (value_at cells e.1) refl (find_joined cells q es (second _ _ h))
     where
-      by_value : (o : Option X) → value_at cells e.1 ≡ o → fin.find bytes_cmp q (filter_map (paired
-          cells) es) ≡ option_and_then (value_at cells) (fin.find bytes_cmp q es) →
-          fin.find bytes_cmp q (filter_map (paired cells) (e ∷ es)) ≡ option_and_then (value_at cells)
-          (fin.find bytes_cmp q (e ∷ es))
+      by_value : (o : Option X) → value_at cells e.1 ≡ o
+          → fin.find bytes_cmp q (filter_map (paired cells) es)
+          ≡ option_and_then (value_at cells) (fin.find bytes_cmp q es)
+          → fin.find bytes_cmp q (filter_map (paired cells) (e ∷ es))
+          ≡ option_and_then (value_at cells) (fin.find bytes_cmp q (e ∷ es))
       by_value None is later =
           (rw is later) ∙ elim (same q e.0) as (λ b. same q e.0 ≡ b → option_and_then (value_at
           cells) (fin.find bytes_cmp q es) ≡ option_and_then (value_at cells) (cond b (Some e.1)
@@ -78,9 +81,10 @@ module _ {X A : Type 0} where
             | false ↦ λ s. refl
           ] refl
       by_value (Some x) is later =
-          rw is (elim (same q e.0) as (λ b. cond b (Some x) (fin.find bytes_cmp q (filter_map (paired
-          cells) es)) ≡ option_and_then (value_at cells) (cond b (Some e.1) (fin.find bytes_cmp q
-          es))) [ true ↦ sym is | false ↦ later ])
+          rw is (elim (same q e.0) as
+          (λ b. cond b (Some x) (fin.find bytes_cmp q (filter_map (paired cells) es))
+          ≡ option_and_then (value_at cells) (cond b (Some e.1) (fin.find bytes_cmp q es)))
+          [ true ↦ sym is | false ↦ later ])
 
   pub get-joined : (index : fin.FinMap bytes_cmp ℕ) (cells : Slab (Keyed X A)) (q : Text) → fin.get
       (joined index cells) q ≡ option_and_then (value_at cells) (fin.get index q)
@@ -95,8 +99,8 @@ module _ {X A : Type 0} where
   key_in = option_map (λ known. known.key.items)
 
   -- nothing is held
-  pub none_joined : (index : fin.FinMap bytes_cmp ℕ) (cells : Slab (Keyed X A)) → index ≡ fin.empty →
-      joined index cells ≡ fin.empty
+  pub none_joined : (index : fin.FinMap bytes_cmp ℕ) (cells : Slab (Keyed X A)) → index ≡ fin.empty
+      → joined index cells ≡ fin.empty
   none_joined index cells is =
       fin.same_map nat_list_cmp_total bytes_exact _ _ (λ q. get-joined index cells q
       ∙ ap (option_and_then (value_at cells)) (ap (λ m. fin.get m q) is ∙ fin.get-empty bytes_cmp q)
@@ -105,7 +109,8 @@ module _ {X A : Type 0} where
   pub none_tied : (index : fin.FinMap bytes_cmp ℕ) (cells : Slab (Keyed X A)) → index ≡ fin.empty →
       ((n : ℕ) → get cells n ≡ None) → AreTied index cells
   none_tied index cells is none = record {
-    held = λ key n e. absurd (no_some (sym (ap (λ m. fin.get m key) is ∙ fin.get-empty bytes_cmp key) ∙ e));
+    held = λ key n e. absurd
+        (no_some (sym (ap (λ m. fin.get m key) is ∙ fin.get-empty bytes_cmp key) ∙ e));
     known = λ n known e. absurd (no_some (sym (none n) ∙ e));
   } where
     no_some : {Y : Type 0} {y : Y} → None ≡ Some y → ⊥
@@ -127,13 +132,15 @@ module _ {X A : Type 0} where
 
     pub kept_tied : AreTied index cells → AreTied index2 cells2
     kept_tied tied = record {
-      held = λ key n e. ap key_in (alike n) ∙ tied.held key n (ap (λ m. fin.get m key) (sym is) ∙ e);
-      known = λ n known e. ap (λ m. fin.get m known.key.items) is ∙ tied.known n known (sym (alike n)
-          ∙ e);
+      held = λ key n e. ap key_in (alike n)
+          ∙ tied.held key n (ap (λ m. fin.get m key) (sym is) ∙ e);
+      known = λ n known e. ap (λ m. fin.get m known.key.items) is
+          ∙ tied.known n known (sym (alike n) ∙ e);
     }
 
   -- ---- by the number of a key
-  module _ (index : fin.FinMap bytes_cmp ℕ) (cells : Slab (Keyed X A)) (tied : AreTied index cells) where
+  module _ (index : fin.FinMap bytes_cmp ℕ) (cells : Slab (Keyed X A))
+      (tied : AreTied index cells) where
     pub there : (k : Text) (n : ℕ) → fin.get index k ≡ Some n → (known : Keyed X A) × (get cells n ≡
         Some known) × (known.key.items ≡ k)
     there k n e = by_cell (get cells n) refl
@@ -165,8 +172,8 @@ module _ {X A : Type 0} where
         by_number (Some n) e = let is = there k n e in cc (got k n is.0 e is.1, none)
 
     -- two keys have two numbers
-    apart : (q k : Text) (m n : ℕ) → fin.get index q ≡ Some m → fin.get index k ≡ Some n → same q k ≡
-        false → m ≢ n
+    apart : (q k : Text) (m n : ℕ) → fin.get index q ≡ Some m → fin.get index k ≡ Some n
+        → same q k ≡ false → m ≢ n
     apart q k m n eq ek s is =
         let one = tied.held q m eq in
         let other = tied.held k n ek in
@@ -175,9 +182,10 @@ module _ {X A : Type 0} where
         cc (sym (ap (same q) (sym one_key)) ∙ s, same_refl q)
 
     -- ---- a value comes
-    module _ (index2 : fin.FinMap bytes_cmp ℕ) (cells2 : Slab (Keyed X A)) (k : Text) (n : ℕ) (known :
-        Keyed X A) (none : fin.get index k ≡ None) (free : get cells n ≡ None) (is : known.key.items ≡
-        k) (index_is : index2 ≡ fin.insert index k n) (updates : Updates cells cells2 n (Some known)) where
+    module _ (index2 : fin.FinMap bytes_cmp ℕ) (cells2 : Slab (Keyed X A)) (k : Text) (n : ℕ)
+        (known : Keyed X A) (none : fin.get index k ≡ None) (free : get cells n ≡ None)
+        (is : known.key.items ≡ k) (index_is : index2 ≡ fin.insert index k n)
+        (updates : Updates cells cells2 n (Some known)) where
       at_put : (q : Text) → fin.get index2 q ≡ cond (same q k) (Some n) (fin.get index q)
       at_put q = ap (λ m. fin.get m q) index_is ∙ fin.get-insert nat_list_cmp_total index k n q
 
@@ -196,15 +204,15 @@ module _ {X A : Type 0} where
           ∙ by_key q (same q k)
           ∙ ap (cond (same q k) (Some known.value)) (sym (get-joined index cells q))
           ∙ sym (fin.get-insert nat_list_cmp_total (joined index cells) k known.value q)) where
-            old : (q : Text) (o : Option ℕ) → fin.get index q ≡ o → option_and_then (value_at cells2) o
-                ≡ option_and_then (value_at cells) o
+            old : (q : Text) (o : Option ℕ) → fin.get index q ≡ o
+                → option_and_then (value_at cells2) o ≡ option_and_then (value_at cells) o
             old q None e = refl
-            old q (Some m) e = ap (option_map (λ known. known.value)) (updates.others m (not_there q m
-                e))
+            old q (Some m) e =
+                ap (option_map (λ known. known.value)) (updates.others m (not_there q m e))
 
-            by_key : (q : Text) (b : Bool) → option_and_then (value_at cells2) (cond b (Some n) (fin.get
-                index q)) ≡ cond b (Some known.value) (option_and_then (value_at cells) (fin.get index
-                q))
+            by_key : (q : Text) (b : Bool)
+                → option_and_then (value_at cells2) (cond b (Some n) (fin.get index q))
+                ≡ cond b (Some known.value) (option_and_then (value_at cells) (fin.get index q))
             by_key q true = ap (option_map (λ known. known.value)) updates.changed
             by_key q false = old q (fin.get index q) refl
 
@@ -213,18 +221,20 @@ module _ {X A : Type 0} where
         held = λ q m e. held_by q m (same q k) refl (sym (at_put q) ∙ e);
         known = λ m e is. known_by m e is;
       } where
-        held_by : (q : Text) (m : ℕ) (b : Bool) → same q k ≡ b → cond b (Some n) (fin.get index q) ≡ Some
-            m → key_in (get cells2 m) ≡ Some q
+        held_by : (q : Text) (m : ℕ) (b : Bool) → same q k ≡ b
+            → cond b (Some n) (fin.get index q) ≡ Some m → key_in (get cells2 m) ≡ Some q
         held_by q m true s e =
             let number : n ≡ m = cc e in
-            ap (λ i. key_in (get cells2 i)) (sym number) ∙ ap key_in updates.changed ∙ ap Some (is ∙ sym
-            (is_same q k s))
+            ap (λ i. key_in (get cells2 i)) (sym number) ∙ ap key_in updates.changed
+            ∙ ap Some (is ∙ sym (is_same q k s))
         held_by q m false s e = ap key_in (updates.others m (not_there q m e)) ∙ tied.held q m e
 
-        known_by : (m : ℕ) (e : Keyed X A) → get cells2 m ≡ Some e → fin.get index2 e.key.items ≡ Some m
+        known_by : (m : ℕ) (e : Keyed X A) → get cells2 m ≡ Some e
+            → fin.get index2 e.key.items ≡ Some m
         known_by m e at = elim (cases_eq m n) [
           | inl number ↦
-              let one : Some known ≡ Some e = sym updates.changed ∙ ap (get cells2) (sym number) ∙ at in
+              let one : Some known ≡ Some e =
+              sym updates.changed ∙ ap (get cells2) (sym number) ∙ at in
               let e_is : known ≡ e = cc one in
               ap (λ (x : Keyed X A). fin.get index2 x.key.items) (sym e_is)
               ∙ ap (fin.get index2) is ∙ at_put k
@@ -232,17 +242,18 @@ module _ {X A : Type 0} where
           | inr differs ↦
               let old : fin.get index e.key.items ≡ Some m = tied.known m e (sym (updates.others m
               differs) ∙ at) in
-              at_put e.key.items ∙ elim (same e.key.items k) as (λ b. same e.key.items k ≡ b → cond b
-              (Some n) (fin.get index e.key.items) ≡ Some m) [
+              at_put e.key.items
+              ∙ elim (same e.key.items k) as (λ b. same e.key.items k ≡ b
+              → cond b (Some n) (fin.get index e.key.items) ≡ Some m) [
                 | true ↦ λ s. cc (sym (ap (fin.get index) (is_same e.key.items k s)) ∙ old, none)
                 | false ↦ λ s. old
               ] refl
         ]
 
     -- ---- a value goes
-    module _ (index2 : fin.FinMap bytes_cmp ℕ) (cells2 : Slab (Keyed X A)) (k : Text) (n : ℕ) (number :
-        fin.get index k ≡ Some n) (index_is : index2 ≡ fin.remove index k) (updates : Updates cells
-        cells2 n None) where
+    module _ (index2 : fin.FinMap bytes_cmp ℕ) (cells2 : Slab (Keyed X A)) (k : Text) (n : ℕ)
+        (number : fin.get index k ≡ Some n) (index_is : index2 ≡ fin.remove index k)
+        (updates : Updates cells cells2 n None) where
       at_taken : (q : Text) → fin.get index2 q ≡ cond (same q k) None (fin.get index q)
       at_taken q = ap (λ m. fin.get m q) index_is ∙ fin.get-remove nat_list_cmp_total index k q
 
@@ -253,15 +264,15 @@ module _ {X A : Type 0} where
           ∙ by_key q (same q k) refl
           ∙ ap (cond (same q k) None) (sym (get-joined index cells q))
           ∙ sym (fin.get-remove nat_list_cmp_total (joined index cells) k q)) where
-            old : (q : Text) → same q k ≡ false → (o : Option ℕ) → fin.get index q ≡ o → option_and_then
-                (value_at cells2) o ≡ option_and_then (value_at cells) o
+            old : (q : Text) → same q k ≡ false → (o : Option ℕ) → fin.get index q ≡ o
+                → option_and_then (value_at cells2) o ≡ option_and_then (value_at cells) o
             old q s None e = refl
-            old q s (Some m) e = ap (option_map (λ known. known.value)) (updates.others m (apart q k m n
-                e number s))
+            old q s (Some m) e =
+                ap (option_map (λ known. known.value)) (updates.others m (apart q k m n e number s))
 
-            by_key : (q : Text) (b : Bool) → same q k ≡ b → option_and_then (value_at cells2) (cond b
-                None (fin.get index q)) ≡ cond b None (option_and_then (value_at cells) (fin.get index
-                q))
+            by_key : (q : Text) (b : Bool) → same q k ≡ b
+                → option_and_then (value_at cells2) (cond b None (fin.get index q))
+                ≡ cond b None (option_and_then (value_at cells) (fin.get index q))
             by_key q true s = refl
             by_key q false s = old q s (fin.get index q) refl
 
@@ -270,22 +281,25 @@ module _ {X A : Type 0} where
         held = λ q m e. held_by q m (same q k) refl (sym (at_taken q) ∙ e);
         known = λ m e is. known_by m e is;
       } where
-        held_by : (q : Text) (m : ℕ) (b : Bool) → same q k ≡ b → cond b None (fin.get index q) ≡ Some m →
-            key_in (get cells2 m) ≡ Some q
+        held_by : (q : Text) (m : ℕ) (b : Bool) → same q k ≡ b
+            → cond b None (fin.get index q) ≡ Some m → key_in (get cells2 m) ≡ Some q
         held_by q m true s e = cc
-        held_by q m false s e = ap key_in (updates.others m (apart q k m n e number s)) ∙ tied.held q m e
+        held_by q m false s e =
+            ap key_in (updates.others m (apart q k m n e number s)) ∙ tied.held q m e
 
-        known_by : (m : ℕ) (e : Keyed X A) → get cells2 m ≡ Some e → fin.get index2 e.key.items ≡ Some m
+        known_by : (m : ℕ) (e : Keyed X A) → get cells2 m ≡ Some e
+            → fin.get index2 e.key.items ≡ Some m
         known_by m e at = elim (cases_eq m n) [
           | inl same_number ↦ cc (sym (ap (get cells2) same_number) ∙ at, updates.changed)
           | inr differs ↦
               let old : fin.get index e.key.items ≡ Some m = tied.known m e (sym (updates.others m
               differs) ∙ at) in
-              at_taken e.key.items ∙ elim (same e.key.items k) as (λ b. same e.key.items k ≡ b → cond b
-              None (fin.get index e.key.items) ≡ Some m) [
+              at_taken e.key.items
+              ∙ elim (same e.key.items k) as (λ b. same e.key.items k ≡ b
+              → cond b None (fin.get index e.key.items) ≡ Some m) [
                 | true ↦ λ s.
-                    let both : Some m ≡ Some n = sym old ∙ ap (fin.get index) (is_same e.key.items k s) ∙
-                    number in
+                    let both : Some m ≡ Some n =
+                    sym old ∙ ap (fin.get index) (is_same e.key.items k s) ∙ number in
                     let one : m ≡ n = cc both in
                     absurd (differs one)
                 | false ↦ λ s. old
@@ -293,8 +307,9 @@ module _ {X A : Type 0} where
         ]
 
     -- ---- a value is changed
-    module _ (cells2 : Slab (Keyed X A)) (k : Text) (n : ℕ) (value : X) (number : fin.get index k ≡ Some
-        n) (updates : Updates cells cells2 n (with_value_in value (get cells n))) where
+    module _ (cells2 : Slab (Keyed X A)) (k : Text) (n : ℕ) (value : X)
+        (number : fin.get index k ≡ Some n)
+        (updates : Updates cells cells2 n (with_value_in value (get cells n))) where
       pub changed_to : get cells2 n ≡ with_value_in value (get cells n)
       changed_to = updates.changed
 
@@ -306,23 +321,26 @@ module _ {X A : Type 0} where
       pub swapped_joined : joined index cells2 ≡ swapped_in (joined index cells) k value
       swapped_joined =
           let is = there k n number in
-          fin.same_map nat_list_cmp_total bytes_exact (joined index cells2) (fin.insert (joined index
-          cells) k value) (λ q. get-joined index cells2 q
+          fin.same_map nat_list_cmp_total bytes_exact (joined index cells2)
+          (fin.insert (joined index cells) k value) (λ q. get-joined index cells2 q
           ∙ by_key q (same q k) refl
           ∙ ap (cond (same q k) (Some value)) (sym (get-joined index cells q))
           ∙ sym (fin.get-insert nat_list_cmp_total (joined index cells) k value q))
-          ∙ ap (λ o. cond (is_some o) (fin.insert (joined index cells) k value) (joined index cells)) (sym
-          (got k n is.0 number is.1)) where
-            old : (q : Text) → same q k ≡ false → (o : Option ℕ) → fin.get index q ≡ o → option_and_then
-                (value_at cells2) o ≡ option_and_then (value_at cells) o
+          ∙ ap
+          (λ o. cond (is_some o) (fin.insert (joined index cells) k value) (joined index cells))
+          (sym (got k n is.0 number is.1)) where
+            old : (q : Text) → same q k ≡ false → (o : Option ℕ) → fin.get index q ≡ o
+                → option_and_then (value_at cells2) o ≡ option_and_then (value_at cells) o
             old q s None e = refl
-            old q s (Some m) e = ap (option_map (λ known. known.value)) (updates.others m (apart q k m n
-                e number s))
+            old q s (Some m) e =
+                ap (option_map (λ known. known.value)) (updates.others m (apart q k m n e number s))
 
-            by_key : (q : Text) (b : Bool) → same q k ≡ b → option_and_then (value_at cells2) (fin.get
-                index q) ≡ cond b (Some value) (option_and_then (value_at cells) (fin.get index q))
-            by_key q true s = ap (λ q. option_and_then (value_at cells2) (fin.get index q)) (is_same q k
-                s) ∙ ap (option_and_then (value_at cells2)) number ∙ value_now
+            by_key : (q : Text) (b : Bool) → same q k ≡ b
+                → option_and_then (value_at cells2) (fin.get index q)
+                ≡ cond b (Some value) (option_and_then (value_at cells) (fin.get index q))
+            by_key q true s =
+                ap (λ q. option_and_then (value_at cells2) (fin.get index q)) (is_same q k s)
+                ∙ ap (option_and_then (value_at cells2)) number ∙ value_now
             by_key q false s = old q s (fin.get index q) refl
 
       pub swapped_value : value_out (get cells n) value ≡ swapped_out (joined index cells) k value
@@ -341,13 +359,14 @@ module _ {X A : Type 0} where
       pub swapped_tied : AreTied index cells2
       swapped_tied = record {
         held = λ q m e. keys m ∙ tied.held q m e;
-        known = λ m e at. let old = from_key m e.key.items (keys_of m e at) in ap (fin.get index) (sym
-            old.2) ∙ tied.known m old.0 old.1;
+        known = λ m e at. let old = from_key m e.key.items (keys_of m e at) in
+            ap (fin.get index) (sym old.2) ∙ tied.known m old.0 old.1;
       } where
         keys : (m : ℕ) → key_in (get cells2 m) ≡ key_in (get cells m)
         keys m = elim (cases_eq m n) [
-          | inl same_number ↦ ap (λ i. key_in (get cells2 i)) same_number ∙ ap key_in updates.changed ∙
-              same_key (get cells n) ∙ ap (λ i. key_in (get cells i)) (sym same_number)
+          | inl same_number ↦
+              ap (λ i. key_in (get cells2 i)) same_number ∙ ap key_in updates.changed
+              ∙ same_key (get cells n) ∙ ap (λ i. key_in (get cells i)) (sym same_number)
           | inr differs ↦ ap key_in (updates.others m differs)
         ]
 
@@ -355,12 +374,12 @@ module _ {X A : Type 0} where
             e.key.items
         keys_of m e at = sym (keys m) ∙ ap key_in at
 
-        from_key : (m : ℕ) (key : Text) → key_in (get cells m) ≡ Some key → (known : Keyed X A) × (get
-            cells m ≡ Some known) × (known.key.items ≡ key)
+        from_key : (m : ℕ) (key : Text) → key_in (get cells m) ≡ Some key
+            → (known : Keyed X A) × (get cells m ≡ Some known) × (known.key.items ≡ key)
         from_key m key e = by_cell (get cells m) refl e
           where
-            by_cell : (o : Option (Keyed X A)) → get cells m ≡ o → key_in o ≡ Some key → (known : Keyed X
-                A) × (get cells m ≡ Some known) × (known.key.items ≡ key)
+            by_cell : (o : Option (Keyed X A)) → get cells m ≡ o → key_in o ≡ Some key
+                → (known : Keyed X A) × (get cells m ≡ Some known) × (known.key.items ≡ key)
             by_cell None is e = cc
             by_cell (Some known) is e = (known, is, key_is e)
               where
@@ -368,13 +387,16 @@ module _ {X A : Type 0} where
                 key_is e = cc
 
     -- ---- some are kept
-    module _ (index2 : fin.FinMap bytes_cmp ℕ) (cells2 : Slab (Keyed X A)) (p : Text → Bool) (index_is :
-        index2 ≡ fin.retain_keys index p) (seen : (n : ℕ) → get cells2 n ≡ seen_in p (get cells n)) where
+    module _ (index2 : fin.FinMap bytes_cmp ℕ) (cells2 : Slab (Keyed X A)) (p : Text → Bool)
+        (index_is : index2 ≡ fin.retain_keys index p)
+        (seen : (n : ℕ) → get cells2 n ≡ seen_in p (get cells n)) where
       at_retained : (q : Text) → fin.get index2 q ≡ cond (p q) (fin.get index q) None
-      at_retained q = ap (λ m. fin.get m q) index_is ∙ fin.get-retain_keys index p q (λ x t. ap p (sym
-          (bytes_exact q x t)))
+      at_retained q =
+          ap (λ m. fin.get m q) index_is
+          ∙ fin.get-retain_keys index p q (λ x t. ap p (sym (bytes_exact q x t)))
 
-      still : (q : Text) (m : ℕ) → p q ≡ true → fin.get index q ≡ Some m → get cells2 m ≡ get cells m
+      still : (q : Text) (m : ℕ) → p q ≡ true → fin.get index q ≡ Some m
+          → get cells2 m ≡ get cells m
       still q m met e =
           let is = there q m e in
           seen m ∙ ap (seen_in p) is.1
@@ -386,15 +408,16 @@ module _ {X A : Type 0} where
           ∙ ap (option_and_then (value_at cells2)) (at_retained q)
           ∙ by_test q (p q) refl
           ∙ ap (λ o. cond (p q) o None) (sym (get-joined index cells q))
-          ∙ sym (fin.get-retain_keys (joined index cells) p q (λ x t. ap p (sym (bytes_exact q x t))))) where
+          ∙ sym (fin.get-retain_keys (joined index cells) p q
+          (λ x t. ap p (sym (bytes_exact q x t))))) where
             old : (q : Text) → p q ≡ true → (o : Option ℕ) → fin.get index q ≡ o → option_and_then
                 (value_at cells2) o ≡ option_and_then (value_at cells) o
             old q met None e = refl
             old q met (Some m) e = ap (option_map (λ known. known.value)) (still q m met e)
 
-            by_test : (q : Text) (b : Bool) → p q ≡ b → option_and_then (value_at cells2) (cond b
-                (fin.get index q) None) ≡ cond b (option_and_then (value_at cells) (fin.get index q))
-                None
+            by_test : (q : Text) (b : Bool) → p q ≡ b
+                → option_and_then (value_at cells2) (cond b (fin.get index q) None)
+                ≡ cond b (option_and_then (value_at cells) (fin.get index q)) None
             by_test q true met = old q met (fin.get index q) refl
             by_test q false unmet = refl
 
@@ -408,39 +431,45 @@ module _ {X A : Type 0} where
         held_by q m true met e = ap key_in (still q m met e) ∙ tied.held q m e
         held_by q m false unmet e = cc
 
-        known_by : (m : ℕ) (e : Keyed X A) (o : Option (Keyed X A)) → get cells m ≡ o → seen_in p (get
-            cells m) ≡ Some e → fin.get index2 e.key.items ≡ Some m
+        known_by : (m : ℕ) (e : Keyed X A) (o : Option (Keyed X A)) → get cells m ≡ o
+            → seen_in p (get cells m) ≡ Some e → fin.get index2 e.key.items ≡ Some m
         known_by m e None is at = cc (sym (ap (seen_in p) is) ∙ at)
-        known_by m e (Some known) is at = by_test (p known.key.items) refl (sym (ap (seen_in p) is) ∙ at)
-          where
-            by_test : (b : Bool) → p known.key.items ≡ b → cond b (Some known) None ≡ Some e → fin.get
-                index2 e.key.items ≡ Some m
-            by_test true met at =
-                let one : known ≡ e = cc at in
-                ap (λ (x : Keyed X A). fin.get index2 x.key.items) (sym one)
-                ∙ at_retained known.key.items
-                ∙ ap (λ b. cond b (fin.get index known.key.items) None) met ∙ tied.known m known is
-            by_test false unmet at = cc
+        known_by m e (Some known) is at =
+            by_test (p known.key.items) refl (sym (ap (seen_in p) is) ∙ at) where
+              by_test : (b : Bool) → p known.key.items ≡ b → cond b (Some known) None ≡ Some e
+                  → fin.get index2 e.key.items ≡ Some m
+              by_test true met at =
+                  let one : known ≡ e = cc at in
+                  ap (λ (x : Keyed X A). fin.get index2 x.key.items) (sym one)
+                  ∙ at_retained known.key.items
+                  ∙ ap (λ b. cond b (fin.get index known.key.items) None) met
+                  ∙ tied.known m known is
+              by_test false unmet at = cc
 
   -- ---- whether a cell holds one that goes
   abbrev pub unseen : (Text → Bool) → Option (Keyed X A) → Bool
   unseen p o = option_map_or {T = Keyed X A} (λ known. not (p known.key.items)) o false
 
-  pub unseen_lent : (p : Text → Bool) (r : Option (Bor (Keyed X A))) → option_map_or {T = Bor (Keyed X
-      A)} (λ known. not (p known.now.key.items)) r false ≡ unseen p (option_map (λ known. known.now) r)
+  pub unseen_lent : (p : Text → Bool) (r : Option (Bor (Keyed X A)))
+      → option_map_or {T = Bor (Keyed X A)} (λ known. not (p known.now.key.items)) r false
+      ≡ unseen p (option_map (λ known. known.now) r)
   unseen_lent p None = refl
   unseen_lent p (Some known) = refl
 
-  pub unseen_there : (p : Text → Bool) (o : Option (Keyed X A)) → unseen p o ≡ true → is_some o ≡ true
+  pub unseen_there : (p : Text → Bool) (o : Option (Keyed X A)) → unseen p o ≡ true
+      → is_some o ≡ true
   unseen_there p None e = e
   unseen_there p (Some known) e = refl
 
-  pub unseen_gone : (p : Text → Bool) (o : Option (Keyed X A)) → unseen p o ≡ true → seen_in p o ≡ None
+  pub unseen_gone : (p : Text → Bool) (o : Option (Keyed X A)) → unseen p o ≡ true
+      → seen_in p o ≡ None
   unseen_gone p None e = refl
-  unseen_gone p (Some known) e = elim (p known.key.items) as (λ b. not b ≡ true → cond b (Some known)
-      None ≡ None) [ true ↦ λ e. cc | false ↦ λ e. refl ] e
+  unseen_gone p (Some known) e =
+      elim (p known.key.items) as (λ b. not b ≡ true → cond b (Some known) None ≡ None)
+      [ true ↦ λ e. cc | false ↦ λ e. refl ] e
 
   pub seen_stays : (p : Text → Bool) (o : Option (Keyed X A)) → unseen p o ≡ false → seen_in p o ≡ o
   seen_stays p None e = refl
-  seen_stays p (Some known) e = elim (p known.key.items) as (λ b. not b ≡ false → cond b (Some known)
-      None ≡ Some known) [ true ↦ λ e. refl | false ↦ λ e. cc ] e
+  seen_stays p (Some known) e =
+      elim (p known.key.items) as (λ b. not b ≡ false → cond b (Some known) None ≡ Some known)
+      [ true ↦ λ e. refl | false ↦ λ e. cc ] e

@@ -52,15 +52,15 @@ there_again m m1 k h p there is =
     ∙ ap (λ b. cond b (Some h) (fin.get m k)) (same_refl k))
 
 -- what was not there is still not
-pub none_again : {X : Type 0} (m m1 : fin.FinMap bytes_cmp X) (k : Text) (h : X) → fin.contains_key m
-    k ≡ false → m1 ≡ swapped_in m k h → fin.get m1 k ≡ None
+pub none_again : {X : Type 0} (m m1 : fin.FinMap bytes_cmp X) (k : Text) (h : X)
+    → fin.contains_key m k ≡ false → m1 ≡ swapped_in m k h → fin.get m1 k ≡ None
 none_again m m1 k h none is =
     ap (λ t. fin.get t k) (is ∙ ap (λ b. cond b (fin.insert m k h) m) none) ∙ none_of (fin.get m k)
     none
 
 -- what is taken out and put in
-pub put_anew : {X : Type 0} (m : fin.FinMap bytes_cmp X) (k : Text) (x : X) → fin.insert (fin.remove m
-    k) k x ≡ fin.insert m k x
+pub put_anew : {X : Type 0} (m : fin.FinMap bytes_cmp X) (k : Text) (x : X)
+    → fin.insert (fin.remove m k) k x ≡ fin.insert m k x
 put_anew m k x =
     fin.same_map nat_list_cmp_total bytes_exact _ _ (λ q. fin.get-insert nat_list_cmp_total
     (fin.remove m k) k x q

@@ -1,5 +1,6 @@
 -- A table's entries, by the places that a search finds.
-use Rattle.std.specs.Prelude.{◌≡◌, ℕ, suc, ◌<◌, ◌≤◌, Bool, true, false, cond, is_some, T, List, [], ◌∷◌, ◌++◌, map, length}
+use Rattle.std.specs.Prelude.{◌≡◌, ℕ, suc, ◌<◌, ◌≤◌, Bool, true, false, cond, is_some, T, List, []}
+use Rattle.std.specs.Prelude.{◌∷◌, ◌++◌, map, length}
 use Rattle.std.specs.declared.cmp.Ordering.TheVariants.{Equal}
 use Rattle.std.specs.declared.cmp.Ordering.{Ordering}
 use Rattle.std.specs.Cmp.{IsTotalOrder}
@@ -10,7 +11,8 @@ use Rattle.std.specs.List.Sorted.{IsBinarySearchResult}
 use Rattle.std.specs.Cmp.Lexicographic.{nat_list_cmp_total}
 use Rattle.std.specs.FinMap as fin
 use Rattle.std.specs.FinMap.Entries.{find-where_key, is_sorted-where_key}
-use Rattle.std.proofs.Common.{Option, Some, None, Err, refl, sym, ap, subst, ◌∙◌, get_or, set, take, drop}
+use Rattle.std.proofs.Common.{Option, Some, None, Err, refl, sym, ap, subst, ◌∙◌, get_or, set, take}
+use Rattle.std.proofs.Common.{drop}
 use Rattle.std.proofs.lemmas.List.{get_or-map, length-map, map-set, map-append, take-map, drop-map}
 use Rattle.std.proofs.lemmas.Option.{slice_get-map}
 use Rattle.irc_support.specs.Text.{Text}
@@ -19,7 +21,9 @@ use Rattle.net_view.proofs.Keys.{bytes_exact}
 use Rattle.std.specs.Option.{unwrap_or, option_map}
 use Rattle.std.specs.List.{slice_get}
 use Rattle.network_tables.specs.Table.{swapped_in, swapped_out}
-use Rattle.network_tables.proofs.Sorted.{IsPlace, find_between, find_at, inserted, is_sorted_inserted, written, is_sorted_written, removed, is_sorted_removed}
+use Rattle.network_tables.proofs.Sorted.{IsPlace, find_between, find_at, inserted}
+use Rattle.network_tables.proofs.Sorted.{is_sorted_inserted, written, is_sorted_written, removed}
+use Rattle.network_tables.proofs.Sorted.{is_sorted_removed}
 use Rattle.network_tables.proofs.Places.{free_place}
 
 pub map_insert : {X Y : Type 0} (f : X → Y) (xs : List X) (i : ℕ) (x : X) → map f (insert xs i x) ≡

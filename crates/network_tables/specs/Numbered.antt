@@ -42,7 +42,8 @@ with_value_in {X} {A} value = option_map {T = Keyed X A} (λ known. record known
 
 -- the value that it held
 abbrev pub value_out : {X A : Type 0} → Option (Keyed X A) → X → X
-value_out {X} {A} known value = unwrap_or (option_map {T = Keyed X A} (λ known. known.value) known) value
+value_out {X} {A} known value =
+    unwrap_or (option_map {T = Keyed X A} (λ known. known.value) known) value
 
 -- what a cell holds, where its key is one of these
 abbrev pub seen_in : {X A : Type 0} → (Text → Bool) → Option (Keyed X A) → Option (Keyed X A)

@@ -12,7 +12,9 @@ loop-place-preserved-then-not-is_seen g c =
     let n = c.loop-place.place in
     let some = c.loop-place-test.true in
     let within = c.loop-place.invariant.within in
-    let looked = subst (λ m. c.loop-place.slots.items ≡ left (λ slot. is_seen cs slot.entry.value.key.items) m xs)
+    let looked =
+    subst (λ m. c.loop-place.slots.items
+    ≡ left (λ slot. is_seen cs slot.entry.value.key.items) m xs)
     {x = n} {y = suc (n - 1)} (omega (arith, some)) c.loop-place.invariant.looked in
     let x = c.at.result.now in
     record {

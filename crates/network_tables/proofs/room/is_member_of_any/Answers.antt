@@ -9,6 +9,7 @@ pub returns-then-contains_by : goal.returns-then-contains_by
 returns-then-contains_by g c =
     any_at (is_in (sought_key c.args.who)) room_entry c.args.rooms.now.items c.loop-place.place
     c.at.result.now
-    (subst (λ n. c.loop-place.place < n) c.len-place-end.ensures c.loop-place-test.true) c.at.ensures
+    (subst (λ n. c.loop-place.place < n) c.len-place-end.ensures c.loop-place-test.true)
+    c.at.ensures
     (sym (ap (λ e. fin.contains_key e.value.members.all (sought_key c.args.who)) c.deref.ensures)
     ∙ sym c.contains_by.ensures ∙ c.if-contains_by.true)

@@ -1,4 +1,5 @@
-use Rattle.std.proofs.Common.{◌≡◌, ◌<◌, ◌+◌, ◌∷◌, [], Some, map, ap, length, length-append, length-set, sym, subst, arith, ◌∙◌}
+use Rattle.std.proofs.Common.{◌≡◌, ◌<◌, ◌+◌, ◌∷◌, [], Some, map, ap, length, length-append}
+use Rattle.std.proofs.Common.{length-set, sym, subst, arith, ◌∙◌}
 use Rattle.std.proofs.lemmas.List.Elements.{All-pop}
 use Rattle.network_tables.specs.Sought.{sought_key}
 use Rattle.network_tables.specs.Rooms.{room_entry, channel_of, moved_in, moved_channel}
@@ -18,8 +19,8 @@ loop-place-preserved g c =
     c.in-Some.ensures.items ∙ length-append c.pop.new.self.items (c.in-Some.key ∷ []) in
     let enough = c.loop-place.invariant.enough in
     record {
-      changed = changed_more (λ e. (e.0, moved_channel c.args.taken k c.args.new.now e.1)) room_entry (map
-          room_entry c.args.rooms.now.items) s i x _
+      changed = changed_more (λ e. (e.0, moved_channel c.args.taken k c.args.new.now e.1))
+          room_entry (map room_entry c.args.rooms.now.items) s i x _
           (subst (λ n. i < n) (c.len-place-end.ensures ∙ sym c.loop-place.invariant.as_long)
           c.loop-place-test.true)
           c.loop-place.invariant.changed
@@ -31,7 +32,8 @@ loop-place-preserved g c =
                   c.deref_mut.result.now.value.members.all) (popped.1)) j;
             },
           ))
-          ∙ ap (λ e. (e.key.items, moved_channel c.args.taken k c.args.new.now (channel_of e.value)))
+          ∙ ap
+          (λ e. (e.key.items, moved_channel c.args.taken k c.args.new.now (channel_of e.value)))
           c.deref_mut.ensures.value);
       as_long = length-set s i _ ∙ c.loop-place.invariant.as_long;
       enough = omega (arith, less, enough);

@@ -6,8 +6,10 @@ use Rattle.network_tables.proofs.room.rename_each.Given as goal
 
 abbrev pub invariant-loop-place : goal.invariant-loop-place
 invariant-loop-place g l = record {
-  changed : map room_entry l.rooms.items ≡ each_changed (moved_channel l.taken (sought_key l.old) l.new) (take l.place (map room_entry l.initial.rooms.items)) ++ drop l.place (map room_entry
-      l.initial.rooms.items);
+  changed : map room_entry l.rooms.items
+      ≡ each_changed (moved_channel l.taken (sought_key l.old) l.new)
+      (take l.place (map room_entry l.initial.rooms.items))
+      ++ drop l.place (map room_entry l.initial.rooms.items);
   as_long : length l.rooms.items ≡ length l.initial.rooms.items;
   enough : length l.initial.rooms.items ≤ length l.keys.items + l.place;
   copies : All (λ k. k.items ≡ l.new) l.keys.items;

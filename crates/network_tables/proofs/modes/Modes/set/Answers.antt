@@ -4,7 +4,8 @@ use Rattle.std.specs.List.{insert}
 use Rattle.std.specs.Cmp.{nat_cmp_total}
 use Rattle.std.specs.Ordering.{nat_cmp}
 use Rattle.network_tables.specs.Modes.{mode_of, modes_of}
-use Rattle.network_tables.proofs.TableLemmas.{put_there, sorted_put, sorted_inserted, inserted_there}
+use Rattle.network_tables.proofs.TableLemmas.{put_there, sorted_put, sorted_inserted}
+use Rattle.network_tables.proofs.TableLemmas.{inserted_there}
 use Rattle.network_tables.proofs.modes.Modes.set.Goals as goal
 
 pub invariant_of-self : goal.invariant_of-self

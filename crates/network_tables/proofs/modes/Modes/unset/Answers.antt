@@ -3,7 +3,8 @@ use Rattle.std.specs.FinMap as fin
 use Rattle.std.specs.Cmp.{nat_cmp_total}
 use Rattle.std.specs.Ordering.{nat_cmp}
 use Rattle.network_tables.specs.Modes.{mode_of, modes_of}
-use Rattle.network_tables.proofs.TableLemmas.{got_none, removed_none_of, sorted_removed, removed_there}
+use Rattle.network_tables.proofs.TableLemmas.{got_none, removed_none_of, sorted_removed}
+use Rattle.network_tables.proofs.TableLemmas.{removed_there}
 use Rattle.network_tables.proofs.modes.Modes.unset.Goals as goal
 
 pub invariant_of-self : goal.invariant_of-self

@@ -19,9 +19,11 @@ invariant_of-self g c =
     let len = c.insert_reserved-cell.ensures.len in
     let capacity = c.insert_reserved-cell.ensures.capacity in
     record {
-      tied = put_tied index cells tied c.insert.new.self.all c.insert_reserved-cell.new.self key cell
-          known (none_there index cells tied key (ap (λ t. fin.get t.all key) c.self.view_is ∙
-          c.requires.none)) c.insert_reserved-cell.ensures.was_vacant refl (c.insert.ensures.all
+      tied = put_tied index cells tied c.insert.new.self.all c.insert_reserved-cell.new.self key
+          cell known
+          (none_there index cells tied key
+          (ap (λ t. fin.get t.all key) c.self.view_is ∙ c.requires.none))
+          c.insert_reserved-cell.ensures.was_vacant refl (c.insert.ensures.all
           ∙ ap (λ e. fin.insert index e.key.items cell) c.deref_mut.ensures.value
           ∙ ap (λ k. fin.insert index k cell) c.args.fresh.same)
           c.insert_reserved-cell.ensures.updates;

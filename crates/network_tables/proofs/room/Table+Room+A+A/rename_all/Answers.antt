@@ -12,7 +12,8 @@ use Rattle.network_tables.proofs.room.Table+Room+A+A.rename_all.Goals as goal
 
 pub invariant_of-self : goal.invariant_of-self
 invariant_of-self g c =
-    each_sorted (moved_channel c.args.taken (sought_key c.args.old) c.args.new.now) c.self.inside.entries.items
+    each_sorted (moved_channel c.args.taken (sought_key c.args.old) c.args.new.now)
+    c.self.inside.entries.items
     c.rename_each.new.rooms.items c.self.invariant c.rename_each.ensures
 
 pub returns : goal.returns

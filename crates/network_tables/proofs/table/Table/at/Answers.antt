@@ -1,4 +1,5 @@
-use Rattle.std.proofs.Common.{Some, None, sym, ap, ◌∙◌, ◌≡◌, ◌≤◌, ℕ, List, [], ◌∷◌, length, zero, suc, refl, arith}
+use Rattle.std.proofs.Common.{Some, None, sym, ap, ◌∙◌, ◌≡◌, ◌≤◌, ℕ, List, [], ◌∷◌, length, zero}
+use Rattle.std.proofs.Common.{suc, refl, arith}
 use Rattle.std.specs.List.{slice_get}
 use Rattle.std.proofs.lemmas.Option.{slice_get_read}
 use Rattle.std.specs.FinMap as fin
