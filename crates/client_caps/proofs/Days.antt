@@ -26,7 +26,12 @@ next_day : (n y m d : ℕ) → days_from_civil (pos y) m d ≡ pos n → IsInRan
     → d < days_in_month (pos y) m
     → IsDay (suc n) (record { year = y; month = m; day = d + 1 })
 next_day n y m d e month first lt = record {
-  number = omega (arith, signed_arith, e, days_from_civil-day (pos y) m d (d + 1) first (omega arith));
+  number = omega (
+    arith,
+    signed_arith,
+    e,
+    days_from_civil-day (pos y) m d (d + 1) first (omega arith),
+  );
   month = month;
   day = (omega arith, omega (arith, lt));
 }
@@ -46,7 +51,13 @@ next_year n y m d e twelve last =
     let d31 : d ≡ 31 = last ∙ ap (days_in_month (pos y)) twelve ∙ long in
     let e' : days_from_civil (pos y) 12 31 ≡ pos n = rw (← twelve, ← d31) e in
     record {
-      number = omega (arith, signed_arith, e', days_from_civil-next_year (pos y) (pos (y + 1)) (omega (arith, signed_arith)) (omega (arith, signed_arith)));
+      number = omega (
+        arith,
+        signed_arith,
+        e',
+        days_from_civil-next_year (pos y) (pos (y + 1)) (omega (arith, signed_arith))
+            (omega (arith, signed_arith)),
+      );
       month = (omega arith, omega arith);
       day = (omega arith, omega (arith, days_in_month_bounds (pos (y + 1)) 1));
     }
@@ -82,7 +93,13 @@ day_after_is n date is =
 
 pub days_count : (n : ℕ) → IsDay n (date_of n)
 unfolding date_of
-days_count zero = record { number = omega (arith, signed_arith, days_from_civil-day_count (pos 1970) 1 1, day_count-epoch); month = (omega arith, omega arith); day = (omega arith, omega arith) }
+days_count zero =
+    record {
+      number =
+          omega (arith, signed_arith, days_from_civil-day_count (pos 1970) 1 1, day_count-epoch);
+      month = (omega arith, omega arith);
+      day = (omega arith, omega arith);
+    }
 days_count (suc n) = day_after_is n (date_of n) (days_count n)
 
 -- the calendar's dates go by their day numbers
@@ -91,22 +108,50 @@ pub same_day : (n : ℕ) (date : Date) (y : ℤ) (m d : ℕ) → IsDay n date �
 same_day n date y m d is civil e =
     let count = days_from_civil-day_count y m d in
     let count' = days_from_civil-day_count (pos date.year) date.month date.day in
-    let one : day_count y m d ≡ day_count (pos date.year) date.month date.day = omega (arith, signed_arith, e, is.number) in
+    let one : day_count y m d ≡ day_count (pos date.year) date.month date.day =
+    omega (arith, signed_arith, e, is.number) in
     by_lt_z y (pos date.year)
-    (λ lt. absurd (omega (arith, one, day_count-lt_year y m d (pos date.year) date.month date.day civil is.day.0 lt)))
-    (λ ge. let year : IsYear (pos date.year) = (omega (arith, signed_arith, civil.0), omega (arith, signed_arith, civil.0)) in
+    (λ lt. absurd (omega (
+      arith,
+      one,
+      day_count-lt_year y m d (pos date.year) date.month date.day civil is.day.0 lt,
+    )))
+    (λ ge. let year : IsYear (pos date.year) =
+    (omega (arith, signed_arith, civil.0), omega (arith, signed_arith, civil.0)) in
     let civil' : IsCivilDate (pos date.year) date.month date.day = (year, is.month, is.day) in
     by_lt_z (pos date.year) y
-    (λ gt. absurd (omega (arith, one, day_count-lt_year (pos date.year) date.month date.day y m d civil' civil.2.0 gt)))
+    (λ gt. absurd (omega (
+      arith,
+      one,
+      day_count-lt_year (pos date.year) date.month date.day y m d civil' civil.2.0 gt,
+    )))
     (λ le. let years : y ≡ pos date.year = omega (arith, signed_arith) in
-    let one' : day_count y m d ≡ day_count y date.month date.day = one ∙ ap (λ z. day_count z date.month date.day) (sym years) in
-    let civil'' : IsCivilDate y date.month date.day = subst (λ z. IsCivilDate z date.month date.day) (sym years) civil' in
+    let one' : day_count y m d ≡ day_count y date.month date.day =
+    one ∙ ap (λ z. day_count z date.month date.day) (sym years) in
+    let civil'' : IsCivilDate y date.month date.day =
+    subst (λ z. IsCivilDate z date.month date.day) (sym years) civil' in
     elim (cases_order m date.month) [
-      | inr (inl lt) ↦ absurd (omega (arith, one', day_count-lt_month y m d date.month date.day civil is.day.0 lt))
+      | inr (inl lt) ↦
+          absurd (omega (
+            arith,
+            one',
+            day_count-lt_month y m d date.month date.day civil is.day.0 lt,
+          ))
       | inl months ↦
-          let days : d ≡ date.day = omega (arith, one', ap (λ k. day_count y k date.day) months, day_count-day y m d date.day civil.2.0 is.day.0) in
+          let days : d ≡ date.day =
+          omega (
+            arith,
+            one',
+            ap (λ k. day_count y k date.day) months,
+            day_count-day y m d date.day civil.2.0 is.day.0,
+          ) in
           (years, months, days)
-      | inr (inr gt) ↦ absurd (omega (arith, one', day_count-lt_month y date.month date.day m d civil'' civil.2.0 gt))
+      | inr (inr gt) ↦
+          absurd (omega (
+            arith,
+            one',
+            day_count-lt_month y date.month date.day m d civil'' civil.2.0 gt,
+          ))
     ]))
 
 -- so the calendar's date of a day number is the one that is counted to

@@ -1,5 +1,5 @@
--- What the words of a name list tell: the members that they list, and with the highest symbols alone
--- the same persons with their highest ranks alone.
+-- What the words of a name list tell: the members that they list, and with the highest symbols
+-- alone the same persons with their highest ranks alone.
 use Rattle.std.specs.Prelude.{◌≡◌, ℕ, List, [], ◌∷◌, map, take}
 use Rattle.std.specs.List.{AllByRecursion, cons_option, filter_map, join_with_byte}
 use Rattle.std.specs.Option.{option_map}

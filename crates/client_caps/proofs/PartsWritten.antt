@@ -192,7 +192,8 @@ account_word (Some text) known f k =
       | true ↦ λ e. (sym (same_words text) ∙ e, f)
       | false ↦ λ e. fallback known k
     ] refl where
-      fallback : (known : Option Text) → IfSome known (λ a. (is_word a ≡ true) × (is_clean a ≡ true))
+      fallback : (known : Option Text)
+          → IfSome known (λ a. (is_word a ≡ true) × (is_clean a ≡ true))
           → (is_word (unwrap_or known (codes "*")) ≡ true)
           × (is_clean (unwrap_or known (codes "*")) ≡ true)
       fallback None k = (refl, refl)
@@ -243,7 +244,8 @@ join_written v caps line channel sound clean params at is =
           ≡ true) [
             | true ↦ params
             | false ↦ ap (λ x. (x && is_clean channel)
-                && ((is_word (account_joined v line) && is_clean (account_joined v line)) && true)) w
+                && ((is_word (account_joined v line) && is_clean (account_joined v line))
+                && true)) w
                 ∙ ap (λ x. x
                 && ((is_word (account_joined v line) && is_clean (account_joined v line))
                 && true)) c

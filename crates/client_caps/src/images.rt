@@ -258,13 +258,14 @@ fn sent_as<V: NetworkView, A: Allocator, B: Allocator + Copy + Drop>(
 /// | PING, PONG, ERROR, CAP, BATCH, AUTHENTICATE | nothing |
 /// | ACCOUNT without account-notify, AWAY without away-notify | nothing |
 /// | JOIN of a channel, without extended-join | `:bob!b@h JOIN #c` |
-/// | the same, with extended-join, of one or two parameters | `:bob!b@h JOIN #c bobacc :`, with the account that the line names, else the one known, else `*` |
+/// | the same, with extended-join, of one or two parameters | `:bob!b@h JOIN #c bobacc :` |
 /// | `353`, without multi-prefix | each word with the highest of its symbols alone |
 /// | any other | the line |
 ///
-/// Tags of the network go; with server-time the tag `time` comes, as
-/// `@time=2020-01-02T03:04:05.678Z :bob!b@h PRIVMSG #c hi`: the line's own time, where it has one of
-/// that form, else the moment (IRCv3 multi-prefix, extended-join, account-notify, away-notify,
+/// The account of such a JOIN is the one that the line names, else the one known, else `*`. Tags of
+/// the network go; with server-time the tag `time` comes, as
+/// `@time=2020-01-02T03:04:05.678Z :bob!b@h PRIVMSG #c hi`: the line's own time, where it has one
+/// of that form, else the moment (IRCv3 multi-prefix, extended-join, account-notify, away-notify,
 /// server-time). A line that is sent as it is takes one allocation. `OutOfMemory` is told where an
 /// allocation was refused, and for no other cause.
 pub fn image<V: NetworkView, A: Allocator, B: Allocator + Copy + Drop>(

@@ -41,7 +41,8 @@ returns-then-caps g c =
     let time = time_text_of c.args.moment.0 in
     let line = c.args.line.now in
     let params = image_params v c.args.caps line in
-    ap Some (c.in_ok-sent_as.ensures ∙ ap (λ tags. line_of_parts tags line.source line.command params)
+    ap Some (c.in_ok-sent_as.ensures
+    ∙ ap (λ tags. line_of_parts tags line.source line.command params)
     (ap Some c.time_tag-tag.ensures ∙ timed c.args.caps time line c.if-caps.true))
     ∙ sym (image_passed v c.args.caps time line
     (sym c.is_passed_on.ensures.value ∙ c.if-not-is_passed_on.false))
