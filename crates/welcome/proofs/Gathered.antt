@@ -376,7 +376,8 @@ persons_gathered v sound mapping is all sorted each whole moved rising once =
     let es = map (keyed s) (dedup (is_one s) sorted) in
     let one : fin.from_sorted {R = bytes_cmp} es ≡ v.people =
     fin.same_map nat_list_cmp_total bytes_exact (fin.from_sorted es) v.people (λ n.
-    fin.get-from_sorted bytes_cmp es n in_order ∙ found_as v n (dedup (is_one s) sorted) known (there n)) in
+    fin.get-from_sorted bytes_cmp es n in_order
+    ∙ found_as v n (dedup (is_one s) sorted) known (there n)) in
     let entries_are : es ≡ fin.entries v.people =
     sym (fin.entries-from_sorted bytes_cmp es in_order) ∙ ap fin.entries one in
     ap (map person_lent) (once ∙ ap (λ m. dedup (lent.is_one m) sorted) is)

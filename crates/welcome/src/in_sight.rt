@@ -82,8 +82,8 @@ fn persons_of<'v, V: NetworkView, A: Allocator>(
     Ok(persons)
 }
 
-/// Adds what tells a client of the persons in sight, in the order of their keys. Nothing is gathered
-/// for a client that is told nothing of persons.
+/// Adds what tells a client of the persons in sight, in the order of their keys. Nothing is
+/// gathered for a client that is told nothing of persons.
 pub fn push_in_sight<V: NetworkView, A: Allocator + Copy>(
     text: &mut Vec<u8, A>,
     view: &V,

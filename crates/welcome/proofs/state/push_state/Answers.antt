@@ -13,7 +13,8 @@ returns g c =
     let v = g.V.NetworkView.view c.args.view.now in
     let caps = c.args.caps in
     let text = c.args.text.now.items in
-    said_all text c.push_network.new.text.items c.push_in_sight.new.text.items (network_lines v caps)
+    said_all text c.push_network.new.text.items c.push_in_sight.new.text.items
+    (network_lines v caps)
     (flat_map (λ e. person_lines caps e.1) (entries v.people)) c.in_ok-push_network.ensures
     c.in_ok-push_in_sight.ensures
     ∙ ap (λ ls. text ++ flat_map written ls) (state_whole v caps)
