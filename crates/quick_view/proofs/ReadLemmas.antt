@@ -12,7 +12,8 @@ use Rattle.irc_support.specs.Settings.{key_by}
 use Rattle.net_view.specs.Names.{bytes_cmp}
 use Rattle.net_view.specs.View.{Channel, View}
 use Rattle.net_view.specs.Step.{old_member}
-use Rattle.net_view.specs.Readers.{channels_shown, channel_shown, member_shown, member_parts, MemberParts, account_shown, known_at}
+use Rattle.net_view.specs.Readers.{channels_shown, channel_shown, member_shown, member_parts}
+use Rattle.net_view.specs.Readers.{MemberParts, account_shown, known_at}
 use Rattle.net_view.proofs.AfterAlike.{IsKnowing, view_knowing}
 use Rattle.quick_view.specs.FromLines.{ComesFromLines}
 use Rattle.net_view.proofs.AfterMaps.{seen_in}

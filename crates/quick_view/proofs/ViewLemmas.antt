@@ -244,7 +244,8 @@ modes_are v sets known c modes ms cs cs_is ms_are =
             ready = v.ready;
             settings = v.settings;
             channels = (cs_is ∙
-                ap (λ o. option_map_or (λ x. fin.insert v.channels c (with_modes ms x)) o v.channels)
+                ap (λ o. option_map_or
+                (λ x. fin.insert v.channels c (with_modes ms x)) o v.channels)
                 e) i;
             people = v.people;
           })
@@ -255,7 +256,8 @@ modes_are v sets known c modes ms cs cs_is ms_are =
             ready = v.ready;
             settings = v.settings;
             channels = (cs_is ∙
-                ap (λ o. option_map_or (λ x. fin.insert v.channels c (with_modes ms x)) o v.channels)
+                ap (λ o. option_map_or
+                (λ x. fin.insert v.channels c (with_modes ms x)) o v.channels)
                 e) i;
             people = v.people;
           })

@@ -22,7 +22,8 @@ pub struct QuickView<A: Allocator = Global> {
     state: State<A>,
 }
 
-// By hand, so that whoever owns a view proves one call where it goes, and not the way of each field.
+// By hand, so that whoever owns a view proves one call where it goes, and not the way of each
+// field.
 impl<A: Allocator> Drop for QuickView<A> {
     fn drop(self) {
         let QuickView { state: _state } = self;

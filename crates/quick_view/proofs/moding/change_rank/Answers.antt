@@ -22,7 +22,8 @@ returns-in_default-get_near g c = λ n.
     (sym c.in-Some.is ∙ c.rank_of_letter.ensures.value)
     (ap (option_map (λ t. t.now)) (sym c.in-Some-param.is))
     (sym c.if-not-is_nameable.false ∙ c.is_nameable.ensures) c.mapping.ensures in
-    rank_none l m (ap (option_map (λ t. t.now)) (sym c.in_default-get_near.is) ∙ c.get_near.ensures) n
+    rank_none l m (ap (option_map (λ t. t.now)) (sym c.in_default-get_near.is) ∙ c.get_near.ensures)
+    n
     ∙ ap (λ o. option_map (rank_after o n) (fin.get m n)) said
 
 pub returns : goal.returns

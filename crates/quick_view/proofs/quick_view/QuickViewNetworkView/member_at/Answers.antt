@@ -53,6 +53,7 @@ returns g c =
       nick = ap Some c.as_slice.ensures.value ∙ ap (option_map (λ (m : MemberParts). m.nick)) shown;
       ranks = ap (option_map (λ (m : MemberParts). m.ranks)) shown;
       account = ap Some c.bytes.ensures ∙ ap (option_map (λ (m : MemberParts). m.account)) shown;
-      away = ap Some c.bytes-in-Some-get_near.ensures ∙ ap (option_map (λ (m : MemberParts). m.away))
+      away = ap Some c.bytes-in-Some-get_near.ensures
+          ∙ ap (option_map (λ (m : MemberParts). m.away))
           shown;
     }

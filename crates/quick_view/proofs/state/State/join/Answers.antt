@@ -34,7 +34,8 @@ returns-clause-taken g c =
     (contains-shown bytes_cmp channel_of c.args.self.now.rooms.all chan
     ∙ sym c.contains_near.ensures ∙ c.if-not-contains_near.false)
     (c.in_ok-seat.ensures.added
-    ∙ ap (λ e. changed_at (rooms_of c.args.self.now.rooms.all) chan (with_ranks e.key.items e.value))
+    ∙ ap (λ e. changed_at (rooms_of c.args.self.now.rooms.all) chan
+    (with_ranks e.key.items e.value))
     c.deref_mut.ensures.value
     ∙ (λ i. changed_at (rooms_of c.args.self.now.rooms.all) chan (with_ranks
     (c.in_ok-member.ensures.key i)

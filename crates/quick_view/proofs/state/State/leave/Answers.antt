@@ -36,7 +36,8 @@ returns-else-is_some g c known =
     bytes_exact c.args.self.now.rooms.all k in
     let none : fin.get v.channels k ≡ None =
     sym (none_is channel_of c.args.self.now.rooms.all k (ap is_some (sym c.remove.ensures.value) ∙
-    shown_some (λ e. e.value.value) c.remove.result ∙ sym c.is_some.ensures ∙ c.if-is_some.false)) in
+    shown_some (λ e. e.value.value) c.remove.result ∙ sym c.is_some.ensures
+    ∙ c.if-is_some.false)) in
     (λ i. record v {
       channels = cs i;
       people = all_still_seen v.channels v.people v.people (is_seen (fin.remove v.channels k)) refl

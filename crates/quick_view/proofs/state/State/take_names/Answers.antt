@@ -48,7 +48,8 @@ returns-in-Err-clause-kept g c =
     let cs = put_back channel_of c.args.self.now.rooms.all c.swap.new.self.all
     c.swap-in-Err.new.self.all k
     c.no_room-room.result old (record old { members = c.reserve-2.new.self })
-    (sym c.contains_near.ensures ∙ c.if-not-contains_near.false) c.swap.ensures.all c.swap.ensures.value
+    (sym c.contains_near.ensures ∙ c.if-not-contains_near.false) c.swap.ensures.all
+    c.swap.ensures.value
     c.swap-in-Err.ensures.all
     (λ i. record (channel_of old) { members = c.in-Err.ensures.all i }) in
     λ i. record (view_kept c.args.self.now) {
