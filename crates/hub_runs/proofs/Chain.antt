@@ -49,7 +49,8 @@ happen_more (d ∷ es) (q ∷ rs) e r a b c all one =
     (all.0, all.1, happen_more es rs e r all.0 b c all.2 one)
 
 -- what there is between events
-pub record Standing (start : WorldState) (events : List Event) (replies : List Reply) (w : WorldState) : Type 0 where
+pub record Standing (start : WorldState) (events : List Event) (replies : List Reply)
+    (w : WorldState) : Type 0 where
   pub rests : Rests start events replies w.hub
   pub base : List Came
   pub pieces : List Piece
@@ -83,7 +84,8 @@ module _ (start : WorldState) (events : List Event) (replies : List Reply) (w w'
 
   -- an event that brings nothing from the network
   still : (e : Event) (r : Reply) → Happens e r w w'
-      → ((more : List Event) → transcript_after s.pieces (e ∷ more) ≡ transcript_after s.pieces more)
+      → ((more : List Event)
+      → transcript_after s.pieces (e ∷ more) ≡ transcript_after s.pieces more)
       → w'.rest ≡ w.rest → Stands start (events ++ e ∷ []) (replies ++ r ∷ []) w.hub w'.hub
       → Standing start (events ++ e ∷ []) (replies ++ r ∷ []) w'
   still e r happens quiet rest k = record {
@@ -107,7 +109,8 @@ module _ (start : WorldState) (events : List Event) (replies : List Reply) (w w'
       let e = on.Up bytes moment in
       let r = reply.Up pumped in
       let p : Piece = (bytes.items, moment.0) in
-      let all = items_go start (events ++ e ∷ []) (replies ++ r ∷ []) w.hub _ _ w'.hub (later e r) h.1 in
+      let all = items_go start (events ++ e ∷ []) (replies ++ r ∷ []) w.hub _ _ w'.hub
+      (later e r) h.1 in
       record {
         rests = all.rests;
         base = s.base;
@@ -132,7 +135,8 @@ module _ (start : WorldState) (events : List Event) (replies : List Reply) (w w'
       let e = on.Lost moment in
       let r = reply.Lost pumped in
       let x : Came = (Lost, moment.0) in
-      let one = item_goes start (events ++ e ∷ []) (replies ++ r ∷ []) w.hub x pumped w'.hub (later e r) h.0 in
+      let one = item_goes start (events ++ e ∷ []) (replies ++ r ∷ []) w.hub x pumped w'.hub
+      (later e r) h.0 in
       record {
         rests = one.rests;
         base = (s.base ++ lines_came s.pieces) ++ x ∷ [];
@@ -149,7 +153,8 @@ module _ (start : WorldState) (events : List Event) (replies : List Reply) (w w'
   -- a client attached
   attached : (caps : Caps) (name : Option (Vec ℕ Global)) (capacity id : ℕ)
       → Happens (on.Attach caps name capacity) (reply.Attach (Ok id)) w w'
-      → Stands start (events ++ on.Attach caps name capacity ∷ []) (replies ++ reply.Attach (Ok id) ∷ [])
+      → Stands start (events ++ on.Attach caps name capacity ∷ [])
+      (replies ++ reply.Attach (Ok id) ∷ [])
       w.hub w'.hub
   attached caps name capacity id h =
       let a = h.0 in
@@ -246,7 +251,8 @@ goes_on start events replies w s _ _ w' h = absurd h
 
 -- ---- where a run stops
 
-pub record Ends (start : WorldState) (events : List Event) (replies : List Reply) (taken : List Came) (h : HubState) : Type 0 where
+pub record Ends (start : WorldState) (events : List Event) (replies : List Reply)
+    (taken : List Came) (h : HubState) : Type 0 where
   pub heard_all : heard h ≡ arrivals (transcript_of events ++ taken)
   pub each : EachHasAttached start events replies (heard h) h.sessions
 
@@ -273,7 +279,8 @@ ends_held start events replies h taken x e new r t refuses =
       | inr holds ↦ (let now : new.taken ≡ h.taken ++ holds.item ∷ [] =
           holds.comes.taken ∙ ap (λ o. h.taken ++ cond (is_some o) [] (holds.item ∷ [])) r.held in
           let told : heard new ≡ arrivals h.taken =
-          ap (λ o. arrivals (less new.taken o)) holds.held ∙ heard_still h.taken holds.item new.taken now in
+          ap (λ o. arrivals (less new.taken o)) holds.held
+          ∙ heard_still h.taken holds.item new.taken now in
           record {
             heard_all = told ∙ ap arrivals t;
             each = subst (λ l. EachHasAttached start events replies l new.sessions) (sym told)

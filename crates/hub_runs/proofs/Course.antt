@@ -100,7 +100,8 @@ module _ (capacity first : ℕ) where
   Plain d =
       (id : ℕ) (ds : List Deed)
       → (packets capacity first id (d ∷ ds) ≡ packets capacity first id ds
-      ++ option_to_list (option_and_then (λ j. given_to (view_then ds) id j.1 d) (joined_as id ds))) ×
+      ++ option_to_list (option_and_then (λ j. given_to (view_then ds) id j.1 d)
+      (joined_as id ds))) ×
       (joined_as id (d ∷ ds) ≡ joined_as id ds)
 
   pub plain_took : (x : _) → Plain (Took x)

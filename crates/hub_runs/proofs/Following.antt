@@ -160,7 +160,8 @@ module _ (capacity first up : ℕ) where
         held = w.same.2 ∙ f.held;
         ahead = w.same.1 ∙ f.ahead;
         seen = ap (λ l. reverse (arrivals l)) w.same.0 ∙ f.seen;
-        sent = each_given capacity first (Spoke id line moment) ds (given_others h id own) h.sessions
+        sent = each_given capacity first (Spoke id line moment) ds
+            (given_others h id own) h.sessions
             new.sessions (course.plain_spoke capacity first id line moment)
             (λ s. others_are h id s own
             ∙ ap (λ v. cond (id == s.id) None
@@ -173,7 +174,8 @@ module _ (capacity first up : ℕ) where
         apart = apart_delivered true _ h.sessions new.sessions f.apart w.sessions;
         history = w.history
             ∙ (ap (λ v. with_entry h.history (entry_said (message_said v line moment))) view
-            ∙ (ap (λ m. with_entry m (entry_said (message_said (view_then ds) line moment))) f.history
+            ∙ (ap (λ m. with_entry m (entry_said (message_said (view_then ds) line moment)))
+            f.history
             ∙ entry_more capacity first (messages ds)
             (entry_said (message_said (view_then ds) line moment))
             (λ some. subst (λ (m : Messages). IsSome m.next) f.history
@@ -233,7 +235,8 @@ module _ (capacity first up : ℕ) where
         sent = each_append (IsSent capacity first (d ∷ ds)) a.front (with_outlet a.here o ∷ a.back)
             (others_quiet ds id line a.front (front_others id a.front a.first)
             (each_front S a.front (a.here ∷ a.back) each)) (
-              given_on capacity first d ds a.here o (course.plain_asked capacity first id line) rest.0
+              given_on capacity first d ds a.here o
+                  (course.plain_asked capacity first id line) rest.0
                   (subst (λ b. Sends true a.here.outlet
                   (cond b (answer_by (meaning line) (view_then ds) a.here.caps line) None) o)
                   (sym here) sends),
@@ -295,7 +298,8 @@ module _ (capacity first up : ℕ) where
       let fine = subst (AllByRecursion F) d.was f.fine in
       let gone = each_back S d.front (d.gone ∷ d.back) each in
       let gone_fine = each_back F d.front (d.gone ∷ d.back) fine in
-      let some = each_append S d.front d.back (each_front S d.front (d.gone ∷ d.back) each) gone.1 in
+      let some = each_append S d.front d.back
+      (each_front S d.front (d.gone ∷ d.back) each) gone.1 in
       let joined : joined_as id ds ≡ Some (d.gone.name, d.gone.caps) =
       ap (λ k. joined_as k ds) (sym d.number) ∙ gone.0.1 in
       subst (Followed (Left id ∷ ds)) (sym d.is) (record {
@@ -305,14 +309,16 @@ module _ (capacity first up : ℕ) where
         sent = each_quiet capacity first (λ s. Unit {0}) (Left id) ds (d.front ++ d.back)
             (course.plain_left capacity first id) (λ s t. refl) (all_so (d.front ++ d.back)) some;
         fine = marked_fine h.marks h.next d.gone.name (last_number h.history) (d.front ++ d.back)
-            (each_append F d.front d.back (each_front F d.front (d.gone ∷ d.back) fine) gone_fine.1);
+            (each_append F d.front d.back
+            (each_front F d.front (d.gone ∷ d.back) fine) gone_fine.1);
         apart = apart_without d.front d.gone d.back (subst Apart d.was f.apart);
         history = f.history ∙ kept_still ds;
         ups = ups_quiet up (Left id) ds h.upstream refl refl f.ups;
         marks = λ name.
             marked_mark h.marks d.gone.name (last_number h.history) name gone_fine.0.known
             ∙ (ap (mark_left name d.gone.name (last_number h.history)) (f.marks name)
-            ∙ (ap (λ m. mark_left name d.gone.name (last_number m) (mark_then capacity first name ds))
+            ∙ (ap (λ m. mark_left name d.gone.name (last_number m)
+            (mark_then capacity first name ds))
             f.history
             ∙ ap (λ j. mark_left name (option_and_then (λ j. j.0) j)
             (last_number (kept_then capacity first ds)) (mark_then capacity first name ds))
@@ -332,7 +338,8 @@ module _ (capacity first up : ℕ) where
       let other : (id == s.id) ≡ false = is_other s.id id fine.0.below in (
         (
           each.0.0
-              ∙ ap (λ b. cond b (burst_of (view_then ds) caps (missed_then capacity first name ds) ∷ [])
+              ∙ ap (λ b. cond b (burst_of (view_then ds) caps (missed_then capacity first name ds)
+              ∷ [])
               (packets capacity first s.id ds)) (sym other),
           ap (λ b. cond b (Some (name, caps)) (joined_as s.id ds)) other ∙ each.0.1,
         ),

@@ -47,7 +47,8 @@ use Rattle.hub_runs.proofs.Told.{each_append, each_back, each_front, each_told_i
 use Rattle.hub_runs.proofs.Told.{each_told_unread, told_same, told_unread}
 
 -- what there is between calls
-pub record Rests (start : WorldState) (events : List Event) (replies : List Reply) (h : HubState) : Type 0 where
+pub record Rests (start : WorldState) (events : List Event) (replies : List Reply)
+    (h : HubState) : Type 0 where
   pub held : h.held ≡ None
   pub ahead : h.ahead ≡ []
   pub messages : AreMessages h.history.kept
@@ -63,7 +64,8 @@ pub record Took (h : HubState) (x : Came) (new : HubState) : Type 0 where
   pub held : new.held ≡ None
   pub ahead : new.ahead ≡ []
   pub taken : new.taken ≡ h.taken ++ x ∷ []
-  pub sessions : Delivered true (λ s. packet_for (view_of (arrivals h.taken)) x s.caps) h.sessions new.sessions
+  pub sessions : Delivered true
+      (λ s. packet_for (view_of (arrivals h.taken)) x s.caps) h.sessions new.sessions
   pub history : new.history ≡ with_entry h.history (entry_for x)
 
 -- the item that comes is the one that was put
@@ -177,7 +179,8 @@ module _ (start : WorldState) (events : List Event) (replies : List Reply) where
           messages = r.messages;
           each = each_append _ a.around.front _
               (each_front _ a.around.front (s ∷ a.around.back) each) (
-                told_unread start events replies true (arrivals h.taken) s (answer_packet (view_now h).own s line)
+                told_unread start events replies true (arrivals h.taken) s
+                    (answer_packet (view_now h).own s line)
                     a.given here.0 (answer_unread (view_now h).own s.caps line (asked line)) a.sent,
                 here.1,
               );

@@ -208,7 +208,8 @@ later_on start events replies items e r s h = record {
   name = h.name;
   capacity = h.capacity;
   later = h.later ++ e ∷ [];
-  events_are = one_longer events h.before (on.Attach s.caps h.name h.capacity) h.later e h.events_are;
+  events_are =
+      one_longer events h.before (on.Attach s.caps h.name h.capacity) h.later e h.events_are;
   told = h.told;
   after = h.after ++ r ∷ [];
   replies_are = one_longer replies h.told (reply.Attach (Ok s.id)) h.after r h.replies_are;
@@ -226,5 +227,7 @@ pub each_later : (start : WorldState) (events : List Event) (replies : List Repl
     → EachHasAttached start events replies items ss
     → EachHasAttached start (events ++ e ∷ []) (replies ++ r ∷ []) items ss
 each_later start events replies items e r [] each = tt
-each_later start events replies items e r (s ∷ ss) each =
-    (later_on start events replies items e r s each.0, each_later start events replies items e r ss each.1)
+each_later start events replies items e r (s ∷ ss) each = (
+  later_on start events replies items e r s each.0,
+  each_later start events replies items e r ss each.1,
+)

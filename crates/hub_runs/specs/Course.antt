@@ -36,9 +36,9 @@ use Rattle.hub_runs.specs.Worlds.{lines_at, name_of}
 -- ---- what happened
 
 -- An item came from the network and was taken. A line of the session of a number, said at a moment,
--- went to the network. The session of a number asked something of us. A client of this name, if any,
--- and with these capabilities attached and got a number. The session of a number was detached. So
--- many packets were taken out of those for the network.
+-- went to the network. The session of a number asked something of us. A client of this name, if
+-- any, and with these capabilities attached and got a number. The session of a number was detached.
+-- So many packets were taken out of those for the network.
 pub data Deed : Type 0 where
   Took : Came → Deed
   Spoke : ℕ → Parts → ℕ → Deed
@@ -163,7 +163,8 @@ given_to v id caps (Spoke k line moment) =
 given_to v id caps (Asked k line) = cond (k == id) (answer_by (meaning line) v caps line) None
 given_to v id caps _ = None
 
--- the mark of a name, once a session of this one, if any, has seen the message of this number, if any
+-- the mark of a name, once a session of this one, if any, has seen the message of this number, if
+-- any
 abbrev pub mark_left : Text → Option Text → Option ℕ → Option ℕ → Option ℕ
 mark_left name (Some left) (Some number) before =
     cond (eq_by_cmp bytes_cmp name left) (Some number) before
@@ -187,8 +188,8 @@ module _ (capacity first : ℕ) where
   missed_then name deeds =
       missed_by (option_and_then (λ n. mark_then n deeds) name) (kept_then deeds)
 
-  -- The packets of a session: first the burst, of the view when it attached and of what its name had
-  -- missed then; and what it was given of all that happened since, each once.
+  -- The packets of a session: first the burst, of the view when it attached and of what its name
+  -- had missed then; and what it was given of all that happened since, each once.
   abbrev pub packets : ℕ → List Deed → List (List Parts)
   packets id [] = []
   packets id (Joined k name caps ∷ older) =

@@ -34,8 +34,8 @@ pub record Ran (start : WorldState) (events : List Event) (done : ℕ) (stopped_
   -- each session's client knows what is to be known since it attached
   pub late_attach : EachHasAttached start (take done events) replies (heard world.hub)
       world.hub.sessions
-  -- what each session and the network were sent, which messages are kept and what each name has seen
-  -- is what all that happened says
+  -- what each session and the network were sent, which messages are kept and what each name has
+  -- seen is what all that happened says
   pub course : Follows start.hub (with_items (course_of (take done events) replies) taken) world.hub
   -- the numbers of sessions rise by one from the first, so none was given twice
   pub numbers : (first : ℕ) → start.hub.next ≡ Some first

@@ -11,4 +11,5 @@ invariant-loop-line g l = (goal.iterator-loop-line g).can_next l.line-iterator
     × DrainKeeps l.initial.line-iterator l.line-iterator
     × (l.yielded ++ drain_items l.line-iterator ≡ l.fn.lines.items)
     × (vec_len l.pumped + length (drain_items l.line-iterator) ≤ vec_capacity l.pumped)
-    × TakesAll l.initial.hub (map (λ line. (Received line, l.moment.0)) l.yielded) l.pumped.items l.hub
+    × TakesAll l.initial.hub
+    (map (λ line. (Received line, l.moment.0)) l.yielded) l.pumped.items l.hub

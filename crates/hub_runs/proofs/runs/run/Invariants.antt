@@ -9,7 +9,8 @@ invariant-loop-event g l = record {
   count : l.done ≡ l.event-index;
   room : vec_len l.world.replies + length l.events ≤ vec_capacity l.world.replies + l.event-index;
   stands : Standing
-      (beginning l.fn.setup.history l.fn.setup.first_number l.fn.setup.first_session l.fn.upstream_capacity)
+      (beginning l.fn.setup.history l.fn.setup.first_number l.fn.setup.first_session
+      l.fn.upstream_capacity)
       (take l.event-index l.events) l.world.replies.items
       (world_of l.world.hub l.world.splitter.rest (outlets_of l.world.gone.items));
 }
