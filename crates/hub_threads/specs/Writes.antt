@@ -1,5 +1,6 @@
 -- What a thread that writes packets did.
-use Rattle.std.specs.Prelude.{◌≡◌, ℕ, List, ◌++◌, Option, Some, Bool, true, Result, Ok, Err, length, take}
+use Rattle.std.specs.Prelude.{◌≡◌, ℕ, List, ◌++◌, Option, Some, Bool, true, Result, Ok, Err, length}
+use Rattle.std.specs.Prelude.{take}
 use Rattle.std.specs.Prelude.{IsSome, ◌⊎◌, ◌≤◌}
 use Rattle.std.specs.List.{flat_map}
 use Rattle.std.specs.Io.KnownBytes.{Appends}

@@ -152,7 +152,8 @@ impl OutletEnd {
     /// Whether nothing more is to be written: so many takes in succession gave nothing, the closing
     /// item was taken, the other end is gone and nothing is left, or the writer is told to stop.
     pub(crate) fn is_over(&mut self, idle: u64) -> bool
-        ensures end { (items_of self.new ≡ items_of self.old) × (self.new.misses ≡ self.old.misses) }
+        ensures end { (items_of self.new ≡ items_of self.old)
+            × (self.new.misses ≡ self.old.misses) }
         ensures over { IsTrue result → IsOver self.new idle }
     {
         self.looks_left() || self.misses >= idle || self.closed.is_some()
@@ -160,7 +161,8 @@ impl OutletEnd {
 
     /// Whether the other end is gone and nothing is left, or the writer is told to stop.
     fn looks_left(&mut self) -> bool
-        ensures end { (items_of self.new ≡ items_of self.old) × (self.new.misses ≡ self.old.misses) }
+        ensures end { (items_of self.new ≡ items_of self.old)
+            × (self.new.misses ≡ self.old.misses) }
         ensures left { result ≡ self.new.left }
     {
         self.left = self.writer.is_raised()
