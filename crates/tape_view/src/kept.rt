@@ -1,19 +1,22 @@
 //! The kept state lines: each with what it tells of us, and of the settings.
 
-ghost use Rattle.std.specs.Prelude.{◌≡◌, Bool, false, List, option_map};
+ghost use Rattle.std.specs.Prelude.{◌≡◌, Bool, false, List, OnOk, OnErr, option_map};
 ghost use Rattle.std.specs.Option.{option_map_or};
 ghost use Rattle.irc_support.specs.Text.{Text};
 ghost use Rattle.irc_support.specs.Tokens.{Token};
 ghost use Rattle.irc_support.specs.Settings.{key_by};
 ghost use Rattle.net_view.specs.Names.{same};
-ghost use Rattle.net_view.specs.Transcript.{own_nick, is_ready, ready_after};
+ghost use Rattle.net_view.specs.Arrival.{Received};
+ghost use Rattle.net_view.specs.StateLines.{told};
+ghost use Rattle.net_view.specs.Transcript.{own_nick, is_ready, ready_after, standing};
+ghost use Rattle.net_view.specs.Transcript.{settings_of, settings_after};
 ghost use Rattle.net_view.specs.Tells.{meant};
 ghost use Rattle.tape_view.specs.Marks.{doer, own_said, person_named, us_of, IsMarked};
 ghost use Rattle.tape_view.specs.Kept.{tape_of, IsMarkedTape};
 
 use irc_line::Line;
 use irc_support::Support;
-use net_view::{StateCommand, Telling, told_as};
+use net_view::{OutOfMemory, StateCommand, Telling, told_as};
 use std::alloc::Allocator;
 
 /// Whether a line comes from us, and whether it names us, by our nick before it.
@@ -149,4 +152,31 @@ pub(crate) fn ready_in<A: Allocator>(kept: &[Kept<A>]) -> bool
         [_older @ .., last] => last.fixed,
         [] => false,
     }
+}
+
+/// Makes these settings, which were in force after these lines, the ones after a line that tells
+/// this. `OutOfMemory` is told before a change.
+pub(crate) fn take_settings<A: Allocator + Copy, B: Allocator>(
+    alloc: A,
+    support: &mut Support<A>,
+    kept: &[Kept<A>],
+    telling: &Telling<'_, B>,
+    line: &Line<B>,
+) -> Result<(), OutOfMemory>
+    requires marked { IsMarkedTape kept.now }
+    requires told { (settings : List Token) →
+        meant settings telling.now ≡ told settings (Received line.now) }
+    requires in_force { settings_of (tape_of kept.now) ≡ support.old }
+    ensures taken { OnOk result (support.new
+        ≡ settings_after (meant support.old telling.now) (standing (tape_of kept.now))) }
+    ensures kept { OnErr result (support.new ≡ support.old) }
+{
+    match telling {
+        Telling::Welcomed { .. } => *support = Support::new(alloc)?,
+        Telling::Supports { .. } if own_in(kept).is_some() && !ready_in(kept) => {
+            support.take(line)?
+        }
+        _ => (),
+    }
+    Ok(())
 }

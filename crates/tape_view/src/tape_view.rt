@@ -3,7 +3,7 @@
 ghost use Rattle.std.specs.Prelude.{◌≡◌, [], IfOk};
 
 use crate::facts::Fact;
-use crate::kept::{Kept, fixed_after, marks_of, own_in, ready_in};
+use crate::kept::{Kept, fixed_after, marks_of, own_in, ready_in, take_settings};
 use crate::name_count::with_named;
 use crate::places::Table;
 use crate::tape::Tape;
@@ -116,23 +116,12 @@ impl<A: Allocator + Copy> TapeView<A> {
         ensures kept { OnErr result (self.new ≡ self.old) }
     {
         let telling = told_as(command, line);
-        let kept = self.to_keep(command, line, &telling)?;
         let names = with_named(&self.support, &telling, self.names).ok_or(OutOfMemory)?;
-        match telling {
-            Telling::Welcomed { .. } => {
-                let support = Support::new(*self.kept.allocator())?;
-                self.kept.push(kept)?;
-                self.support = support;
-            }
-            Telling::Supports { .. } if own_in(&self.kept).is_some() && !ready_in(&self.kept) => {
-                self.kept.push(kept)?;
-                if let Err(refused) = self.support.take(line) {
-                    let _ = self.kept.pop();
-                    return Err(refused);
-                }
-            }
-            _ => self.kept.push(kept)?,
-        }
+        self.kept.reserve(1)?;
+        let kept = self.to_keep(command, line, &telling)?;
+        let alloc = *self.kept.allocator();
+        take_settings(alloc, &mut self.support, &self.kept, &telling, line)?;
+        self.kept.push_reserved(kept);
         self.names = names;
         Ok(())
     }
