@@ -90,21 +90,6 @@ supports_settings settings new l r x s tells supports in_force welcomed unready 
     ∙ ap (λ b. cond b (set_tokens settings l.params) settings) (sym command)
     ∙ sym is
 
--- where they don't, and where nothing else is told of them, they stay
-pub late_settings : {B : Type 0} (settings : List Token) (r : Telling B) (x : Bor Parts)
-    (s : Standing) → r ≡ telling.Supports x → (is_some s.own && not s.ready) ≡ false
-    → settings_after (meant settings r) s ≡ s.settings
-late_settings settings r x s supports e =
-    ap (λ t. settings_after (meant settings t) s) supports
-    ∙ ap (λ b. cond b (set_tokens s.settings x.now.params) s.settings) e
-
-pub idle_settings : {B : Type 0} (settings : List Token) (r : Telling B) (s : Standing)
-    → ((x : Bor Text) → r ≡ telling.Welcomed x → ⊥) → ((x : Bor Parts) → r ≡ telling.Supports x → ⊥)
-    → settings_after (meant settings r) s ≡ s.settings
-idle_settings settings (telling.Welcomed nick) st w s = absurd (w nick refl)
-idle_settings settings (telling.Supports line) st w s = absurd (s line refl)
-idle_settings settings _ st w s = refl
-
 -- ---- one more line
 
 pub pushed_tape : {A : Type 0} (ks ls : List (Kept A)) (k : Kept A) (l : Parts)
