@@ -35,7 +35,7 @@ use Rattle.net_view.specs.Sound.{IsSound, IsSpelling}
 use Rattle.net_view.proofs.Keys.{bytes_exact, is_same, same_refl, some_key}
 use Rattle.client_caps.proofs.Entries.{entries_got}
 use Rattle.welcome.specs.declared.persons.Person as lend
-use Rattle.welcome.specs.Lent.{person_lent, person_shown, persons_on_channels}
+use Rattle.welcome.specs.Lent.{person_lent, persons_on_channels}
 use Rattle.welcome.proofs.PersonsAt.{person_at}
 
 -- a person, as lent
