@@ -27,29 +27,25 @@ around t0 t1 t2 t3 first last xs e1 e2 e3 =
     (said_all t0 t1 t2 (first ∷ []) xs
     (said_next t0 t0 t1 [] first (sym (append-nil t0)) e1) e2) e3
 
-pub batch_said : (caps : Caps) (place : ℕ) (name begun tag ended : Text)
-    (es : List (Bor EntryParts)) (t0 t1 t2 t3 : Text) → begun ≡ codes "+" ++ batch_name place
-    → tag ≡ batch_tag place → ended ≡ codes "-" ++ batch_name place
-    → t1 ≡ t0 ++ written
-    (from_bouncer (codes "BATCH") (begun ∷ codes "chathistory" ∷ name ∷ []))
+pub batch_said : (caps : Caps) (place : ℕ) (name : Text) (es : List (Bor EntryParts))
+    (t0 t1 t2 t3 : Text)
+    → t1 ≡ t0 ++ written (from_bouncer (codes "BATCH")
+    ((codes "+" ++ batch_name place) ∷ codes "chathistory" ∷ name ∷ []))
     → t2 ≡ t1 ++ flat_map written
-    (map (λ (e : Bor EntryParts). entry_line caps (tag ∷ []) e.now) es)
-    → t3 ≡ t2 ++ written (from_bouncer (codes "BATCH") (ended ∷ []))
+    (map (λ (e : Bor EntryParts). entry_line caps (batch_tag place ∷ []) e.now) es)
+    → t3 ≡ t2 ++ written (from_bouncer (codes "BATCH") ((codes "-" ++ batch_name place) ∷ []))
     → t3 ≡ t0 ++ flat_map written
     (batch_of caps place name (map (λ (e : Bor EntryParts). e.now) es))
-batch_said caps place name begun tag ended es t0 t1 t2 t3 b t e e1 e2 e3 =
+batch_said caps place name es t0 t1 t2 t3 e1 e2 e3 =
     around t0 t1 t2 t3
     (from_bouncer (codes "BATCH")
     ((codes "+" ++ batch_name place) ∷ codes "chathistory" ∷ name ∷ []))
     (from_bouncer (codes "BATCH") ((codes "-" ++ batch_name place) ∷ []))
     (map (entry_line caps (batch_tag place ∷ [])) (map (λ (e : Bor EntryParts). e.now) es))
-    (e1 ∙ ap (λ r. t0 ++ written
-    (from_bouncer (codes "BATCH") (r ∷ codes "chathistory" ∷ name ∷ []))) b)
-    (e2 ∙ ap (λ r. t1 ++ flat_map written
-    (map (λ (e : Bor EntryParts). entry_line caps (r ∷ []) e.now) es)) t
-    ∙ ap (λ ls. t1 ++ flat_map written ls)
+    e1
+    (e2 ∙ ap (λ ls. t1 ++ flat_map written ls)
     (lent_mapped (entry_line caps (batch_tag place ∷ [])) es))
-    (e3 ∙ ap (λ r. t2 ++ written (from_bouncer (codes "BATCH") (r ∷ []))) e)
+    e3
 
 pub plain_backlog : (caps : Caps) (place : ℕ) (name : Text) (es : List (Bor EntryParts))
     → caps.batch ≡ false → map (λ (e : Bor EntryParts). entry_line caps [] e.now) es

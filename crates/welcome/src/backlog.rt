@@ -8,7 +8,7 @@ ghost use Rattle.std.specs.Option.{option_map};
 ghost use Rattle.std.specs.FinMap as fin;
 ghost use Rattle.irc_line.specs.Writing.{written};
 ghost use Rattle.history.specs.Entry.{IsWrittenEntry};
-ghost use Rattle.welcome.specs.Arranged.{arranged_of, backlogs_of, batch_of, time_tag};
+ghost use Rattle.welcome.specs.Arranged.{arranged_of, backlogs_of, batch_of, batch_tag, time_tag};
 ghost use Rattle.client_caps.specs.Answers.{from_bouncer};
 ghost use Rattle.welcome.specs.Playback.{backlog_of, batch_name, entry_line, playback_of};
 ghost use Rattle.welcome.specs.Playback.{tags_text};
@@ -117,17 +117,40 @@ fn push_end<A: Allocator>(text: &mut Vec<u8, A>, reference: &[u8]) -> Result<(),
     push_reply(text, b"BATCH", &[reference])
 }
 
-/// Adds these messages with this tag of a batch.
+/// Begins the batch of the channel at a place.
+fn begin_batch<A: Allocator + Copy>(
+    text: &mut Vec<u8, A>,
+    place: usize,
+    name: &[u8],
+) -> Result<(), OutOfMemory>
+    ensures { OnOk result (text.new.items ≡ text.old.items ++ written (from_bouncer (codes "BATCH")
+        ((codes "+" ++ batch_name place) ∷ codes "chathistory" ∷ name.now ∷ []))) }
+{
+    let reference = format!(in *text.allocator(); "+h{place}")?;
+    push_begin(text, reference.as_bytes(), name)
+}
+
+/// Ends the batch of the channel at a place.
+fn end_batch<A: Allocator + Copy>(text: &mut Vec<u8, A>, place: usize) -> Result<(), OutOfMemory>
+    ensures { OnOk result (text.new.items ≡ text.old.items ++ written
+        (from_bouncer (codes "BATCH") ((codes "-" ++ batch_name place) ∷ []))) }
+{
+    let reference = format!(in *text.allocator(); "-h{place}")?;
+    push_end(text, reference.as_bytes())
+}
+
+/// Adds these messages with the tag of the batch of the channel at a place.
 fn push_tagged<A: Allocator + Copy, B: Allocator>(
     text: &mut Vec<u8, A>,
     caps: Caps,
-    tag: &[u8],
+    place: usize,
     entries: &[&Entry<B>],
 ) -> Result<(), OutOfMemory>
     ensures { OnOk result (text.new.items ≡ text.old.items ++ flat_map written
-        (map (λ entry. entry_line caps (tag.now ∷ []) entry.now) entries.now)) }
+        (map (λ entry. entry_line caps (batch_tag place ∷ []) entry.now) entries.now)) }
 {
-    push_entries(text, caps, Some(tag), entries)
+    let tag = format!(in *text.allocator(); "batch=h{place}")?;
+    push_entries(text, caps, Some(tag.as_bytes()), entries)
 }
 
 /// Adds these messages as the batch of the channel at a place.
@@ -141,15 +164,9 @@ fn push_batch<A: Allocator + Copy, B: Allocator>(
     ensures { OnOk result (text.new.items ≡ text.old.items ++ flat_map written
         (batch_of caps place name.now (map (λ entry. entry.now) entries.now))) }
 {
-    let alloc = *text.allocator();
-    push_begin(text, format!(in alloc; "+h{place}")?.as_bytes(), name)?;
-    push_tagged(
-        text,
-        caps,
-        format!(in alloc; "batch=h{place}")?.as_bytes(),
-        entries,
-    )?;
-    push_end(text, format!(in alloc; "-h{place}")?.as_bytes())
+    begin_batch(text, place, name)?;
+    push_tagged(text, caps, place, entries)?;
+    end_batch(text, place)
 }
 
 /// Adds the messages of the channel at a place, with batch between `:bnc BATCH +h0 chathistory #c`

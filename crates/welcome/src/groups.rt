@@ -66,11 +66,11 @@ fn empty_groups<'e, A: Allocator + Copy, B: Allocator>(
     ensures { IfOk result (λ groups. map (λ group. map (λ entry. entry.now) group.items)
         groups.items ≡ map (λ name. []) names.now ++ [] ∷ []) }
 {
-    let mut groups = Vec::new(alloc);
+    let mut groups = Vec::with_capacity(alloc, names.len() + 1)?;
     for _ in names {
-        groups.push(Vec::new(alloc))?;
+        groups.push_reserved(Vec::new(alloc));
     }
-    groups.push(Vec::new(alloc))?;
+    groups.push_reserved(Vec::new(alloc));
     Ok(groups)
 }
 

@@ -44,11 +44,12 @@ fn written_tokens<A: Allocator + Copy, B: Allocator>(
     ensures { IfOk result (λ texts. map (λ t. t.items) texts.items
         ≡ map token_text support.now) }
 {
-    let mut texts = Vec::new(alloc);
-    for place in 0..support.token_count() {
+    let count = support.token_count();
+    let mut texts = Vec::with_capacity(alloc, count)?;
+    for place in 0..count {
         if let Some((name, value)) = support.token(place) {
             let text = written_token(alloc, name, value)?;
-            texts.push(text)?;
+            texts.push_reserved(text);
         }
     }
     Ok(texts)
@@ -69,11 +70,12 @@ fn push_tokens<'x, A: Allocator + Copy>(
     if tokens.is_empty() {
         return Ok(());
     }
-    let mut params = Vec::from_slice(*text.allocator(), &[nick])?;
+    let mut params = Vec::with_capacity(*text.allocator(), tokens.len() + 2)?;
+    params.push_reserved(nick);
     for token in tokens {
-        params.push(token.as_slice())?;
+        params.push_reserved(token.as_slice());
     }
-    params.push(b"are supported by this server")?;
+    params.push_reserved(b"are supported by this server");
     push_reply(text, b"005", &params)
 }
 

@@ -10,21 +10,21 @@ pub returns : goal.returns
 returns g c =
     let n = c.own_nick-nick.result.now in
     let t0 = c.args.text.now.items in
-    let t1 = c.push_reply.new.text.items in
-    let t2 = c.push_reply-2.new.text.items in
-    let t3 = c.push_reply-3.new.text.items in
-    let t4 = c.push_reply-4.new.text.items in
+    let t1 = c.push_said.new.text.items in
+    let t2 = c.push_said-2.new.text.items in
+    let t3 = c.push_said-3.new.text.items in
+    let t4 = c.push_reply.new.text.items in
     let one = from_bouncer (codes "001") (n ∷ codes "Welcome to the bouncer" ∷ []) in
     let two = from_bouncer (codes "002") (n ∷ codes "Your host is bnc, running version 1" ∷ []) in
     let three = from_bouncer (codes "003") (n ∷ codes "This server was created for you" ∷ []) in
     let four =
     from_bouncer (codes "004")
     (n ∷ codes "bnc" ∷ codes "1" ∷ codes "i" ∷ codes "biklmnopstv" ∷ []) in
-    on_ok_weaker c.push_reply-4.result
+    on_ok_weaker c.push_reply.result
     (λ said. said_next t0 t3 t4 (one ∷ two ∷ three ∷ []) four
     (said_next t0 t2 t3 (one ∷ two ∷ []) three
     (said_next t0 t1 t2 (one ∷ []) two
-    (said_next t0 t0 t1 [] one (sym (append-nil t0)) c.in_ok-push_reply.ensures)
-    c.in_ok-push_reply-2.ensures) c.in_ok-push_reply-3.ensures) said
+    (said_next t0 t0 t1 [] one (sym (append-nil t0)) c.in_ok-push_said.ensures)
+    c.in_ok-push_said-2.ensures) c.in_ok-push_said-3.ensures) said
     ∙ ap (λ nick. t0 ++ flat_map written (greeting_to nick)) c.own_nick-nick.ensures)
-    c.push_reply-4.ensures
+    c.push_reply.ensures

@@ -20,9 +20,9 @@ returns g c =
     let all : take c.loop-token.token-index tokens ≡ tokens =
     ap (λ k. take k tokens) end ∙ take_all (length tokens) tokens (omega arith) in
     let params =
-    ap (map (λ p. p.now)) (c.deref.ensures.value ∙ c.in_ok-push-2.ensures.items)
+    ap (map (λ p. p.now)) (c.deref.ensures.value ∙ c.push_reserved-2.ensures.items)
     ∙ map-append (λ p. p.now) c.loop-token.params.items (_ ∷ [])
-    ∙ ap (λ ps. ps ++ codes "are supported by this server" ∷ []) (c.loop-token.invariant
+    ∙ ap (λ ps. ps ++ codes "are supported by this server" ∷ []) (c.loop-token.invariant.items
     ∙ ap (λ ts. nick ∷ map (λ t. t.items) ts) all) in
     let some : nat_eq (length tokens) 0 ≡ false = sym c.is_empty.ensures ∙ c.if-is_empty.false in
     on_ok_weaker c.push_reply.result
