@@ -1,12 +1,11 @@
 -- What each session was sent, once one thing more has happened.
 use Rattle.std.proofs.Common.{◌≡◌, ◌∙◌, ◌+◌, ◌<◌, ◌==◌, ℕ, List, [], ◌∷◌, ◌++◌, refl, sym, ap}
-use Rattle.std.proofs.Common.{arith, Option, None, Some, Bool, true, false, subst, inl, inr, cond}
-use Rattle.std.proofs.Common.{append-nil, option_to_list}
+use Rattle.std.proofs.Common.{arith, Option, None, Bool, true, false, subst, inl, inr}
+use Rattle.std.proofs.Common.{option_to_list}
 use Rattle.std.proofs.lemmas.Bool.Decides.{nat_tests}
 use Rattle.std.specs.List.{AllByRecursion}
 use Rattle.std.specs.Option.{option_and_then}
 use Rattle.irc_line.specs.Line.{Parts}
-use Rattle.net_view.specs.View.{View}
 use Rattle.hub_core.specs.States.{OutletState, SessionState}
 use Rattle.hub_core.specs.Given.{Delivered, Sends, with_outlet}
 use Rattle.hub_core.proofs.Running.{sent_is}

@@ -1,15 +1,11 @@
 -- A hub is as what happened says, after a list of events and where a run stops.
-use Rattle.std.proofs.Common.{◌≡◌, ◌∙◌, ◌<◌, ◌==◌, ◌^◌, ℕ, List, [], ◌∷◌, ◌++◌, refl, sym, ap}
+use Rattle.std.proofs.Common.{◌≡◌, ◌∙◌, ◌<◌, ◌==◌, ◌^◌, ℕ, List, [], ◌∷◌, refl, sym, ap}
 use Rattle.std.proofs.Common.{arith, subst, inl, inr, Option, None, Some, Bool, true, false, cond}
-use Rattle.std.proofs.Common.{reverse}
 use Rattle.std.specs.Prelude.{Result, Ok, Err}
 use Rattle.std.specs.List.{AllByRecursion}
 use Rattle.std.specs.FinMap.{get-empty}
 use Rattle.std.specs.Option.{option_and_then}
 use Rattle.irc_line.specs.Line.{Parts}
-use Rattle.irc_support.specs.Text.{Text}
-use Rattle.client_caps.specs.Answers.{answer_to}
-use Rattle.client_caps.specs.declared.caps.Caps.{Caps}
 use Rattle.client_caps.specs.declared.moment.Moment.{Moment}
 use Rattle.history.specs.Marks.{bytes_cmp, mark_of}
 use Rattle.history.proofs.LastMessages.{none}
@@ -22,7 +18,7 @@ use Rattle.hub_core.specs.declared.said.Said.{Said}
 use Rattle.hub_core.specs.declared.said.Said.TheVariants as said
 use Rattle.hub_core.specs.States.{HubState, OutletState, SessionState}
 use Rattle.hub_core.specs.Given.{Sends}
-use Rattle.hub_core.specs.Saying.{Answers, Says, SaysBy, answer_packet, meaning}
+use Rattle.hub_core.specs.Saying.{Answers, Says, SaysBy, meaning}
 use Rattle.hub_runs.specs.declared.event.Event.{Event}
 use Rattle.hub_runs.specs.declared.event.Event.TheVariants as on
 use Rattle.hub_runs.specs.declared.outcome.Reply.{Reply}
@@ -30,7 +26,7 @@ use Rattle.hub_runs.specs.declared.outcome.Reply.TheVariants as reply
 use Rattle.hub_runs.specs.declared.outcome.Stop.{Stop}
 use Rattle.hub_runs.specs.declared.outcome.Stop.TheVariants as stop
 use Rattle.hub_runs.specs.Course.{Deed, Asked, Follows, IsSent, answer_by, course_behind, course_of}
-use Rattle.hub_runs.specs.Course.{given_to, rest_behind, view_then, with_event, with_items}
+use Rattle.hub_runs.specs.Course.{rest_behind, view_then, with_event, with_items}
 use Rattle.hub_runs.specs.Worlds.{AllHappen, Happens, RefusesAmong, RefusesItem, Stops, WorldState}
 use Rattle.hub_runs.specs.Worlds.{beginning}
 use Rattle.hub_runs.proofs.Course.{each_quiet, plain_asked}

@@ -1,16 +1,15 @@
 -- A hub over ends in memory is as what happened says: each step keeps that.
 use Rattle.std.proofs.Common.{◌≡◌, ◌∙◌, ◌+◌, ◌<◌, ◌==◌, ◌^◌, ℕ, List, [], ◌∷◌, ◌++◌, refl, sym, ap}
 use Rattle.std.proofs.Common.{arith, Option, None, Some, Bool, true, false, subst, inl, inr, cond}
-use Rattle.std.proofs.Common.{is_some, nat_lt, append-nil, reverse, option_to_list}
+use Rattle.std.proofs.Common.{nat_lt, append-nil, reverse}
 use Rattle.std.proofs.lemmas.Bool.Decides.{eqb_tells}
 use Rattle.std.proofs.lemmas.List.{map-append, reverse-append}
-use Rattle.std.specs.Prelude.{IfSome, IsSome, Result, Ok, Err, if◌then◌else◌}
+use Rattle.std.specs.Prelude.{IsSome, if◌then◌else◌}
 use Rattle.std.specs.List.{AllByRecursion}
 use Rattle.std.specs.Option.{option_and_then}
 use Rattle.irc_line.specs.Line.{Parts}
 use Rattle.irc_support.specs.Text.{Text}
-use Rattle.net_view.specs.Arrival.{Received}
-use Rattle.net_view.specs.View.{View, view_of, view_back}
+use Rattle.net_view.specs.View.{view_of, view_back}
 use Rattle.client_caps.specs.declared.caps.Caps.{Caps}
 use Rattle.history.specs.Entry.{is_message}
 use Rattle.history.specs.Marks.{NameMarks, mark_of}
@@ -19,24 +18,23 @@ use Rattle.welcome.specs.Playback.{burst_of}
 use Rattle.hub_ends.specs.Came.{Came, arrivals}
 use Rattle.hub_core.specs.declared.hub.Pumped.{Pumped}
 use Rattle.hub_core.specs.declared.hub.Pumped.TheVariants as pumped
-use Rattle.hub_core.specs.declared.said.Meant.TheVariants as means
-use Rattle.hub_core.specs.States.{OutletState, SessionState, HubState, heard, view_now}
-use Rattle.hub_core.specs.Given.{Delivered, Sends, packet_for, with_outlet}
+use Rattle.hub_core.specs.States.{OutletState, SessionState, HubState, view_now}
+use Rattle.hub_core.specs.Given.{Sends, packet_for, with_outlet}
 use Rattle.hub_core.specs.Attaching.{Attaches, Detaches, Lacks, last_number, marked, missed}
 use Rattle.hub_core.specs.Attaching.{with_name}
-use Rattle.hub_core.specs.InMemory.{DrainsAt, DrainsSession, DrainsUpstream}
+use Rattle.hub_core.specs.InMemory.{DrainsAt, DrainsUpstream}
 use Rattle.hub_core.specs.Pumping.{Puts, entry_for, pong_for, with_entry}
-use Rattle.hub_core.specs.Saying.{Answers, Around, Cuts, Forwards, entry_said, from_us}
+use Rattle.hub_core.specs.Saying.{Around, Forwards, entry_said}
 use Rattle.hub_core.specs.Saying.{given_others, meaning, own_message, sent_up, with_sessions}
 use Rattle.hub_runs.specs.Course.{Deed, Took, Spoke, Asked, Joined, Left, Drained, IsSent}
-use Rattle.hub_runs.specs.Course.{answer_by, given_to, heard_back, joined_as, kept_then, mark_left}
-use Rattle.hub_runs.specs.Course.{mark_then, message_said, messages, missed_then, packets, upward}
-use Rattle.hub_runs.specs.Course.{view_then, waiting, with_items}
+use Rattle.hub_runs.specs.Course.{answer_by, heard_back, joined_as, kept_then, mark_left}
+use Rattle.hub_runs.specs.Course.{mark_then, message_said, messages, missed_then, packets}
+use Rattle.hub_runs.specs.Course.{view_then, with_items}
 use Rattle.hub_runs.specs.Worlds.{TakesAll, TakesIn, new_outlet}
 use Rattle.hub_runs.proofs.Course as course
-use Rattle.hub_runs.proofs.Course.{Apart, Plain, apart_back, apart_delivered, apart_more, apart_put}
+use Rattle.hub_runs.proofs.Course.{Apart, apart_back, apart_delivered, apart_more, apart_put}
 use Rattle.hub_runs.proofs.Course.{apart_without, each_delivered, each_given, each_quiet, given_on}
-use Rattle.hub_runs.proofs.Course.{is_another, is_itself, is_other, quiet_on}
+use Rattle.hub_runs.proofs.Course.{is_another, is_itself, is_other}
 use Rattle.hub_runs.proofs.Marked.{Known, entry_more, marked_mark, marked_stays, named_mark}
 use Rattle.hub_runs.proofs.Marked.{named_stays, named_there}
 use Rattle.hub_runs.proofs.Steps.{heard_is, takes_in, the_one}

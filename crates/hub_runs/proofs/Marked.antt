@@ -1,6 +1,6 @@
 -- Messages and marks, once one thing more has happened.
 use Rattle.std.proofs.Common.{◌≡◌, ◌∙◌, ℕ, List, [], ◌∷◌, ◌++◌, refl, sym, ap, Option, None, Some}
-use Rattle.std.proofs.Common.{Bool, true, false, subst, append-nil, option_to_list, cond, is_some}
+use Rattle.std.proofs.Common.{Bool, true, false, append-nil, option_to_list, cond, is_some}
 use Rattle.std.specs.Prelude.{IfSome, IsSome, if◌then◌else◌}
 use Rattle.std.specs.Cmp.Lexicographic.{nat_list_cmp_total}
 use Rattle.std.specs.FinMap.{contains_key, get, get-insert, insert}
@@ -9,8 +9,8 @@ use Rattle.std.specs.Ordering.{eq_by_cmp}
 use Rattle.irc_support.specs.Text.{Text}
 use Rattle.net_view.proofs.Keys.{is_same, same_refl}
 use Rattle.history.specs.Entry.{EntryParts}
-use Rattle.history.specs.Marks.{NameMarks, admitted, bytes_cmp, mark_of, with_mark}
-use Rattle.history.specs.Messages.{Messages, history_of, with_message}
+use Rattle.history.specs.Marks.{NameMarks, admitted, bytes_cmp, mark_of}
+use Rattle.history.specs.Messages.{history_of, with_message}
 use Rattle.history.proofs.LastMessages.{one_more}
 use Rattle.hub_core.specs.Attaching.{marked, with_name}
 use Rattle.hub_core.specs.Pumping.{with_entry}

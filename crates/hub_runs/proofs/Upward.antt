@@ -11,8 +11,7 @@ use Rattle.hub_core.specs.States.{OutletState}
 use Rattle.hub_core.specs.Given.{Took as TookPacket}
 use Rattle.hub_core.specs.InMemory.{Drains}
 use Rattle.hub_core.specs.Pumping.{Puts, pong_for}
-use Rattle.hub_core.specs.Saying.{sent_up}
-use Rattle.hub_runs.specs.Course.{Deed, Took, Spoke, Asked, Joined, Left, Drained}
+use Rattle.hub_runs.specs.Course.{Deed, Took, Drained}
 use Rattle.hub_runs.specs.Course.{up_by, upward, taken_out, waiting}
 
 -- an outlet to the network after what happened
