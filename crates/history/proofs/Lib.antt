@@ -1,3 +1,4 @@
+pub mod EntryTexts
 pub mod Messages
 pub mod Missed
 pub mod NamedEntries
