@@ -1,10 +1,8 @@
 -- What a registration over two streams sends, and why it fails.
 use Rattle.std.specs.Prelude.{◌≡◌, ◌<◌, ◌+◌, ℕ, Bool, true, false, drop, length, take, List, []}
 use Rattle.std.specs.Prelude.{◌∷◌, ◌++◌, IsTrue}
-use Rattle.std.specs.List.{flat_map}
 use Rattle.irc_line.specs.Line.{Parts}
 use Rattle.irc_line.specs.Lines.{Pending, fed, is_too_long, lines_of, start}
-use Rattle.irc_line.specs.Writing.{written}
 use Rattle.bnc_config.specs.Settings.{NetworkSettings}
 use Rattle.upstream.specs.Registration.{Answer, answer_to, fails, first_lines, has_ended, is_end}
 use Rattle.upstream.specs.Registration.{join_lines, sends}

@@ -228,6 +228,54 @@ pub(crate) fn open<W: Write>(
     Ok(register)
 }
 
+/// Reads lines up to the welcome, and sends for each what is to be sent for it, in one write;
+/// answers the place of the welcome, from 0, among the lines of the last piece that was read.
+fn read_on<R: Read, W: Write>(
+    alloc: Global,
+    register: &mut Register,
+    splitter: &mut Splitter,
+    lines: &mut Vec<Line>,
+    reader: &mut R,
+    writer: &mut W,
+) -> Result<usize, DialFault>
+    requires no_lines { lines.old.items ≡ [] }
+    requires started { splitter.old ≡ start }
+    ensures ok { (network : NetworkSettings) → HasTaken network [] register.old →
+        IfOk result (λ place. (bytes : List ℕ) × (before : List Parts) × (welcome : Parts)
+        × (after : List Parts)
+        × Consumes (R.remaining reader.old) (R.remaining reader.new) bytes
+        × IsWelcomed network (lines_of bytes) before welcome after
+        × (drop place lines.new.items ≡ welcome ∷ after)
+        × (splitter.new ≡ fed start bytes)
+        × Appends (W.contents writer.old) (W.contents writer.new)
+        (bytes_of (sent_for network [] (before ++ welcome ∷ [])))) }
+    ensures err { (network : NetworkSettings) → HasTaken network [] register.old →
+        IfErr result (λ fault. (bytes : List ℕ)
+        × Consumes (R.remaining reader.old) (R.remaining reader.new) bytes
+        × IsCauseOf network bytes fault) }
+    ensures within { IfOk result (λ place. place < length lines.new.items) }
+{
+    let mut buffer = vec![in alloc; 0; PIECE]?;
+    for _ in 0..READ_LIMIT {
+        match reader.read(&mut buffer) {
+            Ok(0) => return Err(DialFault::Read),
+            Ok(count) => {
+                let piece = &buffer[..count];
+                if let Some(place) = take_piece(alloc, register, splitter, lines, piece, writer)? {
+                    return Ok(place);
+                }
+                lines.clear();
+            }
+            Err(error) => {
+                if error.kind() != ErrorKind::Interrupted {
+                    return Err(DialFault::Read);
+                }
+            }
+        }
+    }
+    Err(DialFault::Read)
+}
+
 /// Goes on with a registration that was opened: sends, for each line that comes, what is to be sent
 /// for it, in one write. Answers the lines from the welcome on, once it has come.
 pub(crate) fn complete<R: Read, W: Write>(
@@ -253,33 +301,16 @@ pub(crate) fn complete<R: Read, W: Write>(
     let mut register = register;
     let mut splitter = Splitter::new(alloc);
     let mut lines = Vec::new(alloc);
-    let mut buffer = vec![in alloc; 0; PIECE]?;
-    for _ in 0..READ_LIMIT {
-        match reader.read(&mut buffer) {
-            Ok(0) => return Err(DialFault::Read),
-            Ok(count) => {
-                let piece = &buffer[..count];
-                if let Some(place) = take_piece(
-                    alloc,
-                    &mut register,
-                    &mut splitter,
-                    &mut lines,
-                    piece,
-                    writer,
-                )? {
-                    drop_front(&mut lines, place);
-                    return Ok(Welcomed { splitter, lines });
-                }
-                lines.clear();
-            }
-            Err(error) => {
-                if error.kind() != ErrorKind::Interrupted {
-                    return Err(DialFault::Read);
-                }
-            }
-        }
-    }
-    Err(DialFault::Read)
+    let place = read_on(
+        alloc,
+        &mut register,
+        &mut splitter,
+        &mut lines,
+        reader,
+        writer,
+    )?;
+    drop_front(&mut lines, place);
+    Ok(Welcomed { splitter, lines })
 }
 
 /// Registers at a network: sends the first lines, and then, for each line that comes, what is to be

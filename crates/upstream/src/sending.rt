@@ -1,6 +1,6 @@
 //! The lines that a registration sends.
 
-ghost use Rattle.std.specs.Prelude.{◌≡◌, ◌<◌, IfOk, IsTrue, map};
+ghost use Rattle.std.specs.Prelude.{◌≡◌, ◌<◌, ◌++◌, ◌∷◌, [], IfOk, IsTrue, OnOk, map};
 ghost use Rattle.std.specs.List.{list_all};
 ghost use Rattle.irc_line.specs.Writing.{is_clean, is_writable};
 ghost use Rattle.irc_names.specs.Nick.{is_nameable};
@@ -19,6 +19,21 @@ fn command(alloc: Global, name: &[u8], params: &[&[u8]]) -> Result<Line, OutOfMe
     ensures { IfOk result (λ line. line ≡ command name.now (map (λ p. p.now) params.now)) }
 {
     Line::from_parts(alloc, None, None, name, params)
+}
+
+/// Adds a line of ours, without a source.
+fn push_command(
+    alloc: Global,
+    lines: &mut Vec<Line>,
+    name: &[u8],
+    params: &[&[u8]],
+) -> Result<(), OutOfMemory>
+    requires { IsTrue (is_writable (command name.now (map (λ p. p.now) params.now))) }
+    ensures { OnOk result (lines.new.items
+        ≡ lines.old.items ++ command name.now (map (λ p. p.now) params.now) ∷ []) }
+{
+    lines.push(command(alloc, name, params)?)?;
+    Ok(())
 }
 
 /// `NICK nick`, with so many marks behind the nick.
@@ -46,11 +61,11 @@ pub(crate) fn first_lines(alloc: Global, network: &NetworkConfig) -> Result<Vec<
     ensures { IfOk result (λ lines. lines.items ≡ first_lines network.now) }
 {
     let mut lines = Vec::with_capacity(alloc, 4)?;
-    lines.push(command(alloc, b"CAP", &[b"LS", b"302"])?)?;
+    push_command(alloc, &mut lines, b"CAP", &[b"LS", b"302"])?;
     if let Some(password) = network.password() {
-        lines.push(command(alloc, b"PASS", &[password])?)?;
+        push_command(alloc, &mut lines, b"PASS", &[password])?;
     }
-    lines.push(command(alloc, b"NICK", &[network.nick()])?)?;
+    push_command(alloc, &mut lines, b"NICK", &[network.nick()])?;
     lines.push(user_line(alloc, network)?)?;
     Ok(lines)
 }
@@ -62,7 +77,7 @@ pub(crate) fn join_lines(alloc: Global, network: &NetworkConfig) -> Result<Vec<L
     let channels = network.join();
     let mut lines = Vec::with_capacity(alloc, channels.len())?;
     for channel in channels {
-        lines.push(command(alloc, b"JOIN", &[channel.as_bytes()])?)?;
+        push_command(alloc, &mut lines, b"JOIN", &[channel.as_bytes()])?;
     }
     Ok(lines)
 }

@@ -9,13 +9,13 @@ use Rattle.irc_line.proofs.Outcomes.{refused_by}
 use Rattle.irc_line.proofs.LinesTaken.{behind, place_parts, place_taken}
 use Rattle.irc_line.proofs.Sent.{appends_nothing}
 use Rattle.upstream.proofs.SentLemmas.{sent_for_more}
-use Rattle.upstream.proofs.handshake.complete.Goals.{in-Ok+in_ok-place-in-Ok+in_default}
-use Rattle.upstream.proofs.handshake.complete.Goals.{in-Err+else-ne}
-use Rattle.upstream.proofs.handshake.complete.Goals as goal
+use Rattle.upstream.proofs.handshake.read_on.Goals.{in-Ok+in_ok-place-in-Ok+in_default}
+use Rattle.upstream.proofs.handshake.read_on.Goals.{in-Err+else-ne}
+use Rattle.upstream.proofs.handshake.read_on.Goals as goal
 
 pub loop-init : goal.loop-init
 loop-init g c = record {
-  none = c.new-lines.ensures.items;
+  none = c.requires.no_lines;
   room = c.in_ok-buffer.ensures.len;
   known = λ network taken. (
     [],
@@ -24,7 +24,7 @@ loop-init g c = record {
       reading = record {
         taken = taken;
         going = refl;
-        split = c.new-splitter.ensures;
+        split = c.requires.started;
         short = refl;
       };
       sent = appends_nothing (g.W.Write.contents c.args.writer.now);
@@ -101,7 +101,7 @@ returns-in-Some-clause-ok g c = λ network taken.
             (known.1.0 ∷ drop (i + 1) lines));
         answer = known.1.3;
       },
-      c.drop_front.ensures ∙ known.1.2,
+      known.1.2,
       known.0,
       sent_for_more network (lines_of so_far.0) (take (i + 1) lines) (before
           ++ known.1.0 ∷ []) _ _ _ (sym first)

@@ -5,7 +5,7 @@ use Rattle.bnc_config.specs.Settings.{NetworkSettings}
 use Rattle.irc_line.specs.Writing.{bytes_of}
 use Rattle.upstream.specs.Handshake.{IsReading, sent_for}
 use Rattle.upstream.specs.Taken.{HasTaken}
-use Rattle.upstream.proofs.handshake.complete.Given as goal
+use Rattle.upstream.proofs.handshake.read_on.Given as goal
 
 abbrev pub invariant-loop : goal.invariant-loop
 invariant-loop g l = record {

@@ -1,0 +1,29 @@
+use Rattle.std.proofs.Common.{◌∙◌, ap, arith, subst}
+use Rattle.irc_line.proofs.Outcomes.{not_ok, refused_by}
+use Rattle.irc_line.proofs.Sent.{appends_kept}
+use Rattle.std.specs.Io.KnownBytes.{Appends}
+use Rattle.std.proofs.lemmas.List.{take_all}
+use Rattle.irc_line.specs.Writing.{bytes_of}
+use Rattle.upstream.specs.Handshake.{IsSendCause}
+use Rattle.upstream.specs.declared.handshake.DialFault.TheVariants as fault
+use Rattle.upstream.proofs.SentLemmas.{done}
+use Rattle.upstream.proofs.handshake.send.Goals as goal
+
+pub returns-in_err-write-clause-sent : goal.returns-in_err-write-clause-sent
+returns-in_err-write-clause-sent g c =
+    not_ok _ c.from_residual.result c.from_residual.ensures.0
+
+pub returns-in_err-write-clause-err : goal.returns-in_err-write-clause-err
+returns-in_err-write-clause-err g c =
+    refused_by c.from_residual.result IsSendCause fault.Memory c.from_residual.ensures.1 tt
+
+pub returns-clause-sent : goal.returns-clause-sent
+returns-clause-sent g c =
+    let all = take_all c.loop-line.line-index c.args.lines.now
+    (omega (arith, c.loop-line-test.false)) in
+    subst
+    (λ t. Appends (g.W.Write.contents c.args.writer.now) (g.W.Write.contents c.flush.new.self) t)
+    (c.as_slice.ensures.value ∙ c.loop-line.invariant ∙ ap bytes_of all)
+    (appends_kept _ _ _ c.as_slice.result.now
+    (done c.write_all.result c.if-is_err.ensures.value c.write_all.ensures.bytes)
+    c.flush.ensures.bytes)
