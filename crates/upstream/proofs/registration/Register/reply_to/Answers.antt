@@ -3,10 +3,12 @@ use Rattle.irc_line.specs.Line.{Parts}
 use Rattle.upstream.specs.Registration.{request_of}
 use Rattle.upstream.specs.Progress.{Progress}
 use Rattle.upstream.proofs.OfferLemmas.{names_are_offered}
-use Rattle.upstream.proofs.registration.Register.reply_to.Goals.{in-LastList+in_ok-names-in-LastList+in_ok-reply-in-LastList}
-use Rattle.upstream.proofs.registration.Register.reply_to.Goals.{in-CapAnswered+in_ok-reply-in-CapAnswered}
-use Rattle.upstream.proofs.registration.Register.reply_to.Goals.{in-NickInUse+in_ok-reply-in-NickInUse}
-use Rattle.upstream.proofs.registration.Register.reply_to.Goals.{in-Ping+in_ok-reply-in-Ping}
+use Rattle.upstream.proofs.registration.Register.reply_to.Goals.{
+  in-LastList+in_ok-names-in-LastList+in_ok-reply-in-LastList,
+  in-CapAnswered+in_ok-reply-in-CapAnswered,
+  in-NickInUse+in_ok-reply-in-NickInUse,
+  in-Ping+in_ok-reply-in-Ping,
+}
 use Rattle.upstream.proofs.registration.Register.reply_to.Goals as goal
 
 -- one line is sent
