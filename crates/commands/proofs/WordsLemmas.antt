@@ -2,7 +2,7 @@
 use Rattle.std.proofs.Common.{ℕ, ◌≡◌, ◌⊎◌, inl, inr, refl, sym, subst, ap, ◌∙◌, true, List, []}
 use Rattle.std.proofs.Common.{Option, Some, None, option_map, codes, string_bytes, slice_index}
 use Rattle.std.proofs.Common.{arith, Result, Ok, Err}
-use Rattle.std.specs.Prelude.{IfErr, IfOk}
+use Rattle.std.specs.Prelude.{IfErr, IfNone, IfOk, IfSome}
 use Rattle.std.proofs.lemmas.Option.{same_Some}
 use Rattle.std.specs.Option.{option_map_or}
 use Rattle.clap.proofs.OnLiterals.{clap_on_literals}
@@ -10,8 +10,8 @@ use Rattle.clap.specs.Words.{App, IsAmong, Row, Text, fault_of, first_of, is_sim
 use Rattle.clap.specs.Words.{is_simple_and_free, subcommand_of}
 use Rattle.clap.specs.declared.error.kind.ErrorKind.{ErrorKind}
 use Rattle.clap.specs.declared.error.kind.ErrorKind.TheVariants as kind
-use Rattle.commands.specs.Command.{AsksFor, IsAttach, IsCauseOf, IsCommandCause, IsCommandOf, IsHistory}
-use Rattle.commands.specs.Command.{IsOfKind, bnc_app, spaced}
+use Rattle.commands.specs.Command.{AsksFor, IsAttach, IsCauseOf, IsCommandCause, IsCommandOf}
+use Rattle.commands.specs.Command.{IsExplained, IsHistory, IsOfKind, bnc_app, spaced}
 use Rattle.client_caps.specs.declared.caps.Caps.{Caps}
 use Rattle.client_caps.specs.Caps.{no_caps}
 use Rattle.client_caps.specs.Request.{request_of}
@@ -95,7 +95,8 @@ attach_is_not_check same =
 
 pub view_is_not_serve : codes "view" ≡ codes "serve" → ⊥
 view_is_not_serve same =
-    let first : ◌≡◌ {A = ℕ} 118 115 = ap (λ (t : Text). slice_index t 0) same in absurd (omega arith)
+    let first : ◌≡◌ {A = ℕ} 118 115 = ap (λ (t : Text). slice_index t 0) same in
+    absurd (omega arith)
 
 pub attach_is_not_serve : codes "attach" ≡ codes "serve" → ⊥
 attach_is_not_serve same =
@@ -148,7 +149,8 @@ asks_nothing words name rows asked none command asks =
     none command (subst (λ n. IsCommandOf n rows command) names
     (subst (λ rs. IsCommandOf asks.0 rs command) rows_are asks.3))
 
-pub words_cause : (words : List Text) (name : Text) (rows : List Row) (r : Result Command WordsFault)
+pub words_cause : (words : List Text) (name : Text) (rows : List Row)
+    (r : Result Command WordsFault)
     → subcommand_of bnc_app words ≡ Some (name, rows) → IfErr r (IsCommandCause name rows)
     → IfErr r (IsCauseOf words)
 words_cause words name rows (Ok command) asked h = tt
@@ -174,6 +176,19 @@ help_at app words k same (inl memory) is =
 help_at app words k same (inr among) is =
     subst (λ (a : App). IsAmong kind.DisplayHelp (fault_of a words)) same
     (subst (λ x. IsAmong x (fault_of app words)) is among)
+
+-- what is told of such an error explains the words
+pub explained_at : {T E : Type 0} (app : App) (words : List Text) (k : ErrorKind)
+    (told : Result (Option T) E) → app ≡ bnc_app
+    → (k ≡ kind.OutOfMemory) ⊎ IsAmong k (fault_of app words)
+    → IfOk told (λ text. IfNone text (k ≡ kind.DisplayHelp))
+    → IfOk told (λ text. IfSome text (λ _. (k ≡ kind.DisplayHelp → ⊥)
+    × (k ≡ kind.OutOfMemory → ⊥)))
+    → IfOk told (IsExplained words)
+explained_at app words k (Ok None) same found help fault = inr (help_at app words k same found help)
+explained_at app words k (Ok (Some text)) same found help fault =
+    fault_at app words k same found fault.0 fault.1
+explained_at app words k (Err e) same found help fault = tt
 
 -- one text for an option
 pub one_list : (rows : List Row) (caps : Caps) (n : ℕ) (list : Text)

@@ -7,7 +7,8 @@ use Rattle.irc_line.specs.declared.splitter.FeedError.TheVariants as feed
 use Rattle.bnc_config.specs.ConfigFault as config
 use Rattle.commands.specs.declared.fault.Fault.{Fault}
 use Rattle.commands.specs.declared.fault.Fault.TheVariants.{CannotListen, CannotRead, CannotWrite}
-use Rattle.commands.specs.declared.fault.Fault.TheVariants.{LineTooLong, NotReady, OutOfMemory, Settings}
+use Rattle.commands.specs.declared.fault.Fault.TheVariants.{LineTooLong, NotReady, OutOfMemory}
+use Rattle.commands.specs.declared.fault.Fault.TheVariants.{Settings}
 
 -- the text that a fault is told as
 abbrev pub text_of : Fault → List ℕ

@@ -24,6 +24,20 @@ fn network_total(config: &Config) -> u128
     total
 }
 
+/// Writes `users U networks N` and LF.
+fn write_report<W: Write>(config: &Config, out: &mut W) -> Result<(), Fault>
+    ensures written { OnOk result
+        (Appends (W.contents out.old) (W.contents out.new) (report_of config.now)) }
+    ensures refused { IfErr result (λ fault. fault ≡ Fault.CannotWrite) }
+{
+    let users = config.user_count();
+    let networks = network_total(config);
+    match writeln!(out, "users {users} networks {networks}") {
+        Ok(()) => Ok(()),
+        Err(_) => Err(Fault::CannotWrite),
+    }
+}
+
 /// Reads a settings file's text, and writes `users U networks N` and LF, N over all users. After a
 /// fault other than `CannotWrite` nothing is written.
 pub fn run_check<W: Write>(alloc: Global, text: &[u8], out: &mut W) -> Result<(), Fault>
@@ -32,15 +46,9 @@ pub fn run_check<W: Write>(alloc: Global, text: &[u8], out: &mut W) -> Result<()
     ensures refused { IfErr result (IsCauseOf text.now) }
     ensures unwritten { IfErr result (λ fault. fault ≢ Fault.CannotWrite → out.new ≡ out.old) }
 {
-    let config = match Config::read(alloc, text) {
-        Ok(config) => config,
-        Err(fault) => return Err(Fault::Settings(fault)),
-    };
-    let users = config.user_count();
-    let networks = network_total(&config);
-    match writeln!(out, "users {users} networks {networks}") {
-        Ok(()) => Ok(()),
-        Err(_) => Err(Fault::CannotWrite),
+    match Config::read(alloc, text) {
+        Ok(config) => write_report(&config, out),
+        Err(fault) => Err(Fault::Settings(fault)),
     }
 }
 

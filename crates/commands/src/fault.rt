@@ -22,7 +22,8 @@ pub enum Fault {
     CannotWrite,
     /// More than 16,384 bytes of the input stand without LF.
     LineTooLong,
-    /// The network that the input tells of is not ready: no 376, 422 or JOIN came after its welcome.
+    /// The network that the input tells of is not ready: no 376, 422 or JOIN came after its
+    /// welcome.
     NotReady,
     /// An allocation was refused.
     OutOfMemory,

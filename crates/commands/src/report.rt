@@ -6,10 +6,9 @@ ghost use Rattle.irc_line.specs.Lines.{with_lf};
 ghost use Rattle.net_view.specs.Readers.{channel_shown};
 ghost use Rattle.commands.specs.Readers.{modes_shown, parts_of};
 ghost use Rattle.commands.specs.Report.{channel_lines, channels_lines, labelled, letters_of};
-ghost use Rattle.commands.specs.Report.{member_line};
-ghost use Rattle.commands.specs.Report.{member_lines, mode_lines, params_of, report_of, skipped_lines};
+ghost use Rattle.commands.specs.Report.{member_line, member_lines, mode_lines, params_of};
+ghost use Rattle.commands.specs.Report.{report_of, skipped_lines, text_of, topic_lines};
 ghost use Rattle.irc_support.specs.Written.{symbols_of};
-ghost use Rattle.commands.specs.Report.{text_of, topic_lines};
 
 use net_view::{Member, NetworkView, OutOfMemory};
 use std::alloc::Global;

@@ -1,13 +1,15 @@
 //! The command line.
 
-ghost use Rattle.std.specs.Prelude.{◌≡◌, ℕ, IfErr, IfNone, IfOk, IfSome, codes, false, map};
+ghost use Rattle.std.specs.Prelude.{◌≡◌, ◌≢◌, ℕ, IfErr, IfNone, IfOk, IfSome, codes, false, map};
 ghost use Rattle.clap.specs.Words.{app_of, found_of, kind_of, rows_of, rule_of};
 ghost use Rattle.clap.specs.Words.{with_subcommand};
+ghost use Rattle.clap.specs.declared.error.kind.ErrorKind.TheVariants as kind;
 ghost use Rattle.client_caps.specs.Caps.{no_caps};
 ghost use Rattle.client_caps.specs.Request.{request_of};
-ghost use Rattle.commands.specs.Command.{AsksFor, IsCauseOf, IsExplained, IsOfKind, bare_app, bnc_app};
-ghost use Rattle.commands.specs.Command.{IsCommandCause, IsCommandOf, IsHistory, attach_app, caps_rule};
-ghost use Rattle.commands.specs.Command.{file_rule, history_rule, serve_app, space_for_comma, spaced};
+ghost use Rattle.commands.specs.Command.{AsksFor, IsCauseOf, IsExplained, IsOfKind, bare_app};
+ghost use Rattle.commands.specs.Command.{IsCommandCause, IsCommandOf, IsHistory, attach_app};
+ghost use Rattle.commands.specs.Command.{bnc_app, caps_rule, check_app, file_rule, history_rule};
+ghost use Rattle.commands.specs.Command.{serve_app, space_for_comma, spaced};
 
 use clap::builder::ValueParser;
 use clap::error::ErrorKind;
@@ -46,9 +48,9 @@ pub enum WordsFault {
 
 impl From<AllocError> for WordsFault {
     ghost use Rattle.std.specs.Prelude.{◌≡◌};
-    ghost use Rattle.commands.specs.declared.words.WordsFault.TheVariants.{OutOfMemory as out_of_memory};
+    ghost use Rattle.commands.specs.declared.words.WordsFault.TheVariants as told;
 
-    ghost from_gives = { λ _ fault. fault ≡ out_of_memory };
+    ghost from_gives = { λ _ fault. fault ≡ told.OutOfMemory };
 
     fn from(_refused: AllocError) -> WordsFault {
         WordsFault::OutOfMemory
@@ -57,9 +59,9 @@ impl From<AllocError> for WordsFault {
 
 impl<T: Drop> From<AllocFailed<T>> for WordsFault {
     ghost use Rattle.std.specs.Prelude.{◌≡◌};
-    ghost use Rattle.commands.specs.declared.words.WordsFault.TheVariants.{OutOfMemory as out_of_memory};
+    ghost use Rattle.commands.specs.declared.words.WordsFault.TheVariants as told;
 
-    ghost from_gives = { λ _ fault. fault ≡ out_of_memory };
+    ghost from_gives = { λ _ fault. fault ≡ told.OutOfMemory };
 
     fn from(_refused: AllocFailed<T>) -> WordsFault {
         WordsFault::OutOfMemory
@@ -147,20 +149,29 @@ fn add_serve<'a>(alloc: Global, command: clap::Command<'a>) -> Result<clap::Comm
     Ok(added)
 }
 
-/// The grammar of the words after the program's name.
-fn grammar<'a>(alloc: Global) -> Result<clap::Command<'a>, AllocError>
-    ensures { IfOk result (λ command. app_of command ≡ bnc_app) }
+/// A command with `check FILE` beneath it.
+fn add_check<'a>(alloc: Global, command: clap::Command<'a>) -> Result<clap::Command<'a>, AllocError>
+    ensures { IfOk result (λ added. app_of added
+        ≡ with_subcommand (app_of command.entry) check_app.top) }
 {
     let check = clap::Command::new(alloc, "check")
         .about("Checks a settings file and counts its users and networks")
         .arg(file_argument(alloc))?;
+    let added = command.subcommand(check)?;
+    Ok(added)
+}
+
+/// The grammar of the words after the program's name.
+fn grammar<'a>(alloc: Global) -> Result<clap::Command<'a>, AllocError>
+    ensures { IfOk result (λ command. app_of command ≡ bnc_app) }
+{
+    let bare = bnc_grammar(alloc)?;
     let view = clap::Command::new(alloc, "view").about(
         "Reads the lines of a network from standard input and reports what they say of it",
     );
-    let bare = bnc_grammar(alloc)?;
     let with_view = bare.subcommand(view)?;
     let with_attach = add_attach(alloc, with_view)?;
-    let with_check = with_attach.subcommand(check)?;
+    let with_check = add_check(alloc, with_attach)?;
     let bnc = add_serve(alloc, with_check)?;
     Ok(bnc)
 }
@@ -280,16 +291,12 @@ fn first_paragraph(text: &str) -> &str {
     }
 }
 
-/// What is wrong with words that are not of the command line's grammar: the first paragraph of what
-/// `clap` has to say of them, as `error: unrecognized subcommand 'chek'`. `None` where they ask for
-/// a command or for help.
-pub fn explain_words<'a>(alloc: Global, words: &'a [&'a str]) -> Result<Option<String>, AllocError>
-    ensures { IfOk result (IsExplained (map (λ word. word.now) words.now)) }
+/// What is wrong with words of which `clap` tells this error; `None` where they ask for help.
+fn explained(alloc: Global, error: &clap::Error) -> Result<Option<String>, AllocError>
+    ensures help { IfOk result (λ text. IfNone text (kind_of error.now ≡ kind.DisplayHelp)) }
+    ensures fault { IfOk result (λ text. IfSome text (λ _.
+        (kind_of error.now ≢ kind.DisplayHelp) × (kind_of error.now ≢ kind.OutOfMemory))) }
 {
-    let error = match grammar(alloc)?.try_get_matches_from(words) {
-        Ok(_) => return Ok(None),
-        Err(error) => error,
-    };
     match error.kind() {
         ErrorKind::OutOfMemory => Err(AllocError),
         ErrorKind::DisplayHelp => Ok(None),
@@ -297,5 +304,17 @@ pub fn explain_words<'a>(alloc: Global, words: &'a [&'a str]) -> Result<Option<S
             let text = format!(in alloc; "{error}")?;
             Ok(Some(String::from_str(alloc, first_paragraph(text.as_str()))?))
         }
+    }
+}
+
+/// What is wrong with words that are not of the command line's grammar: the first paragraph of what
+/// `clap` has to say of them, as `error: unrecognized subcommand 'chek'`. `None` where they ask for
+/// a command or for help.
+pub fn explain_words<'a>(alloc: Global, words: &'a [&'a str]) -> Result<Option<String>, AllocError>
+    ensures { IfOk result (IsExplained (map (λ word. word.now) words.now)) }
+{
+    match grammar(alloc)?.try_get_matches_from(words) {
+        Ok(_) => Ok(None),
+        Err(error) => explained(alloc, &error),
     }
 }

@@ -2,7 +2,8 @@ use Rattle.std.proofs.Common.{◌≡◌, ◌++◌, ◌<◌, Some, None, true, ar
 use Rattle.net_view.specs.Ranking.{symbol_of}
 use Rattle.irc_support.specs.Written.{symbols_of}
 use Rattle.commands.proofs.MemberLemmas.{ranks_all, rank_not_held, rank_passed}
-use Rattle.commands.proofs.report.push_symbols.Goals.{then-has+in-Some+in_ok-push, then-has+in_default}
+use Rattle.commands.proofs.report.push_symbols.Goals.{then-has+in-Some+in_ok-push}
+use Rattle.commands.proofs.report.push_symbols.Goals.{then-has+in_default}
 use Rattle.commands.proofs.report.push_symbols.Goals.{else-has}
 use Rattle.commands.proofs.report.push_symbols.Goals as goal
 

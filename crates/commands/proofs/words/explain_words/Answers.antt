@@ -1,7 +1,11 @@
-use Rattle.std.proofs.Common.{inl, inr, sym, ap, ◌∙◌, List, ℕ, map, Bor}
+use Rattle.std.proofs.Common.{inl, sym, ap, ◌∙◌, List, ℕ, map, Bor}
 use Rattle.clap.specs.Words.{App, Text, app_of, fault_of, is_simple_and_free, kind_of}
-use Rattle.commands.proofs.WordsLemmas.{fault_at, help_at, is_free-bnc_app}
+use Rattle.commands.proofs.WordsLemmas.{explained_at, is_free-bnc_app}
+use Rattle.irc_line.proofs.Outcomes.{no_value}
 use Rattle.commands.proofs.words.explain_words.Goals as goal
+
+pub returns-in_err-grammar : goal.returns-in_err-grammar
+returns-in_err-grammar c = no_value _ c.from_residual.result c.from_residual.ensures.0
 
 pub returns-in-Ok : goal.returns-in-Ok
 returns-in-Ok c =
@@ -14,15 +18,6 @@ pub returns : goal.returns
 returns c =
     let words : List Text = map (λ (w : Bor (List ℕ)). w.now) c.args.words.now in
     let free = ap is_simple_and_free c.in_ok-grammar.ensures ∙ is_free-bnc_app in
-    fault_at (app_of c.in_ok-grammar.field-0) words (kind_of c.in-Err.error) c.in_ok-grammar.ensures
-    (c.in-Err.ensures.kinds free)
-    (λ help. c.in_default.not-DisplayHelp (c.kind.ensures ∙ help))
-    (λ memory. c.in_default.not-OutOfMemory (c.kind.ensures ∙ memory))
-
-pub returns-in-DisplayHelp : goal.returns-in-DisplayHelp
-returns-in-DisplayHelp c =
-    let words : List Text = map (λ (w : Bor (List ℕ)). w.now) c.args.words.now in
-    let free = ap is_simple_and_free c.in_ok-grammar.ensures ∙ is_free-bnc_app in
-    inr (help_at (app_of c.in_ok-grammar.field-0) words (kind_of c.in-Err.error)
-    c.in_ok-grammar.ensures (c.in-Err.ensures.kinds free)
-    (sym c.kind.ensures ∙ c.in-DisplayHelp.is))
+    explained_at (app_of c.in_ok-grammar.field-0) words (kind_of c.in-Err.error)
+    c.explained.result c.in_ok-grammar.ensures (c.in-Err.ensures.kinds free)
+    c.explained.ensures.help c.explained.ensures.fault
