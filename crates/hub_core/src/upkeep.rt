@@ -1,8 +1,9 @@
-//! What a hub is asked for between its steps: a sign of life of the network, and which sessions
-//! are nearly full.
+//! What a hub is asked for between its steps: a sign of life of the network, which sessions are
+//! nearly full, and how much room there is towards the network.
 
 ghost use Rattle.std.specs.Prelude.{◌≡◌, ◌∷◌, ◌++◌, ◌≤◌, [], true, IfOk, codes, if◌then◌else◌};
 ghost use Rattle.hub_core.specs.Insides.{outlet_of, state_of, states_of};
+ghost use Rattle.hub_core.specs.Saying.{Stays};
 ghost use Rattle.hub_core.specs.Upkeep.{AreFreed, Frees, KeepsAlive, is_nearly_full};
 ghost use Rattle.hub_core.specs.Upkeep.{life_asked, nearly_full, with_free};
 
@@ -101,5 +102,15 @@ impl<V: NetworkView + Drop, I: Inlet, O: Outlet> Hub<V, I, O> {
         ensures numbers { IfOk result (λ numbers. numbers.items ≡ nearly_full self.new.sessions) }
     {
         all_nearly_full(self.alloc, &mut self.sessions)
+    }
+
+    /// How many more packets there is room for in the outlet to the network, as far as is known: 0
+    /// where it is full or closed. Each line that goes to the network is one packet. Nothing
+    /// changes, but that more room may be known of.
+    pub fn upstream_free(&mut self) -> usize
+        ensures hub { Stays O.alone self.old self.new }
+        ensures value { result ≡ self.new.upstream.free }
+    {
+        self.upstream.free()
     }
 }
