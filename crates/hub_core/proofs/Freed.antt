@@ -22,19 +22,22 @@ freed_snoc : (alone : Bool) (ss ts : List SessionState) (s t : SessionState) →
 freed_snoc alone [] ts s t all f =
     (t.outlet.free, [], f.more, f.so, ap (λ l. l ++ t ∷ []) all ∙ ap (λ k. k ∷ []) f.is, refl)
 freed_snoc alone (r ∷ ss) ts s t all f =
-    (all.0, all.1 ++ t ∷ [], all.2, all.3, ap (λ l. l ++ t ∷ []) all.4, freed_snoc alone ss all.1 s t all.5 f)
+    let rest = freed_snoc alone ss all.1 s t all.5 f in
+    (all.0, all.1 ++ t ∷ [], all.2, all.3, ap (λ l. l ++ t ∷ []) all.4, rest)
 
 freed_not : (alone : Bool) (ss : List SessionState) → AreFreed alone ss ss
 freed_not alone [] = refl
 freed_not alone (s ∷ ss) =
-    (s.outlet.free, ss, (let n : s.outlet.free ≤ s.outlet.free = omega arith in n), (λ e. refl), refl, freed_not alone ss)
+    let n : s.outlet.free ≤ s.outlet.free = omega arith in
+    (s.outlet.free, ss, n, (λ e. refl), refl, freed_not alone ss)
 
 freed_front : (alone : Bool) (ss ts back : List SessionState) → AreFreed alone ss ts
     → AreFreed alone (ss ++ back) (ts ++ back)
 freed_front alone [] ts back e =
     subst (λ l. AreFreed alone back (l ++ back)) (sym e) (freed_not alone back)
 freed_front alone (s ∷ ss) ts back all =
-    (all.0, all.1 ++ back, all.2, all.3, ap (λ l. l ++ back) all.4, freed_front alone ss all.1 back all.5)
+    let rest = freed_front alone ss all.1 back all.5 in
+    (all.0, all.1 ++ back, all.2, all.3, ap (λ l. l ++ back) all.4, rest)
 
 pub plus_one : (i : ℕ) → suc i ≡ i + 1
 plus_one i = omega arith
@@ -62,7 +65,8 @@ module _ {S : Type 0} (state : S → SessionState) (alone : Bool) where
   begun olds = record { freed = refl; rest = refl; long = refl }
 
   pub one_more : (olds now : List S) (i : ℕ) (s t : S) → i < length now → s ≡ get_or now i s
-      → IsFreed alone (state s) (state t) → IsFreedTo olds now i → IsFreedTo olds (set now i t) (suc i)
+      → IsFreed alone (state s) (state t) → IsFreedTo olds now i
+      → IsFreedTo olds (set now i t) (suc i)
   one_more olds now i s t less is f w =
       let within : i < length olds = (let n = w.long in omega arith) in
       let both : get_or now i s ∷ drop (suc i) now ≡ get_or olds i s ∷ drop (suc i) olds =
@@ -132,7 +136,8 @@ module _ {S : Type 0} (state : S → SessionState) (alone : Bool) where
         one s false e = ap (λ b. map (λ (s : SessionState). s.id) (if b then s ∷ [] else [])) e
 
         snoc : (ss : List SessionState) (s : SessionState)
-            → nearly_full (ss ++ s ∷ []) ≡ nearly_full ss ++ (if is_nearly_full s then s.id ∷ [] else [])
+            → nearly_full (ss ++ s ∷ [])
+            ≡ nearly_full ss ++ (if is_nearly_full s then s.id ∷ [] else [])
         snoc ss s =
             ap (map (λ (s : SessionState). s.id)) (filter-append is_nearly_full ss (s ∷ []))
             ∙ (map-append (λ (s : SessionState). s.id) (filter is_nearly_full ss)

@@ -52,18 +52,24 @@ pub messages_stay : (h : Messages) (e : Option EntryParts) → AreMessages h.kep
     → IfSome e (λ e. IsTrue (is_message_command e.command)) → AreMessages (with_entry h e).kept
 messages_stay h None all is = all
 messages_stay h (Some e) all is = go h.next where
-  go : (next : Option ℕ) → AreMessages (option_map_or (λ number. with_message number e h) next h).kept
+  go : (next : Option ℕ)
+      → AreMessages (option_map_or (λ number. with_message number e h) next h).kept
   go None = all
   go (Some number) =
       all_drop (λ (m : ℕ × EntryParts). IsTrue (is_message_command m.1.command)) _ _
-      (all_by_recursion_push (λ (m : ℕ × EntryParts). IsTrue (is_message_command m.1.command)) h.kept
-      (number, e) all is)
+      (all_by_recursion_push (λ (m : ℕ × EntryParts). IsTrue (is_message_command m.1.command))
+      h.kept (number, e) all is)
 
 -- what somebody missed are messages
 pub missed_are_messages : (mark : Option ℕ) (kept : List (ℕ × EntryParts)) → AreMessages kept
-    → AllByRecursion (λ (e : EntryParts). IsTrue (is_message_command e.command)) (missed_of mark kept)
+    → AllByRecursion (λ (e : EntryParts). IsTrue (is_message_command e.command))
+    (missed_of mark kept)
 missed_are_messages mark [] all = tt
 missed_are_messages mark (m ∷ kept) all =
-    elim (is_missed mark m) as (λ b. AllByRecursion (λ (e : EntryParts). IsTrue (is_message_command e.command))
-    (map (λ (m : ℕ × EntryParts). m.1) (cond b (m ∷ filter (is_missed mark) kept) (filter (is_missed mark) kept))))
-    [ true ↦ (all.0, missed_are_messages mark kept all.1) | false ↦ missed_are_messages mark kept all.1 ]
+    elim (is_missed mark m) as (λ b.
+    AllByRecursion (λ (e : EntryParts). IsTrue (is_message_command e.command))
+    (map (λ (m : ℕ × EntryParts). m.1)
+    (cond b (m ∷ filter (is_missed mark) kept) (filter (is_missed mark) kept)))) [
+      | true ↦ (all.0, missed_are_messages mark kept all.1)
+      | false ↦ missed_are_messages mark kept all.1
+    ]

@@ -172,7 +172,8 @@ said_content time (Some nick) line e some =
     ap (λ b. if b then Some (line.command ∷ line.params) else None) e
     ∙ (two line.params h.1
     ∙ ap (λ b. option_map content (if b then option_and_then (λ s. option_map
-    (λ p. entry_parts time s line.command p.0 p.1) (target_and_text line.params)) (Some nick) else None))
+    (λ p. entry_parts time s line.command p.0 p.1) (target_and_text line.params)) (Some nick)
+    else None))
     (sym h.0)) where
       two : (params : List Text) → (length params == 2) ≡ true
           → Some (line.command ∷ params) ≡ option_map content (option_map
@@ -191,7 +192,8 @@ pub sent_more : (sent : List (List Parts)) (p : List Parts) → content_said p �
     → filter_map content_said (sent ++ p ∷ []) ≡ filter_map content_said sent
 sent_more sent p e =
     filter_more content_said sent p
-    ∙ (ap (λ o. filter_map content_said sent ++ option_to_list o) e ∙ append-nil (filter_map content_said sent))
+    ∙ (ap (λ o. filter_map content_said sent ++ option_to_list o) e
+    ∙ append-nil (filter_map content_said sent))
 
 -- a PONG is no message
 pong_unsaid : (params : List Text)
@@ -203,7 +205,8 @@ pub puts_unsaid : (alone : Bool) (x : Arrival) (o o' : OutletState) → Puts alo
 puts_unsaid alone Lost o o' e = ap (λ (k : OutletState). filter_map content_said k.sent) e
 puts_unsaid alone (Received line) o o' puts =
     go (has_command line (codes "PING")) puts where
-      go : (b : Bool) → Puts alone o (if b then Some (untagged_line None (codes "PONG") line.params ∷ [])
+      go : (b : Bool)
+          → Puts alone o (if b then Some (untagged_line None (codes "PONG") line.params ∷ [])
           else None) o' → filter_map content_said o'.sent ≡ filter_map content_said o.sent
       go false e = ap (λ (k : OutletState). filter_map content_said k.sent) e
       go true puts =

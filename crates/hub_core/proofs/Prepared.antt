@@ -80,8 +80,10 @@ module _ {S : Type 0} (state : S → SessionState) (coming : S → Option (List 
       → IsPrepared olds now sets i → AllPrepared olds now sets
   all olds now sets i long w = record {
     states = w.states;
-    coming_are = subst (AllByRecursion (λ x. coming x ≡ give (state x))) (take_all i now long) w.coming_are;
+    coming_are = subst (AllByRecursion (λ x. coming x ≡ give (state x))) (take_all i now long)
+        w.coming_are;
     sets_are = w.sets_are
-        ∙ (ap (all_sets_but except []) (take_all i (map state now) (let n = map_length state now in omega arith))
+        ∙ (ap (all_sets_but except [])
+        (take_all i (map state now) (let n = map_length state now in omega arith))
         ∙ ap (all_sets_but except []) w.states);
   }

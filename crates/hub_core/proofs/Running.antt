@@ -60,8 +60,8 @@ less_some xs x y =
     ∙ take_all (length xs) xs (omega arith))
 
 -- what was taken is what was heard, and then the item
-pub next_taken : (alone : Bool) (taken : List Came) (held : Option Came) (ahead : List Came) (x : Came)
-    (now later : List Came) → taken ≡ less taken held ++ option_to_list held
+pub next_taken : (alone : Bool) (taken : List Came) (held : Option Came) (ahead : List Came)
+    (x : Came) (now later : List Came) → taken ≡ less taken held ++ option_to_list held
     → now ≡ taken ++ cond (is_some held) [] (x ∷ []) → Comes alone held ahead x later
     → now ≡ less taken held ++ x ∷ []
 next_taken alone taken None ahead x now later last e comes =
@@ -98,10 +98,12 @@ pub started_runs : (h : HubState) (v : View) (lost : List Joining) (capacity : �
     → v ≡ empty_view → h.upstream.sent ≡ [] → h.first < 2 ^ 64
     → h.history ≡ no_messages capacity h.first → IsRunning h v false lost
 started_runs h v lost capacity l0 t o s e u small k =
-    let l : less h.taken h.held ≡ [] = ap (λ k. less k h.held) t ∙ (ap (less []) o ∙ less_none []) in
+    let l : less h.taken h.held ≡ [] =
+    ap (λ k. less k h.held) t ∙ (ap (less []) o ∙ less_none []) in
     let a : heard h ≡ [] = ap arrivals l in
     record {
-      held_last = t ∙ (sym (ap (λ k. k ++ []) l) ∙ ap (λ k. less h.taken h.held ++ option_to_list k) (sym o));
+      held_last = t ∙ (sym (ap (λ k. k ++ []) l)
+          ∙ ap (λ k. less h.taken h.held ++ option_to_list k) (sym o));
       view_is = e ∙ (sym view_start ∙ ap view_of (sym a));
       online_is = sym (ap is_online a);
       lost_is = l0 ∙ sym (ap lost_channels a ∙ no_loss);
@@ -117,7 +119,8 @@ started_runs h v lost capacity l0 t o s e u small k =
 pub sent_is : (alone : Bool) (o : OutletState) (p : Option (List Parts)) (o' : OutletState)
     → Sends alone o p o' → (o'.sent ≡ o.sent ++ option_to_list p) × (o'.closed ≡ o.closed)
 sent_is alone o None o' e =
-    (ap (λ (k : OutletState). k.sent) e ∙ sym (append-nil o.sent), ap (λ (k : OutletState). k.closed) e)
+    let sent : o'.sent ≡ o.sent = ap (λ (k : OutletState). k.sent) e in
+    (sent ∙ sym (append-nil o.sent), ap (λ (k : OutletState). k.closed) e)
 sent_is alone o (Some p) o' t = (t.sent, t.closed)
 
 lines_more : (packets : List (List Parts)) (lines : List Parts)
@@ -138,7 +141,8 @@ fits_after alone items x s o fit sends =
     ap as_received (ap lines_sent e.0 ∙ lines_more s.outlet.sent lines)
     ∙ map-append _ (lines_sent s.outlet.sent) lines in (
       subst (λ l. Agrees (held s.caps) (view_of l) (view_of (items ++ x.0 ∷ []))) (sym all)
-          (agreement_stays (as_received (lines_sent s.outlet.sent)) items s.caps (time_text_of x.1) x.0 fit.0),
+          (agreement_stays (as_received (lines_sent s.outlet.sent)) items s.caps (time_text_of x.1)
+          x.0 fit.0),
       e.1 ∙ fit.1,
     )
 
@@ -147,12 +151,15 @@ pub each_fits_after : (alone : Bool) (items : List Arrival) (x : Came) (ss ts : 
     → Delivered alone (λ s. packet_for (view_of items) x s.caps) ss ts
     → EachFits (view_of (items ++ x.0 ∷ [])) ts
 each_fits_after alone items x [] ts fit d =
-    let P : List SessionState → Type 0 = EachFits (view_of (items ++ x.0 ∷ [])) in subst P (sym d) tt
+    let P : List SessionState → Type 0 = EachFits (view_of (items ++ x.0 ∷ [])) in
+    subst P (sym d) tt
 each_fits_after alone items x (s ∷ ss) ts fit d =
     elim d [
       | inl e ↦ (let P : List SessionState → Type 0 = EachFits (view_of (items ++ x.0 ∷ [])) in
-          subst P (sym e.2)
-          (fits_after alone items x s e.0 fit.0 e.3, each_fits_after alone items x ss e.1 fit.1 e.4))
+          subst P (sym e.2) (
+            fits_after alone items x s e.0 fit.0 e.3,
+            each_fits_after alone items x ss e.1 fit.1 e.4,
+          ))
       | inr e ↦ each_fits_after alone items x ss ts fit.1 e.1
     ]
 
@@ -231,7 +238,8 @@ module _ (alone : Bool) (h h' : HubState) (x : Came) (v : View) (online : Bool)
       → IsRunning h' w online lost
   holds_on w same e s k f u =
       let l : less h'.taken h'.held ≡ less h.taken h.held =
-      ap (less h'.taken) e ∙ (ap (λ k. less k (Some x)) now ∙ less_some (less h.taken h.held) x x) in
+      ap (less h'.taken) e
+      ∙ (ap (λ k. less k (Some x)) now ∙ less_some (less h.taken h.held) x x) in
       let a : heard h' ≡ heard h = ap arrivals l in
       record {
         held_last = now ∙ (ap (λ k. k ++ x ∷ []) (sym l)
@@ -281,7 +289,8 @@ pub lost_more : (items : List Arrival) (x : Arrival)
     → unwrap_or (lost_by (view_of items) x) (lost_channels items) ≡ lost_channels (items ++ x ∷ [])
 unfolding view_of
 lost_more items (Received line) =
-    ap (λ l. channels_of_view (view_back (before_loss l))) (sym (reverse_more items (Received line)))
+    ap (λ l. channels_of_view (view_back (before_loss l)))
+    (sym (reverse_more items (Received line)))
 lost_more items Lost =
     ap (λ l. channels_of_view (view_back (before_loss l))) (sym (reverse_more items Lost))
 
@@ -373,7 +382,8 @@ pushed_states state xs ys zs s e f =
 
 -- a line was sent to the network, and a message to the sessions
 pub said_on : (h h' : HubState) (v : View) (online : Bool) {lost : List Joining}
-    (e : Option EntryParts) (p : List Parts) → IsRunning h v online lost → h'.taken ≡ h.taken → h'.held ≡ h.held
+    (e : Option EntryParts) (p : List Parts) → IsRunning h v online lost
+    → h'.taken ≡ h.taken → h'.held ≡ h.held
     → h'.history ≡ with_entry h.history e → h'.first ≡ h.first
     → h'.upstream.sent ≡ h.upstream.sent ++ p ∷ [] → content_said p ≡ option_map content e
     → (IsSome e → IsSome h.history.next) → IfSome e (λ e. IsTrue (is_message_command e.command))

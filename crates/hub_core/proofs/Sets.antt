@@ -46,7 +46,8 @@ same_is a b h =
     let e5 = beq_is _ _ h5.0 in
     let e6 = beq_is _ _ h5.1 in
     let e : six a.multi_prefix a.extended_join a.account_notify a.away_notify a.server_time a.batch
-    ≡ six b.multi_prefix b.extended_join b.account_notify b.away_notify b.server_time b.batch = cc in
+    ≡ six b.multi_prefix b.extended_join b.account_notify b.away_notify b.server_time b.batch =
+    cc in
     e
 
 -- ---- a set that was found

@@ -93,8 +93,8 @@ get_or_any (x ∷ xs) (suc i) d e h = get_or_any xs i d e (omega arith)
 
 -- ---- a packet for one of them
 
-pub replied : {S : Type 0} (state : S → SessionState) (alone : Bool) (xs : List S) (i : ℕ) (d s t : S)
-    (p : List Parts) → i < length xs → s ≡ get_or xs i s
+pub replied : {S : Type 0} (state : S → SessionState) (alone : Bool) (xs : List S) (i : ℕ)
+    (d s t : S) (p : List Parts) → i < length xs → s ≡ get_or xs i s
     → Took alone (state s).outlet p (state t).outlet
     → state t ≡ with_outlet (state s) (state t).outlet
     → Replies alone (map state (take i xs)) (state (get_or xs i d)) (map state (drop (suc i) xs)) p
@@ -109,8 +109,9 @@ replied state alone xs i d s t p h is took same =
     )
 
 -- what is answered is what came of the packet of the answer
-pub answered_so : (alone : Bool) (own : Option Text) (front : List SessionState) (here : SessionState)
-    (back : List SessionState) (line : Parts) (p : List Parts) (r : Said) (ts : List SessionState)
+pub answered_so : (alone : Bool) (own : Option Text) (front : List SessionState)
+    (here : SessionState) (back : List SessionState) (line : Parts) (p : List Parts) (r : Said)
+    (ts : List SessionState)
     → answer_packet own here line ≡ Some p → Replies alone front here back p r ts
     → Responds alone own front here back line r ts
 answered_so alone own front here back line p said.Answered ts e r =

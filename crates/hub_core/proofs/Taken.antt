@@ -41,7 +41,8 @@ taken_in settings line e =
 stays_named : (t : Told) (s : Standing) → IsSome s.own → IsSome (own_after t s)
 stays_named (Welcomed nick) s some = refl
 stays_named (Renamed old new) s some =
-    elim (is_us s old) as (λ b. IsSome (cond b (Some new.spelled) s.own)) [ true ↦ refl | false ↦ some ]
+    elim (is_us s old) as (λ b. IsSome (cond b (Some new.spelled) s.own))
+    [ true ↦ refl | false ↦ some ]
 stays_named _ s some = some
 
 abbrev standing_in : View → Standing

@@ -117,7 +117,8 @@ pub given_unread : (except : Option ℕ) (f : Caps → Option (List Parts))
     → ((caps : Caps) → AllByRecursion IsUnread (lines_in (f caps))) → (s : SessionState)
     → AllByRecursion IsUnread (lines_in (given_but except f s))
 given_unread except f quiet s =
-    elim (is_left_out except s) as (λ b. AllByRecursion IsUnread (lines_in (cond b None (f s.caps))))
+    elim (is_left_out except s) as
+    (λ b. AllByRecursion IsUnread (lines_in (cond b None (f s.caps))))
     [ true ↦ tt | false ↦ quiet s.caps ]
 
 -- the message of ours is what was made

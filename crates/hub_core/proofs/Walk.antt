@@ -30,7 +30,8 @@ before front i at some =
     let n : length front ≡ length r.0 + 1 = ap length r.2 ∙ length-append r.0 (r.1 ∷ []) in
     record { rest = r.0; last = r.1; is = r.2; at = omega arith }
 
-module _ {S : Type 0} (state : S → SessionState) (coming : S → Option (List Parts)) (alone : Bool) where
+module _ {S : Type 0} (state : S → SessionState) (coming : S → Option (List Parts))
+    (alone : Bool) where
   -- the sessions from the i-th on were dealt with
   pub record IsPartWay (olds now : List S) (i : ℕ) : Type 0 where
     pub front : List S
@@ -89,7 +90,8 @@ module _ {S : Type 0} (state : S → SessionState) (coming : S → Option (List 
           (state t).outlet,
           map state w.is,
           ap (λ x. x ∷ map state w.is) same,
-          (let P : Option (List Parts) → Type 0 = λ p. Sends alone (state s).outlet p (state t).outlet in
+          (let P : Option (List Parts) → Type 0 =
+              λ p. Sends alone (state s).outlet p (state t).outlet in
               subst P all.0 sends),
           w.done give all.1,
         );

@@ -20,7 +20,8 @@ text_code = coded_list coded_ℕ
 abbrev parts_code : Coded Parts
 parts_code =
     code_by (Option Text × (Option Text × (Text × (List Text))))
-    (coded× (coded_option text_code) (coded× (coded_option text_code) (coded× text_code (coded_list text_code))))
+    (coded× (coded_option text_code)
+    (coded× (coded_option text_code) (coded× text_code (coded_list text_code))))
     (λ l. (l.tags, (l.source, (l.command, l.params))))
     (λ p. record {
       tags = p.0;
@@ -50,8 +51,10 @@ came_code =
 abbrev caps_code : Coded Caps
 caps_code =
     code_by (Bool × (Bool × (Bool × (Bool × (Bool × (Bool))))))
-    (coded× coded_bool (coded× coded_bool (coded× coded_bool (coded× coded_bool (coded× coded_bool (coded_bool))))))
-    (λ c. (c.multi_prefix, (c.extended_join, (c.account_notify, (c.away_notify, (c.server_time, c.batch))))))
+    (coded× coded_bool (coded× coded_bool (coded× coded_bool
+    (coded× coded_bool (coded× coded_bool (coded_bool))))))
+    (λ c. let rest : Bool × (Bool × (Bool)) = (c.away_notify, (c.server_time, c.batch)) in
+    (c.multi_prefix, (c.extended_join, (c.account_notify, rest))))
     (λ p. record {
       multi_prefix = p.0;
       extended_join = p.1.0;
@@ -64,7 +67,8 @@ caps_code =
 abbrev outlet_code : Coded OutletState
 outlet_code =
     code_by (List (List Parts) × (Option ℕ × (ℕ × (ℕ))))
-    (coded× (coded_list (coded_list parts_code)) (coded× (coded_option coded_ℕ) (coded× coded_ℕ (coded_ℕ))))
+    (coded× (coded_list (coded_list parts_code))
+    (coded× (coded_option coded_ℕ) (coded× coded_ℕ (coded_ℕ))))
     (λ o. (o.sent, (o.closed, (o.capacity, o.free))))
     (λ p. record {
       sent = p.0;
@@ -114,9 +118,14 @@ marks_code = map.code text_code (coded_option coded_ℕ)
 
 abbrev pub hub_code : Coded HubState
 hub_code =
-    code_by (List Came × (List Came × (Option Came × (List SessionState × (Option ℕ × (OutletState × (Messages × (ℕ × (NameMarks × (ℕ))))))))))
-    (coded× (coded_list came_code) (coded× (coded_list came_code) (coded× (coded_option came_code) (coded× (coded_list session_code) (coded× (coded_option coded_ℕ) (coded× outlet_code (coded× messages_code (coded× coded_ℕ (coded× marks_code (coded_ℕ))))))))))
-    (λ h. (h.taken, (h.ahead, (h.held, (h.sessions, (h.next, (h.upstream, (h.history, (h.first, (h.marks, h.images))))))))))
+    code_by (List Came × (List Came × (Option Came × (List SessionState × (Option ℕ ×
+    (OutletState × (Messages × (ℕ × (NameMarks × (ℕ))))))))))
+    (coded× (coded_list came_code) (coded× (coded_list came_code) (coded× (coded_option came_code)
+    (coded× (coded_list session_code) (coded× (coded_option coded_ℕ) (coded× outlet_code
+    (coded× messages_code (coded× coded_ℕ (coded× marks_code (coded_ℕ))))))))))
+    (λ h. let rest : OutletState × (Messages × (ℕ × (NameMarks × (ℕ)))) =
+    (h.upstream, (h.history, (h.first, (h.marks, h.images)))) in
+    (h.taken, (h.ahead, (h.held, (h.sessions, (h.next, rest))))))
     (λ p. record {
       taken = p.0;
       ahead = p.1.0;

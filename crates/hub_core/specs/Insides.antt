@@ -25,7 +25,8 @@ module _ {O : Type 0} (sent : O → List (List Parts)) (closed : O → Option �
   abbrev pub states_of : List (Session O) → List SessionState
   states_of ss = map state_of ss
 
-module _ {V I O M : Type 0} (taken ahead : I → List Came) (sent : O → List (List Parts)) (closed : O → Option ℕ) (capacity free : O → ℕ) where
+module _ {V I O M : Type 0} (taken ahead : I → List Came) (sent : O → List (List Parts))
+    (closed : O → Option ℕ) (capacity free : O → ℕ) where
   abbrev pub hub_of : Inside V I O M → HubState
   hub_of h = record {
     taken = taken h.inlet;

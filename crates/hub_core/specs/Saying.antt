@@ -8,6 +8,7 @@ use Rattle.irc_line.specs.Line.{Parts, has_command}
 use Rattle.irc_line.specs.Writing.{untagged_line}
 use Rattle.irc_support.specs.Text.{Text}
 use Rattle.net_view.specs.Arrival.{Received}
+use Rattle.net_view.specs.View.{View}
 use Rattle.client_caps.specs.Answers.{answer_to, asked}
 use Rattle.client_caps.specs.declared.answers.Asked.{Asked}
 use Rattle.client_caps.specs.declared.answers.Asked.TheVariants as ask
@@ -52,9 +53,13 @@ meaning line =
 abbrev pub sent_up : Parts → Parts
 sent_up line = untagged_line None line.command line.params
 
--- the line as from us
+-- the line as from us, by a view of the network
+abbrev pub own_line : View → Parts → Parts
+own_line v line = untagged_line v.own line.command line.params
+
+-- by that of the hub
 abbrev pub from_us : HubState → Parts → Parts
-from_us h line = untagged_line (view_now h).own line.command line.params
+from_us h line = own_line (view_now h) line
 
 -- a message of ours is for the other sessions too
 abbrev pub own_message : HubState → Parts → ℕ → Option Came

@@ -16,6 +16,7 @@ ghost use Rattle.hub_core.specs.States.{view_now};
 ghost use Rattle.hub_core.specs.declared.attach.AttachError.TheVariants as refused;
 
 use crate::hub::Hub;
+use crate::pump::put_into_room;
 use crate::session::Session;
 use client_caps::Caps;
 use history::{AdmitError, History, Marks};
@@ -240,10 +241,7 @@ impl<V: NetworkView + Drop, I: Inlet, O: Outlet> Hub<V, I, O> {
             Ok(()) => {}
             Err(e) => return Err((e, outlet)),
         }
-        match outlet.offer(burst) {
-            Ok(()) => {}
-            Err(_) => unreachable!(),
-        }
+        put_into_room(&mut outlet, burst);
         self.next = number_after(id);
         self.sessions.push_reserved(Session {
             id,

@@ -1,6 +1,7 @@
 //! The hub of one network.
 
-ghost use Rattle.std.specs.Prelude.{◌≡◌, ◌↔◌, [], None, Some, false, IfOk, IsErrOf, map, option_map};
+ghost use Rattle.std.specs.Prelude.{◌≡◌, ◌↔◌, [], None, Some, false, IfOk, IsErrOf, map};
+ghost use Rattle.std.specs.Prelude.{option_map};
 ghost use Rattle.net_view.specs.View.{empty_view};
 ghost use Rattle.history.specs.Messages.{is_capacity};
 

@@ -1,6 +1,7 @@
 //! What comes from the network goes to the sessions.
 
-ghost use Rattle.std.specs.Prelude.{ℕ, ◌≡◌, ◌++◌, ◌∷◌, ◌+◌, ◌↔◌, [], None, Some, Option, IsSome};
+ghost use Rattle.std.specs.Prelude.{ℕ, ◌≡◌, ◌<◌, ◌++◌, ◌∷◌, ◌+◌, ◌↔◌, [], None, Some, Option};
+ghost use Rattle.std.specs.Prelude.{IsSome};
 ghost use Rattle.std.specs.Prelude.{IfOk, IfSome, IfNone, IsErrOf, OnErr, OnOk};
 ghost use Rattle.std.specs.Prelude.{cond, is_some, option_map, length, map};
 ghost use Rattle.std.specs.Prelude.{IsTrue, codes, slice_get, is_some};
@@ -10,7 +11,7 @@ ghost use Rattle.irc_line.specs.Writing.{untagged_line};
 ghost use Rattle.net_view.specs.Arrival.{arrival_of};
 ghost use Rattle.irc_line.specs.Tags.{is_tag_byte};
 ghost use Rattle.hub_ends.specs.Came.{came};
-ghost use Rattle.hub_core.specs.Given.{all_sets_but, given_but, packet_for};
+ghost use Rattle.hub_core.specs.Given.{Took, all_sets_but, given_but, packet_for};
 ghost use Rattle.hub_core.specs.Insides.{outlet_of, state_of, states_of};
 ghost use Rattle.hub_core.specs.LostChannels.{joining, lost_by};
 ghost use Rattle.hub_core.specs.Online.{is_welcome, says_online};
@@ -112,8 +113,8 @@ fn is_kept(item: &Item) -> bool
     }
 }
 
-/// Makes what an item leads to: what each session but one is to be sent, the entry of a message,
-/// the answer to a PING. Nothing is sent yet.
+/// Makes what an item leads to: what each session but one is to be sent, and the entry of a
+/// message. Nothing is sent yet.
 pub fn prepare_item<V: NetworkView, O: Outlet>(
     alloc: Global,
     view: &V,
@@ -123,15 +124,14 @@ pub fn prepare_item<V: NetworkView, O: Outlet>(
     moment: Moment,
     except: Option<SessionId>,
     made: &mut Vec<Made>,
-) -> Result<(Option<Entry>, Option<Packet>), HubError>
+) -> Result<Option<Entry>, HubError>
     ensures states { states_of O.sent O.closed O.capacity O.free sessions.new.items
         ≡ states_of O.sent O.closed O.capacity O.free sessions.old.items }
-    ensures made { IfOk result (λ r. (r.0 ≡ entry_for (arrival_of item.now, moment.0)) ×
-        (r.1 ≡ pong_for (arrival_of item.now))) }
+    ensures made { IfOk result (λ entry. entry ≡ entry_for (arrival_of item.now, moment.0)) }
     ensures coming { OnOk result (AllByRecursion (λ s. s.coming
         ≡ given_but except (packet_for (V.view view.now) (arrival_of item.now, moment.0))
         (state_of O.sent O.closed O.capacity O.free s)) sessions.new.items) }
-    ensures numbered { IfOk result (λ r. IsSome r.0 → IsSome history.now.next) }
+    ensures numbered { IfOk result (λ entry. IsSome entry → IsSome history.now.next) }
     ensures sets { OnOk result (map (λ m. m.caps) made.new.items ≡ all_sets_but except []
         (states_of O.sent O.closed O.capacity O.free sessions.old.items)) }
     ensures spent { IsErrOf result HubError.Spent ↔
@@ -142,8 +142,7 @@ pub fn prepare_item<V: NetworkView, O: Outlet>(
     }
     prepare(alloc, view, sessions, item, moment, except, made)?;
     let entry = entry_of(alloc, item, moment)?;
-    let pong = pong_of(alloc, item)?;
-    Ok((entry, pong))
+    Ok(entry)
 }
 
 /// Keeps a message, where there is one. That there is a number for it is for the caller to see to.
@@ -172,6 +171,18 @@ pub fn put<O: Outlet>(outlet: &mut O, packet: Option<Packet>)
     }
 }
 
+/// Puts a packet into an outlet that has room for it.
+pub fn put_into_room<O: Outlet>(outlet: &mut O, packet: Packet)
+    requires { 0 < O.free outlet.old }
+    ensures { Took O.alone (outlet_of O.sent O.closed O.capacity O.free outlet.old) packet
+        (outlet_of O.sent O.closed O.capacity O.free outlet.new) }
+{
+    match outlet.offer(packet) {
+        Ok(()) => {}
+        Err(_) => unreachable!(),
+    }
+}
+
 /// How many images an item was sent as.
 pub fn images_of(item: &Item, made: &Vec<Made>) -> u64
     ensures { result ≡ images_for (arrival_of item.now) (length made.now.items) }
@@ -182,8 +193,8 @@ pub fn images_of(item: &Item, made: &Vec<Made>) -> u64
     }
 }
 
-/// Makes what an item from the network leads to: that for the sessions, and the channels to be
-/// joined again.
+/// Makes what an item from the network leads to: that for the sessions, the answer to a PING, and
+/// the channels to be joined again.
 fn prepare_arrival<V: NetworkView, O: Outlet>(
     alloc: Global,
     view: &V,
@@ -208,7 +219,8 @@ fn prepare_arrival<V: NetworkView, O: Outlet>(
     ensures spent { IsErrOf result HubError.Spent ↔
         (IsSome (entry_for (arrival_of item.now, moment.0)) × (history.now.next ≡ None)) }
 {
-    let (entry, pong) = prepare_item(alloc, view, sessions, history, item, moment, None, made)?;
+    let entry = prepare_item(alloc, view, sessions, history, item, moment, None, made)?;
+    let pong = pong_of(alloc, item)?;
     let lost = lost_by(alloc, view, item)?;
     Ok((entry, pong, lost))
 }

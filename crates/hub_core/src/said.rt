@@ -1,23 +1,27 @@
 //! What clients say.
 
-ghost use Rattle.std.specs.Prelude.{◌≡◌, ◌∷◌, ◌<◌, [], None, Some, true, IsSome, IfErr, IfOk};
-ghost use Rattle.std.specs.Prelude.{IsTrue, false, option_map};
-ghost use Rattle.std.specs.List.{list_any};
+ghost use Rattle.std.specs.Prelude.{◌≡◌, ◌∷◌, ◌<◌, [], None, Some, true, IsSome, IfErr, IfOk, OnOk};
+ghost use Rattle.std.specs.Prelude.{IsTrue, false, length, option_map};
+ghost use Rattle.std.specs.List.{AllByRecursion, list_any};
+ghost use Rattle.net_view.specs.Arrival.{Received};
+ghost use Rattle.hub_core.specs.Given.{all_sets_but, given_but, packet_for};
+ghost use Rattle.hub_core.specs.Insides.{state_of, states_of};
+ghost use Rattle.hub_core.specs.Pumping.{entry_for};
 ghost use Rattle.irc_line.specs.Line.{has_command};
-ghost use Rattle.irc_line.specs.Writing.{untagged_line};
 ghost use Rattle.history.specs.Entry.{is_message};
 ghost use Rattle.hub_core.specs.Online.{is_online};
-ghost use Rattle.hub_core.specs.Saying.{Forwards, Says, Sent, meaning, meant_by, sent_up};
+ghost use Rattle.hub_core.specs.Saying.{Forwards, Says, Sent, meaning, meant_by, own_line, sent_up};
 ghost use Rattle.hub_core.specs.States.{heard};
 ghost use Rattle.hub_core.specs.Saying.{unheard_commands};
 
 use crate::deliver::deliver;
 use crate::hub::{Hub, HubError};
-use crate::pump::{images_of, keep, prepare_item};
+use crate::image_table::Made;
+use crate::pump::{images_of, keep, prepare_item, put_into_room};
 use crate::respond::respond;
-use crate::session::place_of;
+use crate::session::{Session, place_of};
 use client_caps::{Asked, Moment, answers_tell_nothing};
-use history::is_message;
+use history::{Entry, History, is_message};
 use hub_ends::{Inlet, Outlet, SessionId};
 use irc_line::Line;
 use net_view::{Item, NetworkView, OutOfMemory};
@@ -97,11 +101,40 @@ fn upward(alloc: Global, line: &Line) -> Result<Packet, OutOfMemory>
 
 /// A line as from us.
 fn from_us<V: NetworkView>(alloc: Global, view: &V, line: &Line) -> Result<Line, OutOfMemory>
-    ensures { IfOk result (λ own. own
-        ≡ untagged_line (V.view view.now).own line.now.command line.now.params) }
+    ensures { IfOk result (λ own. own ≡ own_line (V.view view.now) line.now) }
 {
     view.comes_from_lines();
     line.copy_as_in(alloc, view.own(), line.command())
+}
+
+/// Makes what a message of ours leads to: what each session but the speaker's is to be sent, its
+/// entry, and how many images that took. Nothing is sent yet.
+fn prepare_own<V: NetworkView, O: Outlet>(
+    alloc: Global,
+    view: &V,
+    sessions: &mut Vec<Session<O>>,
+    history: &History,
+    id: SessionId,
+    line: &Line,
+    moment: Moment,
+    made: &mut Vec<Made>,
+) -> Result<(Option<Entry>, u64), HubError>
+    requires { IsSome history.now.next }
+    ensures states { states_of O.sent O.closed O.capacity O.free sessions.new.items
+        ≡ states_of O.sent O.closed O.capacity O.free sessions.old.items }
+    ensures made { IfOk result (λ r.
+        (r.0 ≡ entry_for (Received (own_line (V.view view.now) line.now), moment.0)) ×
+        (r.1 ≡ length (all_sets_but (Some id) []
+        (states_of O.sent O.closed O.capacity O.free sessions.old.items)))) }
+    ensures coming { OnOk result (AllByRecursion (λ s. s.coming
+        ≡ given_but (Some id)
+        (packet_for (V.view view.now) (Received (own_line (V.view view.now) line.now), moment.0))
+        (state_of O.sent O.closed O.capacity O.free s)) sessions.new.items) }
+    ensures err { IfErr result (λ e. e ≡ HubError.OutOfMemory) }
+{
+    let own = Item::Line(from_us(alloc, view, line)?);
+    let entry = prepare_item(alloc, view, sessions, history, &own, moment, Some(id), made)?;
+    Ok((entry, images_of(&own, made)))
 }
 
 impl<V: NetworkView + Drop, I: Inlet, O: Outlet> Hub<V, I, O> {
@@ -122,22 +155,18 @@ impl<V: NetworkView + Drop, I: Inlet, O: Outlet> Hub<V, I, O> {
             Forwards O.alone self.old id line.now moment.0 self.new) }
         ensures err { IfErr result (λ e. (e ≡ HubError.OutOfMemory) × (self.new ≡ self.old)) }
     {
-        let own = Item::Line(from_us(self.alloc, &self.view, line)?);
-        let (entry, _) = prepare_item(
+        let (entry, images) = prepare_own(
             self.alloc,
             &self.view,
             &mut self.sessions,
             &self.history,
-            &own,
+            id,
+            line,
             moment,
-            Some(id),
             &mut self.made,
         )?;
-        match self.upstream.offer(packet) {
-            Ok(()) => {}
-            Err(_) => unreachable!(),
-        }
-        self.images = self.images.saturating_add(images_of(&own, &self.made));
+        put_into_room(&mut self.upstream, packet);
+        self.images = self.images.saturating_add(images);
         keep(&mut self.history, entry);
         deliver(&mut self.sessions);
         Ok(Said::Forwarded)
@@ -164,10 +193,7 @@ impl<V: NetworkView + Drop, I: Inlet, O: Outlet> Hub<V, I, O> {
         if is_for_all {
             return self.spread(id, packet, line, moment);
         }
-        match self.upstream.offer(packet) {
-            Ok(()) => {}
-            Err(_) => unreachable!(),
-        }
+        put_into_room(&mut self.upstream, packet);
         Ok(Said::Forwarded)
     }
 

@@ -8,6 +8,7 @@ ghost use Rattle.hub_core.specs.Upkeep.{AreFreed, Frees, KeepsAlive, is_nearly_f
 ghost use Rattle.hub_core.specs.Upkeep.{life_asked, nearly_full, with_free};
 
 use crate::hub::Hub;
+use crate::pump::put_into_room;
 use crate::session::Session;
 use hub_ends::{Inlet, Outlet, SessionId};
 use irc_line::{Line, MakeError};
@@ -86,10 +87,7 @@ impl<V: NetworkView + Drop, I: Inlet, O: Outlet> Hub<V, I, O> {
         let Ok(ping) = ping(self.alloc) else {
             return Err(OutOfMemory);
         };
-        match self.upstream.offer(ping) {
-            Ok(()) => {}
-            Err(_) => unreachable!(),
-        }
+        put_into_room(&mut self.upstream, ping);
         Ok(true)
     }
 

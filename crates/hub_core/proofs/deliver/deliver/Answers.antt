@@ -22,7 +22,9 @@ loop-place-init g c = record {
 -- src/deliver.rt:26:5
 pub loop-place-preserved-then-not-send_coming-3 : goal.loop-place-preserved-then-not-send_coming-3
 loop-place-preserved-then-not-send_coming-3 g c = record {
-  walk = rw c.remove-gone.ensures.items (cuts_on _ _ _ _ _ _ _ c.send_coming.new.self c.loop-place.invariant.walk c.loop-place-test.true c.index_mut.ensures.value c.if-not-send_coming.ensures.sent);
+  walk = rw c.remove-gone.ensures.items (cuts_on _ _ _ _ _ _ _ c.send_coming.new.self
+      c.loop-place.invariant.walk c.loop-place-test.true c.index_mut.ensures.value
+      c.if-not-send_coming.ensures.sent);
   count = omega arith;
   within = omega arith;
 }
@@ -30,7 +32,9 @@ loop-place-preserved-then-not-send_coming-3 g c = record {
 -- src/deliver.rt:26:5
 pub loop-place-preserved : goal.loop-place-preserved
 loop-place-preserved g c = record {
-  walk = goes_on _ _ _ _ _ _ _ c.send_coming.new.self c.loop-place.invariant.walk c.loop-place-test.true c.index_mut.ensures.value c.if-not-send_coming.ensures.sent c.if-not-send_coming.ensures.same c.if-not-send_coming.ensures.none;
+  walk = goes_on _ _ _ _ _ _ _ c.send_coming.new.self c.loop-place.invariant.walk
+      c.loop-place-test.true c.index_mut.ensures.value c.if-not-send_coming.ensures.sent
+      c.if-not-send_coming.ensures.same c.if-not-send_coming.ensures.none;
   count = search rules;
   within = search rules;
 }

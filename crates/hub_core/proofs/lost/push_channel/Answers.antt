@@ -15,5 +15,5 @@ returns-in_ok-push g c =
 
 pub returns-in_default : goal.returns-in_default
 returns-in_default g c =
-    none_added (g.V.NetworkView.view c.args.view.now) c.args.i (map joining c.args.channels.now.items)
-    c.in_default.ensures.name
+    none_added (g.V.NetworkView.view c.args.view.now) c.args.i
+    (map joining c.args.channels.now.items) c.in_default.ensures.name

@@ -36,12 +36,12 @@ module _ (g : Given.Over) (c : goal.After-push_reserved g) where
       (sym c.self.view_is) c.in-Ok.ensures.ok.3
 
   sent : Took g.O.Outlet.alone (outlet c.args.outlet)
-      (burst_of (view_now old) c.args.caps (missed old name)) (outlet c.offer.new.self)
+      (burst_of (view_now old) c.args.caps (missed old name)) (outlet c.put_into_room.new.outlet)
   sent = record {
-    sent = c.in-Ok-offer.ensures.taken.0 ∙ (λ k. c.make_room.ensures.sent k ++ burst k ∷ []);
-    closed = c.offer.ensures.closed ∙ c.make_room.ensures.closed;
-    capacity = c.offer.ensures.capacity ∙ c.make_room.ensures.capacity;
-    room = λ alone. sym (c.make_room.ensures.alone alone) ∙ c.in-Ok-offer.ensures.taken.2 alone;
+    sent = c.put_into_room.ensures.sent ∙ (λ k. c.make_room.ensures.sent k ++ burst k ∷ []);
+    closed = c.put_into_room.ensures.closed ∙ c.make_room.ensures.closed;
+    capacity = c.put_into_room.ensures.capacity ∙ c.make_room.ensures.capacity;
+    room = λ alone. sym (c.make_room.ensures.alone alone) ∙ c.put_into_room.ensures.room alone;
   }
 
   -- the sessions, with the new one
@@ -50,7 +50,7 @@ module _ (g : Given.Over) (c : goal.After-push_reserved g) where
         id = c.in-Ok.parts.0;
         name = name;
         caps = c.args.caps;
-        outlet = outlet c.offer.new.self;
+        outlet = outlet c.put_into_room.new.outlet;
       } ∷ []
   now =
       pushed_states state c.self.inside.sessions.items c.make_room.new.sessions.items
@@ -59,7 +59,7 @@ module _ (g : Given.Over) (c : goal.After-push_reserved g) where
         id = c.in-Ok.parts.0;
         name = c.in-Ok.ensures.ok.2 k;
         caps = c.args.caps;
-        outlet = outlet c.offer.new.self;
+        outlet = outlet c.put_into_room.new.outlet;
       } ∷ [])
 
   abbrev new : HubState
@@ -98,11 +98,12 @@ invariant_of-self-2 g c =
     (attached_fits g.O.Outlet.alone (old g c) (g.V.NetworkView.view c.self.inside.view)
     c.self.inside.online c.args.caps (name g c)
     (option_and_then (λ n. mark_of n c.self.inside.marks) (name g c)) c.in-Ok.parts.0
-    (outlet g c c.args.outlet) (outlet g c c.offer.new.self) c.self.invariant
-    (ap (λ (v : View). v.ready) c.self.invariant.view_is ∙ is_ready (old g c) (name g c) (allowed g c))
+    (outlet g c c.args.outlet) (outlet g c c.put_into_room.new.outlet) c.self.invariant
+    (ap (λ (v : View). v.ready) c.self.invariant.view_is
+    ∙ is_ready (old g c) (name g c) (allowed g c))
     c.requires.0 c.requires.1
     (subst (λ v. Took g.O.Outlet.alone (outlet g c c.args.outlet)
-    (burst_of v c.args.caps (missed (old g c) (name g c))) (outlet g c c.offer.new.self))
+    (burst_of v c.args.caps (missed (old g c) (name g c))) (outlet g c c.put_into_room.new.outlet))
     (sym c.self.invariant.view_is) (sent g c))))
 
 attaches : (g : Given.Over) (c : goal.After-push_reserved g) → Attaches g.O.Outlet.alone (old g c)
@@ -110,7 +111,7 @@ attaches : (g : Given.Over) (c : goal.After-push_reserved g) → Attaches g.O.Ou
 attaches g c = record {
   allowed = allowed g c;
   number = number g c;
-  given = outlet g c c.offer.new.self;
+  given = outlet g c c.put_into_room.new.outlet;
   sent = sent g c;
   is = λ k. record {
     taken = (old g c).taken;

@@ -13,8 +13,8 @@ pub returns-in_default-clause-err : goal.returns-in_default-clause-err
 returns-in_default-clause-err g c = (
   refl,
   rw (← c.self.view_is)
-      (lacks (state_of g.O.Outlet.sent g.O.Outlet.closed g.O.Outlet.capacity g.O.Outlet.free) c.args.id
-      c.self.inside.sessions.items c.in_default.ensures.none),
+      (lacks (state_of g.O.Outlet.sent g.O.Outlet.closed g.O.Outlet.capacity g.O.Outlet.free)
+      c.args.id c.self.inside.sessions.items c.in_default.ensures.none),
 )
 
 module _ (g : Given.Over) (c : goal.Joined-gone-2 g) where
@@ -66,8 +66,9 @@ module _ (g : Given.Over) (c : goal.Joined-gone-2 g) where
       (front ++ state c.remove-gone.result ∷ back)
   fit = subst (EachFits (g.V.NetworkView.view c.self.inside.view)) was c.self.invariant.fit
 
-  detaches : Detaches old c.args.id (outlet_of g.O.Outlet.sent g.O.Outlet.closed g.O.Outlet.capacity g.O.Outlet.free c.close.new.self)
-      (g.O.Outlet.told c.close.new.self) new
+  detaches : Detaches old c.args.id
+      (outlet_of g.O.Outlet.sent g.O.Outlet.closed g.O.Outlet.capacity g.O.Outlet.free
+      c.close.new.self) (g.O.Outlet.told c.close.new.self) new
   detaches = record {
     front = front;
     gone = state c.remove-gone.result;

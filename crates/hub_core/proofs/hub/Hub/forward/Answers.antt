@@ -21,6 +21,10 @@ old g i =
     hub_of g.I.Inlet.taken g.I.Inlet.ahead g.O.Outlet.sent g.O.Outlet.closed g.O.Outlet.capacity
     g.O.Outlet.free i
 
+pub returns-then-not-self : goal.returns-then-not-self
+returns-then-not-self g c =
+    rw (← c.self.view_is) (sym c.self.invariant.online_is ∙ c.if-not-self.true, refl)
+
 pub returns-in-Err : goal.returns-in-Err
 returns-in-Err g c =
     rw (← c.self.view_is)
@@ -39,11 +43,11 @@ returns-then-is_for_all-2 g c =
 not_both : true ≡ false → ⊥
 not_both e = cc
 
-forwards : (g : Given.Over) (c : goal.In-Ok-offer g) → Forwards g.O.Outlet.alone
+forwards : (g : Given.Over) (c : goal.After-put_into_room g) → Forwards g.O.Outlet.alone
     (old g c.self.inside) c.args.id c.args.line.now c.args.moment.0
-    (with_upstream (old g c.self.inside) (outlet (g.O.Outlet.sent c.offer.new.self)
-    (g.O.Outlet.closed c.offer.new.self) (g.O.Outlet.capacity c.offer.new.self)
-    (g.O.Outlet.free c.offer.new.self)))
+    (with_upstream (old g c.self.inside) (outlet (g.O.Outlet.sent c.put_into_room.new.outlet)
+    (g.O.Outlet.closed c.put_into_room.new.outlet) (g.O.Outlet.capacity c.put_into_room.new.outlet)
+    (g.O.Outlet.free c.put_into_room.new.outlet)))
 forwards g c =
     let none : own_message (old g c.self.inside) c.args.line.now c.args.moment.0 ≡ None =
     no_message (old g c.self.inside) c.args.line.now c.args.moment.0
@@ -51,14 +55,15 @@ forwards g c =
     record {
       online = sym c.self.invariant.online_is ∙ c.if-not-self.false;
       upstream = record {
-        sent = c.in-Ok-offer.ensures.taken.0
+        sent = c.put_into_room.ensures.sent
             ∙ (λ k. c.room.ensures.sent k ++ c.in-Ok.ensures k ∷ []);
-        closed = c.offer.ensures.closed ∙ c.room.ensures.closed;
-        capacity = c.offer.ensures.capacity ∙ c.room.ensures.capacity;
-        room = λ alone. sym (c.room.ensures.alone alone) ∙ c.in-Ok-offer.ensures.taken.2 alone;
+        closed = c.put_into_room.ensures.closed ∙ c.room.ensures.closed;
+        capacity = c.put_into_room.ensures.capacity ∙ c.room.ensures.capacity;
+        room = λ alone. sym (c.room.ensures.alone alone) ∙ c.put_into_room.ensures.room alone;
       };
-      sessions = subst (λ o. Delivered g.O.Outlet.alone (given_others (old g c.self.inside) c.args.id o)
-          (old g c.self.inside).sessions (old g c.self.inside).sessions) (sym none)
+      sessions = subst (λ o. Delivered g.O.Outlet.alone
+          (given_others (old g c.self.inside) c.args.id o) (old g c.self.inside).sessions
+          (old g c.self.inside).sessions) (sym none)
           (nobody g.O.Outlet.alone (old g c.self.inside) c.args.id (old g c.self.inside).sessions);
       history = ap (λ o. with_entry (old g c.self.inside).history (entry_said o)) (sym none);
       number = λ message. absurd (not_both (sym message ∙ sym c.if-is_for_all-2.ensures));

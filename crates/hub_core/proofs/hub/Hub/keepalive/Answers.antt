@@ -25,23 +25,25 @@ returns-in_default g c =
           c.room.ensures.closed c.room.ensures.capacity c.room.ensures.more c.room.ensures.alone,
     )
 
-sent : (g : Given.Over) (c : goal.In-Ok-offer g) → g.O.Outlet.sent c.offer.new.self
+sent : (g : Given.Over) (c : goal.After-put_into_room g)
+    → g.O.Outlet.sent c.put_into_room.new.outlet
     ≡ (old g c.self.inside).upstream.sent ++ (life_asked ∷ []) ∷ []
 sent g c =
-    c.in-Ok-offer.ensures.taken.0 ∙ (λ k. c.room.ensures.sent k ++ c.in-Ok.ensures k ∷ [])
+    c.put_into_room.ensures.sent ∙ (λ k. c.room.ensures.sent k ++ c.in-Ok.ensures k ∷ [])
 
-asks : (g : Given.Over) (c : goal.In-Ok-offer g) → AsksLife g.O.Outlet.alone (old g c.self.inside)
+asks : (g : Given.Over) (c : goal.After-put_into_room g)
+    → AsksLife g.O.Outlet.alone (old g c.self.inside)
     (with_upstream (old g c.self.inside) (outlet_of g.O.Outlet.sent g.O.Outlet.closed
-    g.O.Outlet.capacity g.O.Outlet.free c.offer.new.self))
+    g.O.Outlet.capacity g.O.Outlet.free c.put_into_room.new.outlet))
 asks g c = record {
   online = sym c.self.invariant.online_is ∙ c.if-not-self.false;
   given = outlet_of g.O.Outlet.sent g.O.Outlet.closed g.O.Outlet.capacity g.O.Outlet.free
-      c.offer.new.self;
+      c.put_into_room.new.outlet;
   sent = record {
     sent = sent g c;
-    closed = c.offer.ensures.closed ∙ c.room.ensures.closed;
-    capacity = c.offer.ensures.capacity ∙ c.room.ensures.capacity;
-    room = λ alone. sym (c.room.ensures.alone alone) ∙ c.in-Ok-offer.ensures.taken.2 alone;
+    closed = c.put_into_room.ensures.closed ∙ c.room.ensures.closed;
+    capacity = c.put_into_room.ensures.capacity ∙ c.room.ensures.capacity;
+    room = λ alone. sym (c.room.ensures.alone alone) ∙ c.put_into_room.ensures.room alone;
   };
   is = refl;
 }

@@ -27,7 +27,8 @@ pub invariant_of-self-in-Err-take : goal.invariant_of-self-in-Err-take
 invariant_of-self-in-Err-take g c =
     holds_on g.I.Inlet.alone _ _ _ _ _
     record { taken = c.in-Some.ensures.taken; comes = c.in-Some.ensures.ahead }
-    c.self.invariant _ c.in-Err-take.ensures.kept refl c.prepare_arrival.ensures.states refl refl refl
+    c.self.invariant _ c.in-Err-take.ensures.kept refl c.prepare_arrival.ensures.states
+    refl refl refl
 
 module _ (g : Given.Over) (c : goal.Joined-item g) where
   abbrev state : Session g.row.O.Denot → SessionState
@@ -97,7 +98,8 @@ invariant_of-self-2 g c =
     c.self.invariant g.O.Outlet.alone _ _ _ (ap (option_map came) c.in-Some.ensures.held)
     (c.in_default-take.ensures.taken (heard (old g c)) c.self.invariant.view_is)
     (c.online_after-self-inside.ensures
-    ∙ (ap (λ b. option_map_or (λ said. said) (says_online (item g c).0) b) c.self.invariant.online_is
+    ∙ (ap (λ b. option_map_or (λ said. said) (says_online (item g c).0) b)
+    c.self.invariant.online_is
     ∙ online_more (heard (old g c)) (item g c).0))
     (lost_then g c)
     (delivered g c)

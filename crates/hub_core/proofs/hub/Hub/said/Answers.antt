@@ -98,8 +98,9 @@ returns-in_err-respond-in-Asks g c =
     (subst (λ r. Answered g.O.Outlet.alone (hub g c.self.inside) c.args.id c.args.line.now r
     (spoken.with_sessions (hub g c.self.inside) (states_of g.O.Outlet.sent g.O.Outlet.closed
     g.O.Outlet.capacity g.O.Outlet.free c.respond.new.sessions.items))) (sym e)
-    (ap (λ ss. spoken.with_sessions (hub g c.self.inside) (states_of g.O.Outlet.sent g.O.Outlet.closed
-    g.O.Outlet.capacity g.O.Outlet.free ss.items)) c.in_err-respond-in-Asks.ensures.err)))
+    (ap (λ ss. spoken.with_sessions (hub g c.self.inside) (states_of g.O.Outlet.sent
+    g.O.Outlet.closed g.O.Outlet.capacity g.O.Outlet.free ss.items))
+    c.in_err-respond-in-Asks.ensures.err)))
 
 pub invariant_of-self-in-Asks : goal.invariant_of-self-in-Asks
 invariant_of-self-in-Asks g c =

@@ -8,11 +8,11 @@ use Rattle.irc_line.specs.Writing.{untagged_line}
 use Rattle.history.specs.Entry.{is_message}
 use Rattle.hub_core.specs.declared.session.Session.{Session}
 use Rattle.hub_core.specs.Insides.{hub_of, state_of, outlet_of}
-use Rattle.hub_core.specs.Given.{Delivered, packet_for, given_but}
+use Rattle.hub_core.specs.Given.{Delivered, Took, packet_for, given_but}
 use Rattle.hub_core.specs.States.{HubState, SessionState, OutletState, heard, view_now}
 use Rattle.hub_core.specs.Pumping.{with_entry, counted}
 use Rattle.hub_core.specs.Saying.{Forwards, own_message, given_others, entry_said, images_said}
-use Rattle.hub_core.specs.Saying.{sent_up}
+use Rattle.hub_core.specs.Saying.{own_line, sent_up}
 use Rattle.std.proofs.Common.{None, unwrap_or}
 use Rattle.std.specs.Option.{option_map}
 use Rattle.std.specs.Prelude.{IsSome}
@@ -28,7 +28,7 @@ use Rattle.hub_core.proofs.Unread.{each_fits_unread, given_unread, said_unread, 
 use Rattle.hub_core.proofs.hub.Hub.spread.Goals as goal
 use Rattle.hub_core.proofs.hub.Hub.spread.Given
 
-module _ (g : Given.Over) (c : goal.Joined-own-2 g) where
+module _ (g : Given.Over) (c : goal.After-deliver g) where
   abbrev state : Session g.row.O.Denot → SessionState
   state = state_of g.O.Outlet.sent g.O.Outlet.closed g.O.Outlet.capacity g.O.Outlet.free
 
@@ -39,7 +39,7 @@ module _ (g : Given.Over) (c : goal.Joined-own-2 g) where
   view = g.V.NetworkView.view c.self.inside.view
 
   abbrev own : Parts
-  own = c.in_ok-from_us.field-0
+  own = own_line view c.args.line.now
 
   abbrev moment : ℕ
   moment = c.args.moment.0
@@ -59,26 +59,21 @@ module _ (g : Given.Over) (c : goal.Joined-own-2 g) where
         held = c.self.inside.held;
         sessions = c.deliver.new.sessions;
         next = c.self.inside.next;
-        upstream = c.offer.new.self;
+        upstream = c.put_into_room.new.outlet;
         online = c.self.inside.online;
         history = c.keep.new.history;
         first = c.self.inside.first;
         marks = c.self.inside.marks;
         images = c.saturating_add-self-inside.result;
-        made = c.prepare_item.new.made;
+        made = c.prepare_own.new.made;
         lost = c.self.inside.lost;
       }
-
-  is_own : is_message own ≡ true
-  is_own = ap is_message c.in_ok-from_us.ensures ∙ c.requires.message
 
   -- what was made is the message as from us
   own_said : own_message old c.args.line.now moment ≡ Some (Received own, moment)
   own_said =
       own_is old c.args.line.now own moment c.requires.message
-      (c.in_ok-from_us.ensures
-      ∙ ap (λ (v : View). untagged_line v.own c.args.line.now.command c.args.line.now.params)
-      c.self.invariant.view_is)
+      (ap (λ (v : View). own_line v c.args.line.now) c.self.invariant.view_is)
 
   delivered : (v : View) → v ≡ view → Delivered g.O.Outlet.alone
       (given_but (Some c.args.id) (packet_for v (Received own, moment))) old.sessions
@@ -89,7 +84,7 @@ module _ (g : Given.Over) (c : goal.Joined-own-2 g) where
       (map state c.deliver.new.sessions.items)) (sym e)
       (subst (λ ss. Delivered g.O.Outlet.alone
       (given_but (Some c.args.id) (packet_for view (Received own, moment))) ss
-      (map state c.deliver.new.sessions.items)) c.prepare_item.ensures.states
+      (map state c.deliver.new.sessions.items)) c.prepare_own.ensures.states
       (c.deliver.ensures.all (given_but (Some c.args.id) (packet_for view (Received own, moment)))
       c.in_ok-entry.ensures.coming))
 
@@ -98,26 +93,22 @@ module _ (g : Given.Over) (c : goal.Joined-own-2 g) where
 
   forwards : Forwards g.O.Outlet.alone old c.args.id c.args.line.now moment new
   forwards = record {
-    online = subst (λ (h : HubState). is_online (heard h) ≡ true) (sym c.self.view_is) c.requires.online;
-    upstream = record {
-      sent = c.in-Ok.ensures.taken.0 ∙ ap (λ p. old.upstream.sent ++ p ∷ []) c.requires.packet;
-      closed = c.offer.ensures.closed;
-      capacity = c.offer.ensures.capacity;
-      room = λ alone. c.in-Ok.ensures.taken.2 alone;
-    };
+    online = subst (λ (h : HubState). is_online (heard h) ≡ true) (sym c.self.view_is)
+        c.requires.online;
+    upstream = subst (λ p. Took g.O.Outlet.alone old.upstream p new.upstream) c.requires.packet
+        c.put_into_room.ensures;
     sessions = subst (λ o. Delivered g.O.Outlet.alone (given_others old c.args.id o) old.sessions
         new.sessions) (sym own_said) (delivered (view_now old) (sym c.self.invariant.view_is));
     history = kept ∙ ap (λ o. with_entry old.history (entry_said o)) (sym own_said);
     number = λ message. subst (λ (h : HubState). IsSome h.history.next) (sym c.self.view_is)
         c.requires.number;
-    images = c.saturating_add-self-inside.ensures ∙ (ap (λ n. counted (old.images + n))
-        (c.images_of.ensures ∙ (sym (map_length (λ m. m.caps) c.prepare_item.new.made.items)
-        ∙ ap length c.in_ok-entry.ensures.sets))
+    images = c.saturating_add-self-inside.ensures
+        ∙ (ap (λ n. counted (old.images + n)) c.in_ok-entry.ensures.made.1
         ∙ ap (images_said old c.args.id) (sym own_said));
     same = (refl, refl, refl, refl, refl, refl);
   }
 
-module _ (g : Given.Over) (c : goal.Joined-own-2 g) where
+module _ (g : Given.Over) (c : goal.After-deliver g) where
   online : is_online (heard (old g c)) ≡ true
   online =
       subst (λ (h : HubState). is_online (heard h) ≡ true) (sym c.self.view_is) c.requires.online
@@ -125,17 +116,14 @@ module _ (g : Given.Over) (c : goal.Joined-own-2 g) where
   -- we have a nick, so there is a source
   sourced : IsSome (own g c).source
   sourced =
-      subst (λ (l : Parts). IsSome l.source) (sym c.in_ok-from_us.ensures)
-      (subst (λ (v : View). IsSome v.own) (sym c.self.invariant.view_is)
-      (online_owned (heard (old g c)) online))
+      subst (λ (v : View). IsSome v.own) (sym c.self.invariant.view_is)
+      (online_owned (heard (old g c)) online)
 
   says : content_said (sent_up c.args.line.now ∷ [])
       ≡ option_map content (entry_said (Some (Received (own g c), moment g c)))
   says =
-      ap (λ (l : Parts). content_said (untagged_line None l.command l.params ∷ []))
-      (sym c.in_ok-from_us.ensures)
-      ∙ said_content (unwrap_or (time_of (own g c)) (time_text_of (moment g c))) (own g c).source
-      (own g c) (is_own g c) sourced
+      said_content (unwrap_or (time_of (own g c)) (time_text_of (moment g c))) (own g c).source
+      (own g c) c.requires.message sourced
 
 pub invariant_of-self-2 : goal.invariant_of-self-2
 invariant_of-self-2 g c =
@@ -148,7 +136,7 @@ invariant_of-self-2 g c =
     (given_but (Some c.args.id) (packet_for (view g c) (Received (own g c), moment g c)))
     (old g c).sessions _
     (given_unread (Some c.args.id) (packet_for (view g c) (Received (own g c), moment g c))
-    (λ caps. said_unread (view g c) (own g c) (moment g c) caps (is_own g c)))
+    (λ caps. said_unread (view g c) (own g c) (moment g c) caps c.requires.message))
     c.self.invariant.fit (delivered g c (view g c) refl))
 
 pub returns-clause-ok : goal.returns-clause-ok

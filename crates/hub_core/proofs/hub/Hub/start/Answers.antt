@@ -6,7 +6,8 @@ use Rattle.hub_core.proofs.hub.Hub.start.Goals as goal
 
 pub invariant_of-result : goal.invariant_of-result
 invariant_of-result g c =
-    started_runs _ _ _ c.args.setup.history (ap (map joining) c.new-5.ensures.items) c.requires.inlet refl
+    started_runs _ _ _ c.args.setup.history (ap (map joining) c.new-5.ensures.items)
+    c.requires.inlet refl
     (ap (states_of g.O.Outlet.sent g.O.Outlet.closed g.O.Outlet.capacity g.O.Outlet.free)
     c.new-3.ensures.items) c.requires.view c.requires.upstream (search rules)
     c.in_ok-history.ensures.made

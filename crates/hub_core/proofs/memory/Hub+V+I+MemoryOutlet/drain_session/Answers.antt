@@ -32,8 +32,8 @@ fits : (v : View) (ss : List (Session MemoryOutlet)) (i : ℕ) (s : Session Memo
     → EachFits v (map state (set ss i (with_end s o)))
 fits v ss i s o less is sent closed fit =
     subst (EachFits v) (sym (states_put state ss i (with_end s o) less))
-    (fits_put v (map state (take i ss)) (map state (drop (suc i) ss)) (state s) (outlet o) sent closed
-    (subst (EachFits v) (states_split state ss i s less is) fit))
+    (fits_put v (map state (take i ss)) (map state (drop (suc i) ss)) (state s) (outlet o) sent
+    closed (subst (EachFits v) (states_split state ss i s less is) fit))
 
 -- nothing was taken out
 same_states : (ss : List (Session MemoryOutlet)) (i : ℕ) (s : Session MemoryOutlet)
@@ -63,7 +63,11 @@ on_err (Err e) P p = p
 
 pub returns-in_default-clause-ok : goal.returns-in_default-clause-ok
 returns-in_default-clause-ok g c =
-    rw (← c.self.view_is) (inl (lacks state c.args.id c.self.inside.sessions.items c.in_default.ensures.none, refl, refl))
+    rw (← c.self.view_is) (inl (
+      lacks state c.args.id c.self.inside.sessions.items c.in_default.ensures.none,
+      refl,
+      refl,
+    ))
 
 pub invariant_of-self : goal.invariant_of-self
 invariant_of-self g c =
@@ -112,6 +116,6 @@ returns-clause-ok g c =
       given = outlet c.drain.new.self;
       drained = drained _ _ c.args.most _ _ c.drain.ensures.sent c.drain.ensures.closed
           c.drain.ensures.capacity few refl ok.0 ok.2;
-      is = ap (over.with_sessions (old g c.self.inside)) (states_put state ss i (with_end s c.drain.new.self)
-          c.in-Some.ensures.some.0);
+      is = ap (over.with_sessions (old g c.self.inside))
+          (states_put state ss i (with_end s c.drain.new.self) c.in-Some.ensures.some.0);
     }))
