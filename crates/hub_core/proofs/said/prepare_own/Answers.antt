@@ -1,4 +1,4 @@
-use Rattle.std.proofs.Common.{◌≡◌, ◌∙◌, Some, ap, length, map, refl, subst, sym}
+use Rattle.std.proofs.Common.{◌≡◌, ◌∙◌, Some, ap, length, refl, subst, sym}
 use Rattle.std.specs.List.{AllByRecursion}
 use Rattle.irc_line.proofs.Outcomes.{no_value, not_ok, refused_by}
 use Rattle.net_view.specs.Arrival.{Received}

@@ -1,11 +1,9 @@
-use Rattle.std.proofs.Common.{◌≡◌, ◌∙◌, ◌∷◌, ◌++◌, [], ◌+◌, refl, sym, ap, subst, length, map, Some}
+use Rattle.std.proofs.Common.{◌≡◌, ◌∙◌, ◌∷◌, [], ◌+◌, refl, sym, ap, subst, map, Some}
 use Rattle.std.proofs.Common.{ℕ, true}
 use Rattle.hub_core.specs.Online.{is_online}
 use Rattle.irc_line.specs.Line.{Parts}
 use Rattle.net_view.specs.View.{View}
 use Rattle.net_view.specs.Arrival.{Received}
-use Rattle.irc_line.specs.Writing.{untagged_line}
-use Rattle.history.specs.Entry.{is_message}
 use Rattle.hub_core.specs.declared.session.Session.{Session}
 use Rattle.hub_core.specs.Insides.{hub_of, state_of, outlet_of}
 use Rattle.hub_core.specs.Given.{Delivered, Took, packet_for, given_but}
@@ -13,7 +11,7 @@ use Rattle.hub_core.specs.States.{HubState, SessionState, OutletState, heard, vi
 use Rattle.hub_core.specs.Pumping.{with_entry, counted}
 use Rattle.hub_core.specs.Saying.{Forwards, own_message, given_others, entry_said, images_said}
 use Rattle.hub_core.specs.Saying.{own_line, sent_up}
-use Rattle.std.proofs.Common.{None, unwrap_or}
+use Rattle.std.proofs.Common.{unwrap_or}
 use Rattle.std.specs.Option.{option_map}
 use Rattle.std.specs.Prelude.{IsSome}
 use Rattle.irc_line.specs.Tags.{time_of}
@@ -21,7 +19,6 @@ use Rattle.client_caps.specs.Moment.{time_text_of}
 use Rattle.hub_core.specs.Running.{content, content_said}
 use Rattle.hub_core.proofs.Numbers.{said_content}
 use Rattle.hub_core.proofs.Taken.{online_owned}
-use Rattle.hub_core.proofs.Prepared.{map_length}
 use Rattle.hub_core.proofs.Running.{said_on}
 use Rattle.hub_core.proofs.Kept.{entry_is_message}
 use Rattle.hub_core.proofs.Unread.{each_fits_unread, given_unread, said_unread, own_is}
