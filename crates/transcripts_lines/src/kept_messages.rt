@@ -19,31 +19,58 @@ fn add(alloc: Global, history: &mut History, text: &[u8]) -> Result<Result<u64, 
     Ok(history.add(entry))
 }
 
+/// Whether there may not be so many messages.
+fn is_bad_capacity(alloc: Global, capacity: usize) -> bool {
+    let none = History::<Global>::new(alloc, capacity, 1);
+    matches!(none, Err(CapacityError::BadCapacity))
+}
+
+/// Whether there may be so many messages, and there are none at first.
+fn is_good_capacity(alloc: Global, capacity: usize) -> bool {
+    match History::<Global>::new(alloc, capacity, 1) {
+        Ok(history) => history.is_empty() && history.last_number().is_none(),
+        Err(_) => false,
+    }
+}
+
 /// How many messages there may be.
 #[test]
-fn capacities(rt: HostRuntime) -> Result<(), Fail> {
+fn capacities(rt: HostRuntime) {
     for capacity in [0, 10_001, usize::MAX] {
-        let none = History::<Global>::new(rt.alloc(), capacity, 1);
-        assert!(&rt; matches!(&none, Err(CapacityError::BadCapacity)));
+        assert!(&rt; is_bad_capacity(rt.alloc(), capacity));
     }
     for capacity in [1, 10_000] {
-        let history = History::<Global>::new(rt.alloc(), capacity, 1)?;
-        assert!(&rt; history.is_empty() && history.last_number().is_none());
+        assert!(&rt; is_good_capacity(rt.alloc(), capacity));
     }
+}
+
+/// Whether the message of a line gets the greatest number there is.
+fn gets_the_last_number(alloc: Global, history: &mut History, text: &[u8]) -> Result<bool, Fail> {
+    Ok(matches!(add(alloc, history, text)?, Ok(u64::MAX)))
+}
+
+/// Whether there is no number for the message of a line.
+fn gets_no_number(alloc: Global, history: &mut History, text: &[u8]) -> Result<bool, Fail> {
+    Ok(matches!(add(alloc, history, text)?, Err(Spent)))
+}
+
+/// Whether one message is kept, with the greatest number there is.
+fn has_the_last_number(history: &History) -> bool {
+    history.len() == 1 && history.last_number() == Some(u64::MAX) && history.next_number().is_none()
+}
+
+/// Of two messages the first one gets the last number.
+fn one_of_two_is_kept<R: AllocGlobal + Abort>(rt: &R, history: &mut History) -> Result<(), Fail> {
+    assert!(rt; gets_the_last_number(rt.alloc(), history, b":a PRIVMSG #c m1")?);
+    assert!(rt; gets_no_number(rt.alloc(), history, b":a PRIVMSG #c m2")?);
+    assert!(rt; has_the_last_number(history));
     Ok(())
 }
 
 /// The greatest number there is belongs to the last message.
 #[test]
 fn the_last_number(rt: HostRuntime) -> Result<(), Fail> {
-    let mut history = History::new(rt.alloc(), 3, u64::MAX)?;
-    let first = add(rt.alloc(), &mut history, b":a PRIVMSG #c m1")?;
-    assert!(&rt; matches!(first, Ok(u64::MAX)));
-    let second = add(rt.alloc(), &mut history, b":a PRIVMSG #c m2")?;
-    assert!(&rt; matches!(second, Err(Spent)));
-    assert!(&rt; history.len() == 1 && history.last_number() == Some(u64::MAX));
-    assert!(&rt; history.next_number().is_none());
-    Ok(())
+    one_of_two_is_kept(&rt, &mut History::new(rt.alloc(), 3, u64::MAX)?)
 }
 
 const THREE_OF_FIVE_SAID: [&[u8]; 5] = [
@@ -83,19 +110,29 @@ fn has_messages<R: AllocGlobal + Abort>(
 ) -> Result<(), Fail> {
     for (place, text, number) in rows {
         let entry = history.entry(*place).ok_or("three are kept")?;
-        assert!(rt; is_of_bob(entry, text));
-        assert!(rt; history.number_of(*place) == Some(*number));
+        assert!(rt; is_of_bob(entry, text) && history.number_of(*place) == Some(*number));
     }
     Ok(())
+}
+
+/// Whether three messages are kept, the last one with the number 5.
+fn has_three(history: &History) -> bool {
+    history.len() == 3
+        && history.last_number() == Some(5)
+        && history.entry(3).is_none()
+        && history.number_of(3).is_none()
+}
+
+/// Three messages are kept, and they are these.
+fn has_these_three<R: AllocGlobal + Abort>(rt: &R, history: &History) -> Result<(), Fail> {
+    assert!(rt; has_three(history));
+    has_messages(rt, history, &THE_LAST_THREE)
 }
 
 /// The last three of five messages.
 #[test]
 fn the_last_three_of_five(rt: HostRuntime) -> Result<(), Fail> {
-    let history = three_of_five(rt.alloc())?;
-    assert!(&rt; history.len() == 3 && history.last_number() == Some(5));
-    assert!(&rt; history.entry(3).is_none() && history.number_of(3).is_none());
-    has_messages(&rt, &history, &THE_LAST_THREE)
+    has_these_three(&rt, &three_of_five(rt.alloc())?)
 }
 
 const HOW_MANY_STAND_ABOVE_A_MARK: [(Option<u64>, usize); 5] = [
@@ -106,24 +143,40 @@ const HOW_MANY_STAND_ABOVE_A_MARK: [(Option<u64>, usize); 5] = [
     (Some(5), 0),
 ];
 
+/// Each row holds.
+fn check_missed<R: AllocGlobal + Abort>(
+    rt: &R,
+    history: &History,
+    rows: &[(Option<u64>, usize)],
+) -> Result<(), Fail> {
+    for (mark, count) in rows {
+        assert!(rt; history.missed(rt.alloc(), *mark)?.len() == *count);
+    }
+    Ok(())
+}
+
 /// Those of them that stand above a mark.
 #[test]
 fn how_many_stand_above_a_mark(rt: HostRuntime) -> Result<(), Fail> {
-    let history = three_of_five(rt.alloc())?;
-    for (mark, count) in &HOW_MANY_STAND_ABOVE_A_MARK {
-        assert!(&rt; history.missed(rt.alloc(), *mark)?.len() == *count);
-    }
-    Ok(())
+    check_missed(
+        &rt,
+        &three_of_five(rt.alloc())?,
+        &HOW_MANY_STAND_ABOVE_A_MARK,
+    )
 }
 
 /// A message that was made before it is added.
 #[test]
 fn a_message_made_beforehand(rt: HostRuntime) -> Result<(), Fail> {
     let mut history = History::<Global>::new(rt.alloc(), 1, 7)?;
-    let number = add(rt.alloc(), &mut history, b":a!b@c NOTICE Me :")?;
-    assert!(&rt; matches!(number, Ok(7)));
-    assert!(&rt; is_empty_notice_of_a(history.entry(0)));
+    assert!(&rt; keeps_an_empty_notice(rt.alloc(), &mut history)?);
     Ok(())
+}
+
+/// Whether a notice of a without a text gets the number 7, and is kept.
+fn keeps_an_empty_notice(alloc: Global, history: &mut History) -> Result<bool, Fail> {
+    let number = add(alloc, history, b":a!b@c NOTICE Me :")?;
+    Ok(matches!(number, Ok(7)) && is_empty_notice_of_a(history.entry(0)))
 }
 
 /// Whether it is a message of a without a text.
@@ -168,10 +221,13 @@ fn is_made(entry: Option<&Entry>) -> bool {
 #[test]
 fn a_message_by_its_parts(rt: HostRuntime) -> Result<(), Fail> {
     let mut history = History::<Global>::new(rt.alloc(), 2, u64::MAX)?;
-    let number = push_read(&mut history, &made(rt.alloc())?);
-    assert!(&rt; number == Some(u64::MAX));
-    assert!(&rt; is_made(history.entry(0)));
+    assert!(&rt; keeps_what_is_read(&mut history, &made(rt.alloc())?));
     Ok(())
+}
+
+/// Whether the message made by its parts gets the last number, and is kept.
+fn keeps_what_is_read(history: &mut History, entry: &Entry) -> bool {
+    push_read(history, entry) == Some(u64::MAX) && is_made(history.entry(0))
 }
 
 /// A message that is pushed where no number is left.
@@ -179,10 +235,14 @@ fn a_message_by_its_parts(rt: HostRuntime) -> Result<(), Fail> {
 fn a_message_without_a_number(rt: HostRuntime) -> Result<(), Fail> {
     let mut history = History::<Global>::new(rt.alloc(), 2, u64::MAX)?;
     let _number = add(rt.alloc(), &mut history, b":a PRIVMSG #c m1")?;
-    let refused = history.push(b"2020-01-02T03:04:05.678Z", b"Me", b"NOTICE", b"bob", b"");
-    assert!(&rt; matches!(refused, Err(PushError::Spent)));
-    assert!(&rt; history.len() == 1);
+    assert!(&rt; is_refused(&mut history));
     Ok(())
+}
+
+/// Whether a message is refused for want of a number, and one is kept.
+fn is_refused(history: &mut History) -> bool {
+    let refused = history.push(b"2020-01-02T03:04:05.678Z", b"Me", b"NOTICE", b"bob", b"");
+    matches!(refused, Err(PushError::Spent)) && history.len() == 1
 }
 
 /// The entry of a line that a client says under our nick.
@@ -255,13 +315,11 @@ fn lines_that_are_messages(rt: HostRuntime) -> Result<(), Fail> {
     check_lines_that_are_messages(&rt, &LINES_THAT_ARE_MESSAGES)
 }
 
-/// Marks of 64 names of a byte each.
-fn full_marks<R: AllocGlobal + Abort>(rt: &R) -> Result<Marks, Fail> {
-    let mut marks = Marks::new(rt.alloc())?;
+/// Admits 64 names of a byte each.
+fn fill<R: AllocGlobal + Abort>(rt: &R, marks: &mut Marks) {
     for byte in 0..64 {
         assert!(rt; matches!(marks.admit(&[byte]), Ok(true)));
     }
-    Ok(marks)
 }
 
 /// A known name is admitted again, and no further one.
@@ -271,30 +329,44 @@ fn admits_the_known<R: AllocGlobal + Abort>(rt: &R, marks: &mut Marks) {
     assert!(rt; matches!(marks.admit(&[0]), Ok(false)));
 }
 
+/// Whether of two marks that are set the one is kept whose name was admitted.
+fn keeps_a_mark(marks: &mut Marks) -> bool {
+    marks.set_mark(&[0], 5);
+    marks.set_mark(b"pc", 6);
+    marks.mark(&[0]) == Some(5) && marks.mark(b"pc").is_none() && marks.mark(&[1]).is_none()
+}
+
+/// Names up to the 64th are admitted, and keep their marks.
+fn are_admitted<R: AllocGlobal + Abort>(rt: &R, marks: &mut Marks) {
+    fill(rt, marks);
+    admits_the_known(rt, marks);
+    assert!(rt; keeps_a_mark(marks));
+}
+
 /// Names up to the 64th, and their marks.
 #[test]
 fn names_and_their_marks(rt: HostRuntime) -> Result<(), Fail> {
-    let mut marks = full_marks(&rt)?;
-    admits_the_known(&rt, &mut marks);
-    marks.set_mark(&[0], 5);
-    marks.set_mark(b"pc", 6);
-    assert!(&rt; marks.mark(&[0]) == Some(5) && marks.mark(b"pc").is_none());
-    assert!(&rt; marks.mark(&[1]).is_none());
+    are_admitted(&rt, &mut Marks::new(rt.alloc())?);
     Ok(())
+}
+
+/// Of the names that are withdrawn those without a mark make room, each for one name.
+fn are_withdrawn<R: AllocGlobal + Abort>(rt: &R, marks: &mut Marks) {
+    fill(rt, marks);
+    marks.set_mark(&[0], 5);
+    marks.withdraw(&[0]);
+    marks.withdraw(b"pc");
+    assert!(rt; matches!(marks.admit(b"pc"), Err(AdmitError::NamesFull)));
+    marks.withdraw(&[1]);
+    assert!(rt; matches!(marks.admit(b"pc"), Ok(true)));
+    // names are compared byte for byte
+    marks.withdraw(&[2]);
+    assert!(rt; matches!(marks.admit(b"PC"), Ok(true)));
 }
 
 /// A name with a mark stays, and so does one that was not admitted away.
 #[test]
 fn names_that_are_withdrawn(rt: HostRuntime) -> Result<(), Fail> {
-    let mut marks = full_marks(&rt)?;
-    marks.set_mark(&[0], 5);
-    marks.withdraw(&[0]);
-    marks.withdraw(b"pc");
-    assert!(&rt; matches!(marks.admit(b"pc"), Err(AdmitError::NamesFull)));
-    marks.withdraw(&[1]);
-    assert!(&rt; matches!(marks.admit(b"pc"), Ok(true)));
-    // names are compared byte for byte
-    marks.withdraw(&[2]);
-    assert!(&rt; matches!(marks.admit(b"PC"), Ok(true)));
+    are_withdrawn(&rt, &mut Marks::new(rt.alloc())?);
     Ok(())
 }

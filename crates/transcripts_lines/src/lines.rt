@@ -56,7 +56,7 @@ fn has_parts(line: &Line, row: &Parts) -> bool {
         && has_params(line, params)
 }
 
-const TEXTS_AND_THEIR_PARTS: [Parts; 14] = [
+static TEXTS_AND_THEIR_PARTS: [Parts; 14] = [
     (b"PING", None, None, b"PING", &[]),
     (b"PING x", None, None, b"PING", &[b"x"]),
     (b"001", None, None, b"001", &[]),
@@ -164,7 +164,7 @@ fn nicks_of_sources(rt: HostRuntime) -> Result<(), Fail> {
 
 const TIME: &[u8] = b"2020-01-02T03:04:05.678Z";
 
-const TIME_TAGS: [(&[u8], Option<&[u8]>); 10] = [
+static TIME_TAGS: [(&[u8], Option<&[u8]>); 10] = [
     (b"@time=2020-01-02T03:04:05.678Z PING", Some(TIME)),
     (
         b"@a=1;time=2020-01-02T03:04:05.678Z;time=now PING",
@@ -207,7 +207,7 @@ fn made(alloc: Global, row: &Made) -> Result<Vec<u8>, Fail> {
     written(alloc, &line)
 }
 
-const LINES_MADE_AND_WRITTEN: [Made; 7] = [
+static LINES_MADE_AND_WRITTEN: [Made; 7] = [
     (None, b"PING", &[], b"PING\r\n"),
     (
         Some(b"a"),
@@ -249,7 +249,7 @@ fn is_no_line(alloc: Global, row: &Unmade) -> bool {
     matches!(made, Err(MakeError::NotALine))
 }
 
-const PARTS_THAT_ARE_NO_LINE: [Unmade; 11] = [
+static PARTS_THAT_ARE_NO_LINE: [Unmade; 11] = [
     (None, b"PRIVMSG", &[b"#a b", b"x"]),
     (None, b"PRIVMSG", &[b"", b"x"]),
     (None, b"PRIVMSG", &[b":a", b"x"]),
@@ -315,13 +315,30 @@ fn tags_that_are_refused_change_nothing(rt: HostRuntime) -> Result<(), Fail> {
     Ok(())
 }
 
+/// Appends a clone of a line.
+fn write_clone(line: &Line, out: &mut Vec<u8>) -> Result<(), Fail> {
+    Ok(line.clone()?.write(out)?)
+}
+
+/// Appends a copy of a line.
+fn write_copy(alloc: Global, line: &Line, out: &mut Vec<u8>) -> Result<(), Fail> {
+    Ok(line.copy_in(alloc)?.write(out)?)
+}
+
+/// A PING, and behind it a clone and a copy of a line.
+fn behind_a_ping(alloc: Global, line: &Line) -> Result<Vec<u8>, Fail> {
+    let mut out = b"PING\r\n".to_vec(alloc)?;
+    write_clone(line, &mut out)?;
+    write_copy(alloc, line, &mut out)?;
+    Ok(out)
+}
+
+const COPIES_BEHIND_A_PING: &[u8] = b"PING\r\n:a PRIVMSG #a :\r\n:a PRIVMSG #a :\r\n";
+
 #[test]
 fn a_copy_is_written_behind_what_is_there(rt: HostRuntime) -> Result<(), Fail> {
     let line = line(rt.alloc(), b":a PRIVMSG #a :")?;
-    let mut out = b"PING\r\n".to_vec(rt.alloc())?;
-    line.clone()?.write(&mut out)?;
-    line.copy_in(rt.alloc())?.write(&mut out)?;
-    assert!(rt; out.as_slice() == b"PING\r\n:a PRIVMSG #a :\r\n:a PRIVMSG #a :\r\n".as_slice());
+    assert!(rt; behind_a_ping(rt.alloc(), &line)?.as_slice() == COPIES_BEHIND_A_PING);
     Ok(())
 }
 

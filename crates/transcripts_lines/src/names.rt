@@ -1,15 +1,10 @@
 //! Names as RFC 2812, section 2.2, and the isupport draft have them.
 
 use irc_names::{CaseMapping, is_nameable};
+use std::alloc::Global;
 use std::cmp::Ordering;
 use std::process::Abort;
 use std::test::Fail;
-
-const MAPPINGS: [CaseMapping; 3] = [
-    CaseMapping::Ascii,
-    CaseMapping::Rfc1459,
-    CaseMapping::Strict,
-];
 
 const KEYS_OF_EACH_MAPPING: [(CaseMapping, &[u8], &[u8]); 5] = [
     (CaseMapping::Ascii, b"aZ[]\\~{}|^", b"az[]\\~{}|^"),
@@ -19,6 +14,19 @@ const KEYS_OF_EACH_MAPPING: [(CaseMapping, &[u8], &[u8]); 5] = [
     (CaseMapping::Rfc1459, b"", b""),
 ];
 
+/// Whether a name stands at the place of this key.
+fn is_at_key(mapping: CaseMapping, name: &[u8], key: &[u8]) -> bool {
+    mapping.same(name, key)
+        && mapping.order(name, key) == Ordering::Equal
+        && mapping.order_to_key(name, key) == Ordering::Equal
+}
+
+/// Whether a name has this key, and stands at its place.
+fn has_key(alloc: Global, mapping: CaseMapping, name: &[u8], key: &[u8]) -> Result<bool, Fail> {
+    let made = mapping.key(alloc, name)?;
+    Ok(made.as_slice() == key && is_at_key(mapping, name, &made))
+}
+
 /// Each row holds.
 fn check_keys_of_each_mapping<R: AllocGlobal + Abort>(
     rt: &R,
@@ -26,11 +34,7 @@ fn check_keys_of_each_mapping<R: AllocGlobal + Abort>(
 ) -> Result<(), Fail> {
     for row in rows {
         let (mapping, name, want) = *row;
-        let key = mapping.key(rt.alloc(), name)?;
-        assert!(rt; key.as_slice() == want);
-        assert!(rt; mapping.same(name, want));
-        assert_eq!(rt; mapping.order(name, want), Ordering::Equal);
-        assert_eq!(rt; mapping.order_to_key(name, &key), Ordering::Equal);
+        assert!(rt; has_key(rt.alloc(), mapping, name, want)?);
     }
     Ok(())
 }
@@ -48,17 +52,26 @@ const NAMES_THAT_ARE_THE_SAME: [(&[u8], &[u8], [bool; 3]); 5] = [
     (b"#c", b"#c ", [false, false, false]),
 ];
 
+/// Whether two names are the same and stand at one place, or neither.
+fn are_the_same(mapping: CaseMapping, a: &[u8], b: &[u8], same: bool) -> bool {
+    mapping.same(a, b) == same && (mapping.order(a, b) == Ordering::Equal) == same
+}
+
+/// Whether two names are the same by each mapping: ASCII's, RFC 1459's and the strict one.
+fn are_the_same_by_each(a: &[u8], b: &[u8], [ascii, rfc1459, strict]: [bool; 3]) -> bool {
+    are_the_same(CaseMapping::Ascii, a, b, ascii)
+        && are_the_same(CaseMapping::Rfc1459, a, b, rfc1459)
+        && are_the_same(CaseMapping::Strict, a, b, strict)
+}
+
 /// Each row holds.
 fn check_names_that_are_the_same<R: AllocGlobal + Abort>(
     rt: &R,
     rows: &[(&[u8], &[u8], [bool; 3])],
 ) {
     for row in rows {
-        let (a, b, want) = *row;
-        for (mapping, same) in MAPPINGS.into_iter().zip(want) {
-            assert_eq!(rt; mapping.same(a, b), same);
-            assert_eq!(rt; mapping.order(a, b) == Ordering::Equal, same);
-        }
+        let (a, b, same) = *row;
+        assert!(rt; are_the_same_by_each(a, b, same));
     }
 }
 
@@ -67,36 +80,52 @@ fn names_that_are_the_same(rt: HostRuntime) {
     check_names_that_are_the_same(&rt, &NAMES_THAT_ARE_THE_SAME);
 }
 
+/// A mapping, two names, and the order of the first to the second.
+type InOrder = (CaseMapping, &'static [u8], &'static [u8], Ordering);
+
+const NAMES_IN_THEIR_ORDER: [InOrder; 4] = [
+    (CaseMapping::Ascii, b"bo", b"BOB", Ordering::Less),
+    (CaseMapping::Ascii, b"c", b"Bob", Ordering::Greater),
+    (CaseMapping::Rfc1459, b"[", b"z", Ordering::Greater),
+    (CaseMapping::Ascii, b"[", b"z", Ordering::Less),
+];
+
 #[test]
 fn names_in_their_order(rt: HostRuntime) {
-    assert_eq!(rt; CaseMapping::Ascii.order(b"bo", b"BOB"), Ordering::Less);
-    assert_eq!(rt; CaseMapping::Ascii.order(b"c", b"Bob"), Ordering::Greater);
-    assert_eq!(rt; CaseMapping::Rfc1459.order(b"[", b"z"), Ordering::Greater);
-    assert_eq!(rt; CaseMapping::Ascii.order(b"[", b"z"), Ordering::Less);
+    for row in &NAMES_IN_THEIR_ORDER {
+        let (mapping, a, b, order) = *row;
+        assert!(rt; mapping.order(a, b) == order);
+    }
 }
+
+const NAMES_BEFORE_AND_BEHIND_A_KEY: [InOrder; 3] = [
+    (CaseMapping::Ascii, b"BO", b"bob", Ordering::Less),
+    (CaseMapping::Ascii, b"C", b"bob", Ordering::Greater),
+    (CaseMapping::Rfc1459, b"[", b"z", Ordering::Greater),
+];
 
 #[test]
 fn names_before_and_behind_a_key(rt: HostRuntime) {
-    assert_eq!(rt;
-        CaseMapping::Ascii.order_to_key(b"BO", b"bob"),
-        Ordering::Less
-    );
-    assert_eq!(rt;
-        CaseMapping::Ascii.order_to_key(b"C", b"bob"),
-        Ordering::Greater
-    );
-    assert_eq!(rt;
-        CaseMapping::Rfc1459.order_to_key(b"[", b"z"),
-        Ordering::Greater
-    );
+    for row in &NAMES_BEFORE_AND_BEHIND_A_KEY {
+        let (mapping, name, key, order) = *row;
+        assert!(rt; mapping.order_to_key(name, key) == order);
+    }
 }
+
+/// A mapping, a byte, and the byte that stands for it in a key.
+const FOLDED_BYTES: [(CaseMapping, u8, u8); 4] = [
+    (CaseMapping::Ascii, b'Z', b'z'),
+    (CaseMapping::Rfc1459, b'~', b'^'),
+    (CaseMapping::Strict, b'~', b'~'),
+    (CaseMapping::Strict, b'^', b'^'),
+];
 
 #[test]
 fn folded_bytes(rt: HostRuntime) {
-    assert_eq!(rt; CaseMapping::Ascii.fold_byte(b'Z'), b'z');
-    assert_eq!(rt; CaseMapping::Rfc1459.fold_byte(b'~'), b'^');
-    assert_eq!(rt; CaseMapping::Strict.fold_byte(b'~'), b'~');
-    assert_eq!(rt; CaseMapping::Strict.fold_byte(b'^'), b'^');
+    for row in &FOLDED_BYTES {
+        let (mapping, byte, folded) = *row;
+        assert!(rt; mapping.fold_byte(byte) == folded);
+    }
 }
 
 const NAMEABLE: [&[u8]; 8] = [
@@ -116,10 +145,10 @@ const NOT_NAMEABLE: [&[u8]; 12] = [
 
 #[test]
 fn nameable_nicks(rt: HostRuntime) {
-    for nick in NAMEABLE {
+    for nick in &NAMEABLE {
         assert!(rt; is_nameable(nick));
     }
-    for nick in NOT_NAMEABLE {
+    for nick in &NOT_NAMEABLE {
         assert!(rt; !is_nameable(nick));
     }
 }

@@ -14,7 +14,7 @@ fn has_lines<R: AllocGlobal + Abort>(
     count: usize,
 ) -> Result<(), Fail> {
     splitter.feed(piece, lines)?;
-    assert_eq!(rt; lines.len(), count);
+    assert!(rt; lines.len() == count);
     Ok(())
 }
 
@@ -26,8 +26,8 @@ fn is_too_long<R: AllocGlobal + Abort>(
     piece: &[u8],
 ) {
     let count = lines.len();
-    assert!(rt; splitter.feed(piece, lines) == Err(FeedError::TooLong));
-    assert_eq!(rt; lines.len(), count);
+    let fed = splitter.feed(piece, lines);
+    assert!(rt; fed == Err(FeedError::TooLong) && lines.len() == count);
 }
 
 /// Two pieces of a line, of which the first has no end.
@@ -39,8 +39,7 @@ fn feed_two<R: AllocGlobal + Abort>(
 ) -> Result<(), Fail> {
     has_lines(rt, splitter, lines, piece, 0)?;
     has_lines(rt, splitter, lines, rest, 1)?;
-    assert_eq!(rt; splitter.skipped(), 0);
-    assert!(rt; all_say_hi(lines.as_slice()));
+    assert!(rt; splitter.skipped() == 0 && all_say_hi(lines.as_slice()));
     Ok(())
 }
 
@@ -62,14 +61,25 @@ fn a_line_cut_after_each_byte(rt: HostRuntime) -> Result<(), Fail> {
     Ok(())
 }
 
+const FIVE_THAT_ARE_NO_LINES: &[u8] =
+    b"\r\n  \n\n12 x\nNI1CK x\r\nPING \0\nPING\rx\nPING x\r\r\nPING x\nPI";
+
+/// Five texts that are no lines are skipped, and the lines between and behind them are read.
+fn five_are_skipped<R: AllocGlobal + Abort>(
+    rt: &R,
+    splitter: &mut Splitter,
+    lines: &mut Vec<Line>,
+) -> Result<(), Fail> {
+    has_lines(rt, splitter, lines, FIVE_THAT_ARE_NO_LINES, 1)?;
+    assert!(rt; splitter.skipped() == 5);
+    has_lines(rt, splitter, lines, b"NG y\nPING z\n", 3)
+}
+
 #[test]
 fn what_is_no_line_is_skipped(rt: HostRuntime) -> Result<(), Fail> {
     let mut splitter = Splitter::new(rt.alloc());
     let mut lines = Vec::new(rt.alloc());
-    let stream = b"\r\n  \n\n12 x\nNI1CK x\r\nPING \0\nPING\rx\nPING x\r\r\nPING x\nPI";
-    has_lines(&rt, &mut splitter, &mut lines, stream, 1)?;
-    assert_eq!(rt; splitter.skipped(), 5);
-    has_lines(&rt, &mut splitter, &mut lines, b"NG y\nPING z\n", 3)
+    five_are_skipped(&rt, &mut splitter, &mut lines)
 }
 
 /// So many letters behind `PING ` are a line, and one more is none: what is refused is forgotten.
@@ -104,15 +114,25 @@ fn lines_in_a_piece(alloc: Global, count: usize) -> Result<Vec<u8>, Fail> {
     Ok(piece)
 }
 
+/// A piece with a line at the limit is read, and one with a longer line is refused.
+fn one_within<R: AllocGlobal + Abort>(
+    rt: &R,
+    splitter: &mut Splitter,
+    lines: &mut Vec<Line>,
+    (piece, longer): (&[u8], &[u8]),
+) -> Result<(), Fail> {
+    // the first of the three ends what an earlier piece began
+    has_lines(rt, splitter, lines, b"PING", 0)?;
+    has_lines(rt, splitter, lines, piece, 2)?;
+    is_too_long(rt, splitter, lines, longer);
+    Ok(())
+}
+
 #[test]
 fn a_line_at_the_limit_within_a_piece(rt: HostRuntime) -> Result<(), Fail> {
+    let piece = lines_in_a_piece(rt.alloc(), LINE_LIMIT)?;
+    let longer = lines_in_a_piece(rt.alloc(), LINE_LIMIT + 1)?;
     let mut splitter = Splitter::new(rt.alloc());
     let mut lines = Vec::new(rt.alloc());
-    // the first of the three ends what an earlier piece began
-    has_lines(&rt, &mut splitter, &mut lines, b"PING", 0)?;
-    let piece = lines_in_a_piece(rt.alloc(), LINE_LIMIT)?;
-    has_lines(&rt, &mut splitter, &mut lines, &piece, 2)?;
-    let longer = lines_in_a_piece(rt.alloc(), LINE_LIMIT + 1)?;
-    is_too_long(&rt, &mut splitter, &mut lines, &longer);
-    Ok(())
+    one_within(&rt, &mut splitter, &mut lines, (&piece, &longer))
 }

@@ -22,31 +22,47 @@ fn push_word(
     Ok(())
 }
 
-fn members_text(alloc: Global, settings: &Support, line: &Line) -> Result<Vec<u8>, OutOfMemory> {
-    let mut text = Vec::new(alloc);
+/// Adds the members of a name list.
+fn push_members(settings: &Support, line: &Line, text: &mut Vec<u8>) -> Result<(), OutOfMemory> {
     for (ranks, nick) in names(settings, line) {
-        push_word(settings, ranks, nick, &mut text)?;
+        push_word(settings, ranks, nick, text)?;
     }
-    Ok(text)
+    Ok(())
 }
 
-fn words_text(alloc: Global, settings: &Support, line: &Line) -> Result<Vec<u8>, OutOfMemory> {
-    let mut text = Vec::new(alloc);
+/// Adds the words of a name list.
+fn push_words(settings: &Support, line: &Line, text: &mut Vec<u8>) -> Result<(), OutOfMemory> {
     for (ranks, rest) in name_words(settings, line) {
-        push_word(settings, ranks, rest, &mut text)?;
+        push_word(settings, ranks, rest, text)?;
     }
+    Ok(())
+}
+
+/// The members of the name list of a line.
+fn members_text(alloc: Global, settings: &Support, said: &[u8]) -> Result<Vec<u8>, Fail> {
+    let line = line(alloc, said)?;
+    let mut text = Vec::new(alloc);
+    push_members(settings, &line, &mut text)?;
     Ok(text)
 }
 
-/// The members of a name list are this text.
+/// The words of the name list of a line.
+fn words_text(alloc: Global, settings: &Support, said: &[u8]) -> Result<Vec<u8>, Fail> {
+    let line = line(alloc, said)?;
+    let mut text = Vec::new(alloc);
+    push_words(settings, &line, &mut text)?;
+    Ok(text)
+}
+
+/// Each row holds.
 fn check_members<R: AllocGlobal + Abort>(
     rt: &R,
     settings: &Support,
-    line: &Line,
-    wanted: &[u8],
+    rows: &[(&[u8], &[u8])],
 ) -> Result<(), Fail> {
-    let text = members_text(rt.alloc(), settings, line)?;
-    assert!(rt; text.as_slice() == wanted);
+    for (said, wanted) in rows {
+        assert!(rt; members_text(rt.alloc(), settings, said)?.as_slice() == *wanted);
+    }
     Ok(())
 }
 
@@ -63,22 +79,18 @@ const MEMBERS_OF_A_NAME_LIST: [(&[u8], &[u8]); 8] = [
 
 #[test]
 fn members_of_a_name_list(rt: HostRuntime) -> Result<(), Fail> {
-    let settings = Support::new(rt.alloc())?;
-    for (text, wanted) in &MEMBERS_OF_A_NAME_LIST {
-        check_members(&rt, &settings, &line(rt.alloc(), text)?, wanted)?;
-    }
-    Ok(())
+    check_members(&rt, &Support::new(rt.alloc())?, &MEMBERS_OF_A_NAME_LIST)
 }
 
-/// The words of a name list are this text.
+/// Each row holds.
 fn check_words<R: AllocGlobal + Abort>(
     rt: &R,
     settings: &Support,
-    line: &Line,
-    wanted: &[u8],
+    rows: &[(&[u8], &[u8])],
 ) -> Result<(), Fail> {
-    let text = words_text(rt.alloc(), settings, line)?;
-    assert!(rt; text.as_slice() == wanted);
+    for (said, wanted) in rows {
+        assert!(rt; words_text(rt.alloc(), settings, said)?.as_slice() == *wanted);
+    }
     Ok(())
 }
 
@@ -94,42 +106,51 @@ const WORDS_WITH_USER_AND_HOST: [(&[u8], &[u8]); 4] = [
 
 #[test]
 fn words_with_user_and_host(rt: HostRuntime) -> Result<(), Fail> {
-    let settings = Support::new(rt.alloc())?;
-    for (text, wanted) in &WORDS_WITH_USER_AND_HOST {
-        check_words(&rt, &settings, &line(rt.alloc(), text)?, wanted)?;
-    }
-    Ok(())
+    check_words(&rt, &Support::new(rt.alloc())?, &WORDS_WITH_USER_AND_HOST)
 }
 
 #[test]
 fn a_word_cut_behind_its_symbols(rt: HostRuntime) -> Result<(), Fail> {
-    let settings = Support::new(rt.alloc())?;
-    let (ranks, name) = settings.split_symbols(b"+@bob!b@h");
-    assert!(rt; ranks == Ranks::none().with(0).with(1));
-    assert!(rt; name == b"bob!b@h".as_slice());
+    assert!(rt; is_cut_behind_its_symbols(&Support::new(rt.alloc())?));
     Ok(())
+}
+
+/// Whether a word is cut behind the symbols of both ranks.
+fn is_cut_behind_its_symbols(settings: &Support) -> bool {
+    let (ranks, name) = settings.split_symbols(b"+@bob!b@h");
+    ranks == Ranks::none().with(0).with(1) && name == b"bob!b@h".as_slice()
+}
+
+/// Whether a set has the ranks 3 and 15 and no others.
+fn has_two_alone(set: Ranks) -> bool {
+    for rank in 0..=255 {
+        if set.has(rank) != (rank == 3 || rank == 15) {
+            return false;
+        }
+    }
+    true
+}
+
+/// Whether the ranks 3 and 15 of a set are its highest, one after the other, and its last.
+fn goes_by_rank(set: Ranks) -> bool {
+    set.top() == Some(3)
+        && set.without(3).top() == Some(15)
+        && set.without(3).without(15) == Ranks::none()
 }
 
 #[test]
 fn sets_of_ranks(rt: HostRuntime) {
-    assert_eq!(rt; Ranks::none().top(), None);
     let set = Ranks::none().with(3).with(15).with(3);
-    assert_eq!(rt; set.top(), Some(3));
-    assert_eq!(rt; set.without(3).top(), Some(15));
-    assert!(rt; set == Ranks::none().with(15).with(3));
-    assert!(rt; set.without(3).without(15) == Ranks::none());
-    for rank in 0..=255 {
-        assert_eq!(rt; set.has(rank), rank == 3 || rank == 15);
-    }
+    assert!(rt; Ranks::none().top().is_none() && set == Ranks::none().with(15).with(3));
+    assert!(rt; goes_by_rank(set) && has_two_alone(set));
 }
 
 #[test]
 fn ranks_one_after_another(rt: HostRuntime) {
-    let set = Ranks::none().with(15).with(3);
-    let mut ranks = set.iter();
-    assert_eq!(rt; ranks.next(), Some(3));
-    assert_eq!(rt; ranks.next(), Some(15));
-    assert_eq!(rt; ranks.next(), None);
+    let mut ranks = Ranks::none().with(15).with(3).iter();
+    for next in [Some(3), Some(15), None] {
+        assert!(rt; ranks.next() == next);
+    }
 }
 
 /// The first word of a text.

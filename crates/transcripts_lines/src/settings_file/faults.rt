@@ -14,9 +14,37 @@ fn told(alloc: Global, text: &[u8]) -> Result<String, AllocError> {
     }
 }
 
+/// Whether this is what is told of a file.
+fn is_told(alloc: Global, text: &[u8], want: &str) -> Result<bool, AllocError> {
+    Ok(told(alloc, text)?.as_str() == want)
+}
+
 /// What is told of a file is this.
 fn check_told<R: AllocGlobal + Abort>(rt: &R, text: &[u8], want: &str) -> Result<(), Fail> {
-    assert!(rt; told(rt.alloc(), text)?.as_str() == want, "{want}");
+    assert!(rt; is_told(rt.alloc(), text, want)?, "{want}");
+    Ok(())
+}
+
+/// What is told of the example with a line in the place of another is this.
+fn check_told_with<R: AllocGlobal + Abort>(
+    rt: &R,
+    (after, key, line, want): (usize, &str, &str, &str),
+) -> Result<(), Fail> {
+    check_told(
+        rt,
+        lines_with(rt.alloc(), after, key, line)?.as_bytes(),
+        want,
+    )
+}
+
+/// Each row holds.
+fn check_limits<R: AllocGlobal + Abort>(
+    rt: &R,
+    rows: &[(usize, &str, &str, &str)],
+) -> Result<(), Fail> {
+    for row in rows {
+        check_told_with(rt, *row)?;
+    }
     Ok(())
 }
 
@@ -140,14 +168,7 @@ static LIMITS: [(usize, &str, &str, &str); 68] = [
 
 #[test]
 fn each_key_and_its_limits(rt: HostRuntime) -> Result<(), Fail> {
-    for (after, key, line, want) in &LIMITS {
-        check_told(
-            &rt,
-            lines_with(rt.alloc(), *after, key, line)?.as_bytes(),
-            want,
-        )?;
-    }
-    Ok(())
+    check_limits(&rt, &LIMITS)
 }
 
 /// A line with so many channels.
@@ -160,14 +181,16 @@ fn channels(alloc: Global, count: usize) -> Result<String, AllocError> {
     Ok(line)
 }
 
+/// What is told of the example with so many channels is this.
+fn check_channels<R: AllocGlobal + Abort>(rt: &R, count: usize, want: &str) -> Result<(), Fail> {
+    let line = channels(rt.alloc(), count)?;
+    check_told_with(rt, (14, "join", line.as_str(), want))
+}
+
 #[test]
 fn at_most_64_channels(rt: HostRuntime) -> Result<(), Fail> {
-    for (count, want) in [(64, ""), (65, "bad value user.network.join")] {
-        let line = channels(rt.alloc(), count)?;
-        let text = lines_with(rt.alloc(), 14, "join", line.as_str())?;
-        check_told(&rt, text.as_bytes(), want)?;
-    }
-    Ok(())
+    check_channels(&rt, 64, "")?;
+    check_channels(&rt, 65, "bad value user.network.join")
 }
 
 const THE_FIRST_FAULT_IS_TOLD: [(&[u8], &str); 13] = [
@@ -214,11 +237,13 @@ fn the_first_fault_is_told(rt: HostRuntime) -> Result<(), Fail> {
     check_the_first_fault_is_told(&rt, &THE_FIRST_FAULT_IS_TOLD)
 }
 
-/// A user table, without a network and with the name `name`.
-fn user_table(alloc: Global, name: &str) -> Result<String, AllocError> {
-    let digest = "ba7816bf8f01cfea414140de5dae2223b00361a396177a9cb410ff61f20015ad";
-    format!(in alloc; "[[user]]\nname = \"{name}\"\nsalt = \"\"\npassword = \"{digest}\"\n")
-}
+/// Ann's table, without a network.
+const ANN: &str = "[[user]]\nname = \"ann\"\nsalt = \"\"\n\
+    password = \"ba7816bf8f01cfea414140de5dae2223b00361a396177a9cb410ff61f20015ad\"\n";
+
+/// Bob's table, without a network.
+const BOB: &str = "[[user]]\nname = \"bob\"\nsalt = \"\"\n\
+    password = \"ba7816bf8f01cfea414140de5dae2223b00361a396177a9cb410ff61f20015ad\"\n";
 
 /// A file of these parts behind the address.
 fn file_of(alloc: Global, parts: &[&str]) -> Result<String, AllocError> {
@@ -234,34 +259,34 @@ const NET: &str =
     "[[user.network]]\nname = \"net\"\naddress = \"h:1\"\nnick = \"a\"\nuser = \"a\"\n\
     realname = \"\"\n";
 
-#[test]
-fn names_that_come_twice(rt: HostRuntime) -> Result<(), Fail> {
-    let alloc = rt.alloc();
-    let ann = user_table(alloc, "ann")?;
-    let bob = user_table(alloc, "bob")?;
-    let rows = [
-        ([ann.as_str(), NET, ann.as_str(), NET], "twice ann"),
-        ([ann.as_str(), NET, NET, ""], "twice net"),
-        ([ann.as_str(), NET, bob.as_str(), NET], ""),
-        (
-            [ann.as_str(), "[[user.network]]\n", ann.as_str(), ""],
-            "missing user.network.name",
-        ),
-        (
-            [ann.as_str(), NET, ann.as_str(), "[[user.network]]\n"],
-            "twice ann",
-        ),
-        (
-            [ann.as_str(), NET, ann.as_str(), "network = 5\n"],
-            "bad value user.network",
-        ),
-        (
-            [ann.as_str(), bob.as_str(), "[[user]]\nname = \"ann\"\n", ""],
-            "missing user.salt",
-        ),
-    ];
-    for (parts, want) in &rows {
-        check_told(&rt, file_of(alloc, parts)?.as_bytes(), want)?;
+static NAMES_THAT_COME_TWICE: [([&str; 4], &str); 7] = [
+    ([ANN, NET, ANN, NET], "twice ann"),
+    ([ANN, NET, NET, ""], "twice net"),
+    ([ANN, NET, BOB, NET], ""),
+    (
+        [ANN, "[[user.network]]\n", ANN, ""],
+        "missing user.network.name",
+    ),
+    ([ANN, NET, ANN, "[[user.network]]\n"], "twice ann"),
+    ([ANN, NET, ANN, "network = 5\n"], "bad value user.network"),
+    (
+        [ANN, BOB, "[[user]]\nname = \"ann\"\n", ""],
+        "missing user.salt",
+    ),
+];
+
+/// Each row holds.
+fn check_names_that_come_twice<R: AllocGlobal + Abort>(
+    rt: &R,
+    rows: &[([&str; 4], &str)],
+) -> Result<(), Fail> {
+    for (parts, want) in rows {
+        check_told(rt, file_of(rt.alloc(), parts)?.as_bytes(), want)?;
     }
     Ok(())
+}
+
+#[test]
+fn names_that_come_twice(rt: HostRuntime) -> Result<(), Fail> {
+    check_names_that_come_twice(&rt, &NAMES_THAT_COME_TWICE)
 }

@@ -12,17 +12,19 @@ fn example(alloc: Global) -> Result<Config, Fail> {
     Ok(Config::read(alloc, text.as_bytes())?)
 }
 
-/// The keys at the top of the example.
-fn has_the_top<R: AllocGlobal + Abort>(rt: &R, config: &Config) {
-    assert!(rt; config.listen() == "127.0.0.1:6667");
-    assert!(rt; config.history() == 500 && config.retry() == 30);
-    assert!(rt; config.user_count() == 1);
-    assert!(rt; config.network_count(0) == 1 && config.network_count(1) == 0);
+/// Whether settings have the keys at the top of the example.
+fn has_the_top(config: &Config) -> bool {
+    config.listen() == "127.0.0.1:6667"
+        && config.history() == 500
+        && config.retry() == 30
+        && config.user_count() == 1
+        && config.network_count(0) == 1
+        && config.network_count(1) == 0
 }
 
 #[test]
 fn keys_at_the_top(rt: HostRuntime) -> Result<(), Fail> {
-    has_the_top(&rt, &example(rt.alloc())?);
+    assert!(rt; has_the_top(&example(rt.alloc())?));
     Ok(())
 }
 
@@ -36,29 +38,26 @@ fn is_ann(user: &UserConfig) -> bool {
 
 #[test]
 fn keys_of_a_user(rt: HostRuntime) -> Result<(), Fail> {
-    let config = example(rt.alloc())?;
-    for user in config.users() {
-        assert!(rt; is_ann(user));
-    }
+    assert!(rt; example(rt.alloc())?.users().iter().all(is_ann));
     Ok(())
 }
 
-/// The texts of the example's network.
-fn has_the_texts<R: AllocGlobal + Abort>(rt: &R, network: &NetworkConfig) {
-    assert!(rt; network.name() == b"net".as_slice());
-    assert!(rt; network.address() == "127.0.0.1:6660");
-    assert!(rt; network.nick() == b"ann".as_slice());
-    assert!(rt; network.user() == b"ann".as_slice());
-    assert!(rt; network.realname() == b"Ann A".as_slice());
-    assert!(rt; network.password() == Some(b"secret".as_slice()));
+/// Whether a network has the texts of the example's.
+fn has_the_texts(network: &NetworkConfig) -> bool {
+    network.name() == b"net".as_slice()
+        && network.address() == "127.0.0.1:6660"
+        && network.nick() == b"ann".as_slice()
+        && network.user() == b"ann".as_slice()
+        && network.realname() == b"Ann A".as_slice()
+        && network.password() == Some(b"secret".as_slice())
 }
 
-/// The channel of the example's network.
-fn has_the_channel<R: AllocGlobal + Abort>(rt: &R, network: &NetworkConfig) {
-    for channel in network.join() {
-        assert!(rt; channel.as_str() == "#c" && channel.as_bytes() == b"#c".as_slice());
+/// Whether a network has the channel of the example's.
+fn has_the_channel(network: &NetworkConfig) -> bool {
+    match network.join() {
+        [channel] => channel.as_str() == "#c" && channel.as_bytes() == b"#c".as_slice(),
+        _ => false,
     }
-    assert_eq!(rt; network.join().len(), 1);
 }
 
 /// The place of the example's network.
@@ -69,12 +68,17 @@ const PLACE: Place = Place {
 
 #[test]
 fn keys_of_a_network(rt: HostRuntime) -> Result<(), Fail> {
-    let config = example(rt.alloc())?;
-    assert!(rt; config.find(b"ann", b"net") == Some(PLACE));
-    let network = config.network(PLACE).ok_or("no network")?;
-    has_the_texts(&rt, network);
-    has_the_channel(&rt, network);
+    assert!(rt; has_the_network(&example(rt.alloc())?));
     Ok(())
+}
+
+/// Whether the network of the example is found, and has its texts and its channel.
+fn has_the_network(config: &Config) -> bool {
+    config.find(b"ann", b"net") == Some(PLACE)
+        && match config.network(PLACE) {
+            Some(network) => has_the_texts(network) && has_the_channel(network),
+            None => false,
+        }
 }
 
 /// The first network of settings, if there is one.
@@ -85,10 +89,17 @@ fn first_network(config: &Config) -> Option<&NetworkConfig> {
 #[test]
 fn what_is_left_out_at_the_top_has_its_default(rt: HostRuntime) -> Result<(), Fail> {
     let config = Config::read(rt.alloc(), b"listen = \"host:1\"\nother = 1")?;
-    assert!(rt; config.history() == 500 && config.retry() == 30);
-    assert!(rt; config.user_count() == 0 && config.networks(0).is_empty());
-    assert!(rt; first_network(&config).is_none());
+    assert!(rt; has_defaults_at_the_top(&config));
     Ok(())
+}
+
+/// Whether the top has its defaults, and there is nobody.
+fn has_defaults_at_the_top(config: &Config) -> bool {
+    config.history() == 500
+        && config.retry() == 30
+        && config.user_count() == 0
+        && config.networks(0).is_empty()
+        && first_network(config).is_none()
 }
 
 /// The example without the line of a key from a line on.
@@ -99,18 +110,30 @@ fn example_without(alloc: Global, after: usize, key: &str) -> Result<Config, Fai
 
 #[test]
 fn a_network_without_a_password(rt: HostRuntime) -> Result<(), Fail> {
-    let config = example_without(rt.alloc(), 13, "password")?;
-    let network = first_network(&config).ok_or("no network")?;
-    assert!(rt; network.password().is_none());
+    assert!(rt; has_no_password(&example_without(rt.alloc(), 13, "password")?));
     Ok(())
+}
+
+/// Whether there is a first network, and it has no password.
+fn has_no_password(config: &Config) -> bool {
+    match first_network(config) {
+        Some(network) => network.password().is_none(),
+        None => false,
+    }
 }
 
 #[test]
 fn a_network_without_channels(rt: HostRuntime) -> Result<(), Fail> {
-    let config = example_without(rt.alloc(), 14, "join")?;
-    let network = first_network(&config).ok_or("no network")?;
-    assert!(rt; network.join().is_empty());
+    assert!(rt; has_no_channels(&example_without(rt.alloc(), 14, "join")?));
     Ok(())
+}
+
+/// Whether there is a first network, and it has no channels.
+fn has_no_channels(config: &Config) -> bool {
+    match first_network(config) {
+        Some(network) => network.join().is_empty(),
+        None => false,
+    }
 }
 
 /// Users, passwords, and whether they are let in.
@@ -154,20 +177,30 @@ fn places_that_are_not_found(rt: HostRuntime) -> Result<(), Fail> {
     Ok(())
 }
 
+const PASSWORDS_OF_BOB: [(&[u8], &[u8], bool); 2] = [
+    (b"bob", b"correct horse", true),
+    (b"bob", b"correct horsf", false),
+];
+
 /// `printf '%s%s' "$salt" 'correct horse' | sha256sum`, the salt of eight bytes.
 #[test]
 fn a_digest_made_with_sha256sum(rt: HostRuntime) -> Result<(), Fail> {
     let text = "listen = \"h:1\"\n[[user]]\nname = \"bob\"\nsalt = \"3132333435363738\"\n\
         password = \"65c30cc1f89ab7117b28c4825ac5de892bc6ac97b1f7d7b070441fc025f3641f\"";
     let config = Config::read(rt.alloc(), text.as_bytes())?;
-    assert!(rt; config.password_matches(b"bob", b"correct horse"));
-    assert!(rt; !config.password_matches(b"bob", b"correct horsf"));
+    lets_in(&rt, &config, &PASSWORDS_OF_BOB);
     Ok(())
 }
 
+const PATHS: [(Key, &str); 3] = [
+    (Key::Listen, "listen"),
+    (Key::UserName, "user.name"),
+    (Key::NetworkJoin, "user.network.join"),
+];
+
 #[test]
 fn each_key_has_its_path(rt: HostRuntime) {
-    assert_eq!(rt; Key::Listen.path(), "listen");
-    assert_eq!(rt; Key::UserName.path(), "user.name");
-    assert_eq!(rt; Key::NetworkJoin.path(), "user.network.join");
+    for (key, path) in &PATHS {
+        assert!(rt; key.path() == *path);
+    }
 }
