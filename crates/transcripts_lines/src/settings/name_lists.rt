@@ -167,16 +167,19 @@ fn second_word(text: &[u8]) -> Option<&[u8]> {
 
 #[test]
 fn words_of_a_text(rt: HostRuntime) {
-    assert!(&rt; first_word(b"  one two") == Some(b"one".as_slice()));
-    assert!(&rt; second_word(b"  one two") == Some(b"two".as_slice()));
+    assert!(&rt; has_one_and_two(b"  one two"));
     assert!(&rt; second_word(b"two").is_none() && first_word(b"").is_none());
+}
+
+/// Whether the first two words of a text are these.
+fn has_one_and_two(text: &[u8]) -> bool {
+    first_word(text) == Some(b"one".as_slice()) && second_word(text) == Some(b"two".as_slice())
 }
 
 /// A text before and behind the first of a byte.
 #[test]
 fn cuts_of_a_text(rt: HostRuntime) {
     let (before, behind) = cut(b'=', b"A=x=y");
-    assert!(&rt; before == b"A".as_slice());
-    assert!(&rt; behind == Some(b"x=y".as_slice()));
+    assert!(&rt; before == b"A".as_slice() && behind == Some(b"x=y".as_slice()));
     assert!(&rt; cut(b'=', b"A").1.is_none());
 }
