@@ -9,7 +9,8 @@ use std::time::Duration;
 use std::{io, thread};
 
 /// After how many bytes it waits. They hold fewer messages than a session that is not nearly full
-/// has room for, and no more lines than may wait for a network.
+/// has room for, and no more lines than half of those that may wait for a network: no command of
+/// RFC 2812 is shorter than `WHO` and an LF.
 const PIECE: usize = 512;
 
 /// For how many milliseconds it waits at most.
@@ -37,15 +38,22 @@ impl<'a, I: Read + Drop, R: Wait + Clock> Paced<'a, I, R> {
         }
     }
 
-    /// Whether a session of the network is nearly full.
+    /// Whether what goes to the network has less than half of its room, or a session of the network
+    /// is nearly full. While the network is lost no line goes there, so its room does not count.
     fn is_crowded(&self) -> bool {
-        match self.network.lock(self.rt).nearly_full() {
+        let mut hub = self.network.lock(self.rt);
+        let half = hub.upstream_outlet().capacity() / 2;
+        if hub.is_online() && hub.upstream_free() < half {
+            return true;
+        }
+        match hub.nearly_full() {
             Ok(sessions) => !sessions.is_empty(),
             Err(_) => false,
         }
     }
 
-    /// Waits a millisecond, and on until no session is nearly full, but at most 50 ms.
+    /// Waits a millisecond, and on until there is room in what goes to the network and to each
+    /// session, but at most 50 ms.
     fn wait(&self) {
         for _ in 0..PATIENCE {
             thread::sleep(self.rt, Duration::from_millis(1));

@@ -1,5 +1,6 @@
 //! What a hub does of scripts of events: what is answered, what clients and the network are sent.
 
+mod between;
 mod events;
 mod garden;
 mod replies;

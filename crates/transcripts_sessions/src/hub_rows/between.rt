@@ -1,0 +1,108 @@
+//! What a hub is asked for between its steps.
+
+ghost use Rattle.std.specs.Prelude.{◌≡◌};
+ghost use Rattle.net_view.specs.View.{empty_view};
+
+use crate::hub_rows::events::{WELCOME, events_of};
+use crate::hub_rows::replies::{push_count, push_line};
+use hub_core::Setup;
+use hub_runs::{MemoryHub, run};
+use quick_view::QuickView;
+use std::alloc::Global;
+use std::process::Abort;
+use std::test::Fail;
+
+const SETUP: Setup = Setup {
+    history: 3,
+    first_number: 1,
+    first_session: 0,
+};
+
+/// How many packets may wait for the network.
+const UPSTREAM: usize = 3;
+
+/// What the hub answers: the room to the network, whether a sign of life was asked for, the room
+/// after that, who is nearly full, and the channels of a connection that was lost.
+fn asked(alloc: Global, hub: &mut MemoryHub<QuickView>) -> Result<Vec<u8>, Fail> {
+    let mut text = Vec::new(alloc);
+    push_count(&mut text, b"room ", hub.upstream_free() as u64)?;
+    let is_asked = hub.keepalive()?;
+    push_line(
+        &mut text,
+        if is_asked {
+            b"life asked"
+        } else {
+            b"no life asked"
+        },
+    )?;
+    push_count(&mut text, b"room ", hub.upstream_free() as u64)?;
+    for id in &hub.nearly_full()? {
+        push_count(&mut text, b"nearly full ", *id)?;
+    }
+    for channel in hub.lost_channels() {
+        push_line(&mut text, &channel.name)?;
+        push_line(&mut text, channel.key.as_deref().unwrap_or(b"no key"))?;
+    }
+    Ok(text)
+}
+
+/// The answers after a script.
+fn asked_after(alloc: Global, script: &[&[u8]]) -> Result<Vec<u8>, Fail> {
+    let events = events_of(alloc, &WELCOME, script)?;
+    let mut run = run(alloc, QuickView::new(alloc)?, SETUP, UPSTREAM, &events)?;
+    asked(alloc, &mut run.world.hub)
+}
+
+/// The answers after a script are these.
+fn check<R: AllocGlobal + Abort>(rt: &R, script: &[&[u8]], wanted: &[u8]) -> Result<(), Fail> {
+    assert!(rt; asked_after(rt.alloc(), script)?.as_slice() == wanted);
+    Ok(())
+}
+
+/// Two sessions with room, and a line on its way to the network.
+#[test]
+fn online(rt: HostRuntime) -> Result<(), Fail> {
+    let script: [&[u8]; 5] = [
+        b"attach - pc 4",
+        b"attach - phone 8",
+        b"up :bob!b@h PRIVMSG #c m1",
+        b"up :bob!b@h PRIVMSG #c m2",
+        b"said 0 PRIVMSG #c m3",
+    ];
+    check(&rt, &script, b"room 2\r\nlife asked\r\nroom 1\r\n")
+}
+
+/// A session without room, and the network full.
+#[test]
+fn full(rt: HostRuntime) -> Result<(), Fail> {
+    let script: [&[u8]; 7] = [
+        b"attach - pc 4",
+        b"attach - phone 8",
+        b"up :bob!b@h PRIVMSG #c m1",
+        b"up :bob!b@h PRIVMSG #c m2",
+        b"said 1 PRIVMSG #c m3",
+        b"said 1 WHO #c",
+        b"said 1 LIST",
+    ];
+    check(
+        &rt,
+        &script,
+        b"room 0\r\nno life asked\r\nroom 0\r\nnearly full 0\r\n",
+    )
+}
+
+/// After a loss there are the channels that we were on, with their keys.
+#[test]
+fn lost(rt: HostRuntime) -> Result<(), Fail> {
+    let script: [&[u8]; 4] = [
+        b"up :bob!b@h MODE #c +k bees",
+        b"up :Me!m@h JOIN #a",
+        b"lost",
+        b"up :s NOTICE * :looking up your name",
+    ];
+    check(
+        &rt,
+        &script,
+        b"room 3\r\nno life asked\r\nroom 3\r\n#a\r\nno key\r\n#c\r\nbees\r\n",
+    )
+}
