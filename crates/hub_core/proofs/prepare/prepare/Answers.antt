@@ -1,4 +1,5 @@
 use Rattle.std.proofs.Common.{◌<◌, ◌∙◌, length-set, refl, ap, map, arith, length}
+use Rattle.irc_line.proofs.Outcomes.{not_ok}
 use Rattle.net_view.specs.Arrival.{arrival_of}
 use Rattle.hub_core.specs.Given.{given_but, packet_for, sets_but}
 use Rattle.hub_core.specs.Insides.{state_of}
@@ -27,3 +28,14 @@ loop-i-preserved g c =
       made = c.in_ok-coming.ensures.made;
       long = length-set c.loop-i.sessions.items c.loop-i.i _ ∙ c.loop-i.invariant.long;
     }
+
+pub returns-in_err-coming-clause-states : goal.returns-in_err-coming-clause-states
+returns-in_err-coming-clause-states g c = c.loop-i.invariant.prepared.states
+
+pub returns-in_err-coming-clause-coming : goal.returns-in_err-coming-clause-coming
+returns-in_err-coming-clause-coming g c =
+    not_ok _ c.from_residual.result c.from_residual.ensures.0
+
+pub returns-in_err-coming-clause-sets : goal.returns-in_err-coming-clause-sets
+returns-in_err-coming-clause-sets g c =
+    not_ok _ c.from_residual.result c.from_residual.ensures.0

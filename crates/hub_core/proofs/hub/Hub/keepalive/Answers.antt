@@ -1,4 +1,4 @@
-use Rattle.std.proofs.Common.{◌≡◌, ◌∙◌, ◌++◌, ◌∷◌, [], refl, sym, ap}
+use Rattle.std.proofs.Common.{◌≡◌, ◌∙◌, ◌++◌, ◌∷◌, [], refl, sym, ap, inl}
 use Rattle.std.specs.List.{filter_map}
 use Rattle.hub_core.specs.declared.hub.Hub.TheInside.{Inside}
 use Rattle.hub_core.specs.Insides.{hub_of, outlet_of}
@@ -16,6 +16,10 @@ abbrev old : (g : Given.Over)
 old g i =
     hub_of g.I.Inlet.taken g.I.Inlet.ahead g.O.Outlet.sent g.O.Outlet.closed g.O.Outlet.capacity
     g.O.Outlet.free i
+
+pub returns-then-not-self : goal.returns-then-not-self
+returns-then-not-self g c =
+    rw (← c.self.view_is) (inl (sym c.self.invariant.online_is ∙ c.if-not-self.true), refl)
 
 pub returns-in_default : goal.returns-in_default
 returns-in_default g c =
