@@ -1,5 +1,6 @@
 //! A reader of what a client says, which leaves others the time to take it.
 
+use hub_ends::Outlet;
 use hub_threads::Network;
 use quick_view::QuickView;
 use std::io::Read;

@@ -1,11 +1,8 @@
 //! What a hub is asked for between its steps.
 
-ghost use Rattle.std.specs.Prelude.{◌≡◌};
-ghost use Rattle.net_view.specs.View.{empty_view};
-
 use crate::hub_rows::events::{WELCOME, events_of};
 use crate::hub_rows::replies::{push_count, push_line};
-use hub_core::Setup;
+use hub_core::{LostChannel, Setup};
 use hub_runs::{MemoryHub, run};
 use quick_view::QuickView;
 use std::alloc::Global;
@@ -21,36 +18,45 @@ const SETUP: Setup = Setup {
 /// How many packets may wait for the network.
 const UPSTREAM: usize = 3;
 
+/// Whether a sign of life was asked for.
+fn push_life(text: &mut Vec<u8>, is_asked: bool) -> Result<(), Fail> {
+    if is_asked {
+        return push_line(text, b"life asked");
+    }
+    push_line(text, b"no life asked")
+}
+
+/// The channels of a connection that was lost, each with its key.
+fn push_channels(text: &mut Vec<u8>, channels: &[LostChannel]) -> Result<(), Fail> {
+    for channel in channels {
+        push_line(text, &channel.name)?;
+        match &channel.key {
+            Some(key) => push_line(text, key)?,
+            None => push_line(text, b"no key")?,
+        }
+    }
+    Ok(())
+}
+
 /// What the hub answers: the room to the network, whether a sign of life was asked for, the room
 /// after that, who is nearly full, and the channels of a connection that was lost.
-fn asked(alloc: Global, hub: &mut MemoryHub<QuickView>) -> Result<Vec<u8>, Fail> {
-    let mut text = Vec::new(alloc);
-    push_count(&mut text, b"room ", hub.upstream_free() as u64)?;
-    let is_asked = hub.keepalive()?;
-    push_line(
-        &mut text,
-        if is_asked {
-            b"life asked"
-        } else {
-            b"no life asked"
-        },
-    )?;
-    push_count(&mut text, b"room ", hub.upstream_free() as u64)?;
-    for id in &hub.nearly_full()? {
-        push_count(&mut text, b"nearly full ", *id)?;
+fn push_answers(text: &mut Vec<u8>, hub: &mut MemoryHub<QuickView>) -> Result<(), Fail> {
+    push_count(text, b"room ", hub.upstream_free() as u64)?;
+    push_life(text, hub.keepalive()?)?;
+    push_count(text, b"room ", hub.upstream_free() as u64)?;
+    for id in hub.nearly_full()? {
+        push_count(text, b"nearly full ", id)?;
     }
-    for channel in hub.lost_channels() {
-        push_line(&mut text, &channel.name)?;
-        push_line(&mut text, channel.key.as_deref().unwrap_or(b"no key"))?;
-    }
-    Ok(text)
+    push_channels(text, hub.lost_channels())
 }
 
 /// The answers after a script.
 fn asked_after(alloc: Global, script: &[&[u8]]) -> Result<Vec<u8>, Fail> {
     let events = events_of(alloc, &WELCOME, script)?;
     let mut run = run(alloc, QuickView::new(alloc)?, SETUP, UPSTREAM, &events)?;
-    asked(alloc, &mut run.world.hub)
+    let mut text = Vec::new(alloc);
+    push_answers(&mut text, &mut run.world.hub)?;
+    Ok(text)
 }
 
 /// The answers after a script are these.
