@@ -190,8 +190,8 @@ fn push_crowd(alloc: Global, text: &mut Vec<u8>, letter: u8, third: usize) -> Re
     Ok(())
 }
 
-/// What the view shows once three hundred persons came, a third of them went, and another third took
-/// other nicks.
+/// What the view shows once three hundred persons came, a third of them went, and another third
+/// took other nicks.
 fn check_crowd<R: AllocGlobal + Abort, V: NetworkView>(rt: &R, view: &mut V) -> Result<(), Fail> {
     let alloc = rt.alloc();
     act(alloc, view, &THEY_COME)?;

@@ -1,5 +1,5 @@
-//! Tests alone: handshakes with clients and networks, scripts of events over a hub, and clients over
-//! streams in memory.
+//! Tests alone: handshakes with clients and networks, scripts of events over a hub, and clients
+//! over streams in memory.
 #![tactic(auto)]
 
 #[cfg(test)]

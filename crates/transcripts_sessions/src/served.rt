@@ -112,8 +112,8 @@ fn told(alloc: Global, served: &Served<Vec<u8>>) -> Result<Vec<u8>, Fail> {
     Ok(out)
 }
 
-/// Serves a client that says this on these networks; what came of it, and behind it what the network
-/// was sent.
+/// Serves a client that says this on these networks; what came of it, and behind it what the
+/// network was sent.
 fn served_text<R: Threads + Wait + Send + Copy + 'static>(
     rt: R,
     alloc: Global,

@@ -34,8 +34,8 @@ const GREETING: &str = ":bnc 001 Me :Welcome to the bouncer
 :bnc 004 Me bnc 1 i biklmnopstv
 ";
 
-const SETTINGS: &str =
-    ":bnc 005 Me PREFIX=(ov)@+ CHANTYPES=# :are supported by this server\n:bnc 422 Me :MOTD File is missing\n";
+const SETTINGS: &str = ":bnc 005 Me PREFIX=(ov)@+ CHANTYPES=# :are supported by this server\n\
+        :bnc 422 Me :MOTD File is missing\n";
 
 /// What is written for an input, with LF for CR LF.
 fn written_for(alloc: Global, input: &str, names: &str, history: usize) -> Result<Vec<u8>, Fault> {
@@ -51,7 +51,8 @@ fn a_client_without_capabilities(rt: HostRuntime) -> Result<(), Fail> {
     let alloc = rt.alloc();
     let input = format!(in alloc; "{READY}{JOINED}{TOLD}")?;
     let want = format!(in alloc;
-        "{GREETING}{SETTINGS}:Me JOIN #c\n:bnc 332 Me #c :Hello all\n:bnc 324 Me #c +kl key 9\n:bnc 353 Me = #c :@bob +eve Me\n:bnc 366 Me #c :End of NAMES list\n"
+        "{GREETING}{SETTINGS}:Me JOIN #c\n:bnc 332 Me #c :Hello all\n:bnc 324 Me #c +kl key 9\n\
+            :bnc 353 Me = #c :@bob +eve Me\n:bnc 366 Me #c :End of NAMES list\n"
     )?;
     let written = written_for(alloc, input.as_str(), "", 500)?;
     assert!(rt; written.as_slice() == want.as_bytes());
@@ -65,7 +66,9 @@ fn a_client_with_all_capabilities(rt: HostRuntime) -> Result<(), Fail> {
     let alloc = rt.alloc();
     let input = format!(in alloc; "{READY}{JOINED}{TOLD}{KNOWN}")?;
     let want = format!(in alloc;
-        "{GREETING}{SETTINGS}:Me JOIN #c * :\n:bnc 332 Me #c :Hello all\n:bnc 324 Me #c +kl key 9\n:bnc 353 Me = #c :@+bob +eve Me\n:bnc 366 Me #c :End of NAMES list\n:bob ACCOUNT bobacc\n:bob AWAY :gone fishing\n"
+        "{GREETING}{SETTINGS}:Me JOIN #c * :\n:bnc 332 Me #c :Hello all\n:bnc 324 Me #c +kl key 9\n\
+            :bnc 353 Me = #c :@+bob +eve Me\n:bnc 366 Me #c :End of NAMES list\n\
+            :bob ACCOUNT bobacc\n:bob AWAY :gone fishing\n"
     )?;
     let names = "multi-prefix extended-join account-notify away-notify server-time batch";
     let written = written_for(alloc, input.as_str(), names, 500)?;

@@ -6,8 +6,10 @@ use std::io::Write;
 use std::process::Abort;
 use std::test::Fail;
 
-const EXAMPLE: &str =
-    "listen = \"127.0.0.1:6667\"\n[[user]]\nname = \"ann\"\nsalt = \"61\"\npassword = \"ba7816bf8f01cfea414140de5dae2223b00361a396177a9cb410ff61f20015ad\"\n[[user.network]]\nname = \"net\"\naddress = \"127.0.0.1:6660\"\nnick = \"ann\"\nuser = \"ann\"\nrealname = \"Ann A\"\n";
+const EXAMPLE: &str = "listen = \"127.0.0.1:6667\"\n[[user]]\nname = \"ann\"\nsalt = \"61\"\n\
+        password = \"ba7816bf8f01cfea414140de5dae2223b00361a396177a9cb410ff61f20015ad\"\n\
+        [[user.network]]\nname = \"net\"\naddress = \"127.0.0.1:6660\"\nnick = \"ann\"\n\
+        user = \"ann\"\nrealname = \"Ann A\"\n";
 
 /// A writer that takes nothing.
 #[derive(Drop)]

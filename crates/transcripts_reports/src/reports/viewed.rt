@@ -14,7 +14,8 @@ const WELCOME: &str = ":s 001 Me :hi\r\n";
 const JOINED: &str = ":s 001 Me :hi\r\n:Me!m@h JOIN #c\r\n:bob!b@h JOIN #c\r\n";
 
 const READY: &str =
-    ":s 001 Me :hi\n:s 005 Me PREFIX=(ov)@+ CHANTYPES=# :are supported\n:s 376 Me :end\n:Me!m@h JOIN #c\n";
+    ":s 001 Me :hi\n:s 005 Me PREFIX=(ov)@+ CHANTYPES=# :are supported\n:s 376 Me :end\n\
+        :Me!m@h JOIN #c\n";
 
 const TOLD: &str = ":s 332 Me #c :Hello all
 :s 324 Me #c +kl key 9
@@ -158,15 +159,18 @@ fn people_who_change_their_names_and_go(rt: HostRuntime) -> Result<(), Fail> {
 
 const NAMES_BY_THE_SETTINGS_OF_THE_NETWORK: [(&str, &str); 3] = [
     (
-        ":s 001 Me :hi\n:s 005 Me PREFIX=(ov)@+ CHANTYPES=# :are supported\n:s 376 Me :end\n:Me!m@h JOIN #c\n:a[b!x@h JOIN #c\n:A{B!x@h PART #c\n",
+        ":s 001 Me :hi\n:s 005 Me PREFIX=(ov)@+ CHANTYPES=# :are supported\n:s 376 Me :end\n\
+            :Me!m@h JOIN #c\n:a[b!x@h JOIN #c\n:A{B!x@h PART #c\n",
         "nick Me\nchannel #c\nmember Me\n",
     ),
     (
-        ":s 001 Me :hi\n:s 005 Me PREFIX=(ov)@+ CHANTYPES=# CASEMAPPING=ascii :are supported\n:s 376 Me :end\n:Me!m@h JOIN #c\n:a[b!x@h JOIN #c\n:A{B!x@h PART #c\n",
+        ":s 001 Me :hi\n:s 005 Me PREFIX=(ov)@+ CHANTYPES=# CASEMAPPING=ascii :are supported\n\
+            :s 376 Me :end\n:Me!m@h JOIN #c\n:a[b!x@h JOIN #c\n:A{B!x@h PART #c\n",
         "nick Me\nchannel #c\nmember a[b\nmember Me\n",
     ),
     (
-        ":s 001 Me :hi\n:Me!m@h JOIN #c\n:s 005 Me CASEMAPPING=ascii :are supported\n:a[b!x@h JOIN #c\n:A{B!x@h PART #c\n",
+        ":s 001 Me :hi\n:Me!m@h JOIN #c\n:s 005 Me CASEMAPPING=ascii :are supported\n\
+            :a[b!x@h JOIN #c\n:A{B!x@h PART #c\n",
         "nick Me\nchannel #c\nmember Me\n",
     ),
 ];

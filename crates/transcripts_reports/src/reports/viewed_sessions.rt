@@ -1,4 +1,5 @@
-//! Reports of whole sessions, written in the words of two servers. The reports were read off the transcripts.
+//! Reports of whole sessions, written in the words of two servers. The reports were read off the
+//! transcripts.
 
 use commands::run_view;
 use std::test::Fail;
@@ -75,8 +76,8 @@ member @anna
 member dana
 ";
 
-/// As an InspIRCd server says it: names by `rfc1459`, and the capabilities `account-notify`, `away-notify`,
-/// `extended-join` and `multi-prefix`.
+/// As an InspIRCd server says it: names by `rfc1459`, and the capabilities `account-notify`,
+/// `away-notify`, `extended-join` and `multi-prefix`.
 const INSPIRCD: &str = ":irc.island.example NOTICE * :*** Looking up your hostname...
 :irc.island.example CAP * LS :account-notify away-notify extended-join multi-prefix server-time
 :irc.island.example CAP * ACK :account-notify away-notify extended-join multi-prefix

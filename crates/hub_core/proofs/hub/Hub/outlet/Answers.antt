@@ -15,7 +15,8 @@ returns g c =
     rw (← c.self.view_is) (
       around_at (state_of g.O.Outlet.sent g.O.Outlet.closed g.O.Outlet.capacity g.O.Outlet.free)
           (hub_of g.I.Inlet.taken g.I.Inlet.ahead g.O.Outlet.sent g.O.Outlet.closed
-          g.O.Outlet.capacity g.O.Outlet.free c.self.inside) c.args.id c.self.inside.sessions.items c.in-Some.place
+          g.O.Outlet.capacity g.O.Outlet.free c.self.inside) c.args.id
+          c.self.inside.sessions.items c.in-Some.place
           c.index.result.now refl c.in-Some.ensures.some.0 c.in-Some.ensures.some.1
           c.in-Some.ensures.some.2,
       ap (λ (s : Session g.row.O.Denot). outlet_of g.O.Outlet.sent g.O.Outlet.closed
