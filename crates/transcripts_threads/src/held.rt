@@ -3,9 +3,8 @@
 ghost use Rattle.std.specs.Prelude.{◌<◌};
 
 use crate::gates::{Held, SharedDoor, shut_door};
-use crate::stage::{
-    BURST, JOINED, Stage, attach, is_joined, is_sent, put_and_take, say, stage_after,
-};
+use crate::scenes::{Scene, play_on_a_stage};
+use crate::stage::{BURST, Stage, attach, is_joined, is_sent, put_and_take, say};
 use crate::streams::Sink;
 use hub_core::Said;
 use hub_ends::SessionId;
@@ -70,13 +69,23 @@ fn bytes_of_another<V: NetworkView + Drop, R: Threads + Wait + Send + Copy + 'st
 /// While the writer of one session is held, another one attaches, and its burst is written.
 #[test]
 fn writers_do_not_wait_for_one_another(rt: HostRuntime) -> Result<(), Fail> {
-    let stage = stage_after(&rt, rt.alloc(), 1, &JOINED)?;
+    play_on_a_stage(rt, 1, Scene::AnotherGoesOn)
+}
+
+/// The writer of one session is held, and that of another one writes.
+pub(crate) fn another_goes_on<V: NetworkView + Drop, R>(
+    rt: R,
+    network: &Network<V>,
+) -> Result<(), Fail>
+where
+    R: AllocGlobal + Threads + Wait + Clock + Abort + Send + Copy + Drop + 'static,
+{
     let door = shut_door(rt.alloc())?;
-    another_goes_on(rt, &stage.network, &door)
+    another_goes_on_at(rt, network, &door)
 }
 
 /// The writer of one session is held at this door, and that of another one writes.
-fn another_goes_on<V: NetworkView + Drop, R>(
+fn another_goes_on_at<V: NetworkView + Drop, R>(
     rt: R,
     network: &Network<V>,
     door: &SharedDoor,
@@ -137,13 +146,23 @@ fn is_gone<V: NetworkView + Drop, R: Wait>(
 /// A session whose writer is held is cut at the message that finds no room; another one is not.
 #[test]
 fn a_session_that_is_cut(rt: HostRuntime) -> Result<(), Fail> {
-    let mut stage = stage_after(&rt, rt.alloc(), 1, &JOINED)?;
+    play_on_a_stage(rt, 1, Scene::HeldAndCut)
+}
+
+/// A session whose writer is held is cut, and its writer still writes what was sent.
+pub(crate) fn held_and_cut<V: NetworkView + Drop, R>(
+    rt: R,
+    stage: &mut Stage<V>,
+) -> Result<(), Fail>
+where
+    R: AllocGlobal + Threads + Wait + Clock + Abort + Send + Copy + Drop + 'static,
+{
     let door = shut_door(rt.alloc())?;
-    held_and_cut(rt, &mut stage, &door)
+    held_and_cut_at(rt, stage, &door)
 }
 
 /// A session whose writer is held at this door is cut, and its writer still writes what was sent.
-fn held_and_cut<V: NetworkView + Drop, R>(
+fn held_and_cut_at<V: NetworkView + Drop, R>(
     rt: R,
     stage: &mut Stage<V>,
     door: &SharedDoor,
@@ -208,12 +227,14 @@ fn bytes_of_two<V: NetworkView + Drop, R: Threads + Wait + Send + Copy + 'static
 
 #[test]
 fn a_writer_that_is_told_to_stop(rt: HostRuntime) -> Result<(), Fail> {
-    let mut stage = stage_after(&rt, rt.alloc(), 1, &JOINED)?;
-    two_write_all(rt, &mut stage)
+    play_on_a_stage(rt, 1, Scene::TwoWriteAll)
 }
 
 /// What both writers write is all that was sent.
-fn two_write_all<V: NetworkView + Drop, R>(rt: R, stage: &mut Stage<V>) -> Result<(), Fail>
+pub(crate) fn two_write_all<V: NetworkView + Drop, R>(
+    rt: R,
+    stage: &mut Stage<V>,
+) -> Result<(), Fail>
 where
     R: AllocGlobal + Threads + Wait + Abort + Send + Copy + 'static,
 {

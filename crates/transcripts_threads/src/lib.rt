@@ -16,6 +16,8 @@ mod refusing;
 #[cfg(test)]
 mod rings;
 #[cfg(test)]
+mod scenes;
+#[cfg(test)]
 mod stage;
 #[cfg(test)]
 mod streams;

@@ -2,9 +2,9 @@
 
 use crate::gates::{Stepping, Steps, Still};
 use crate::refusing::Refusing;
+use crate::scenes::{Scene, play_on_a_stage};
 use crate::stage::{
-    BURST, JOINED, Stage, attach, empty_stage, is_sent, put, quick_stage, say, stage_after,
-    waiting_text,
+    BURST, JOINED, Stage, attach, empty_stage, is_sent, put, quick_stage, say, waiting_text,
 };
 use hub_core::Said;
 use hub_ends::SessionId;
@@ -78,12 +78,11 @@ fn two_items_go<V: NetworkView + Drop, R: AllocGlobal + Wait + Abort>(
 /// A message goes to the network and to the other session.
 #[test]
 fn a_message_said(rt: HostRuntime) -> Result<(), Fail> {
-    let mut stage = stage_after(&rt, rt.alloc(), 1, &JOINED)?;
-    one_of_two_speaks(&rt, &mut stage)
+    play_on_a_stage(rt, 1, Scene::OneOfTwoSpeaks)
 }
 
 /// Two sessions attach, and the first one says something.
-fn one_of_two_speaks<V: NetworkView + Drop, R: AllocGlobal + Wait + Abort>(
+pub(crate) fn one_of_two_speaks<V: NetworkView + Drop, R: AllocGlobal + Wait + Abort>(
     rt: &R,
     stage: &mut Stage<V>,
 ) -> Result<(), Fail> {
@@ -136,12 +135,11 @@ fn put_messages<V: NetworkView + Drop>(
 /// and no time before those that come then; it is cut where it is full, and the other one is not.
 #[test]
 fn a_session_that_stands_still(rt: HostRuntime) -> Result<(), Fail> {
-    let mut stage = stage_after(&rt, rt.alloc(), 1, &JOINED)?;
-    who_stands_still_is_cut(&rt, &mut stage)
+    play_on_a_stage(rt, 1, Scene::WhoStandsStillIsCut)
 }
 
 /// Of two sessions the one that stands still is given time once, and is cut.
-fn who_stands_still_is_cut<V: NetworkView + Drop, R: AllocGlobal + Wait + Abort>(
+pub(crate) fn who_stands_still_is_cut<V: NetworkView + Drop, R: AllocGlobal + Wait + Abort>(
     rt: &R,
     stage: &mut Stage<V>,
 ) -> Result<(), Fail> {
@@ -174,12 +172,11 @@ fn time_is_given_once<V: NetworkView + Drop, R: AllocGlobal + Wait + Abort>(
 /// Who takes a packet is given time again.
 #[test]
 fn a_session_that_reads_again(rt: HostRuntime) -> Result<(), Fail> {
-    let mut stage = stage_after(&rt, rt.alloc(), 1, &JOINED)?;
-    who_reads_is_given_time(&rt, &mut stage)
+    play_on_a_stage(rt, 1, Scene::WhoReadsIsGivenTime)
 }
 
 /// A session attaches with room for four packets, and is given time twice.
-fn who_reads_is_given_time<V: NetworkView + Drop, R: AllocGlobal + Wait + Abort>(
+pub(crate) fn who_reads_is_given_time<V: NetworkView + Drop, R: AllocGlobal + Wait + Abort>(
     rt: &R,
     stage: &mut Stage<V>,
 ) -> Result<(), Fail> {
@@ -218,6 +215,25 @@ fn refusing(alloc: Global, times: u64) -> Result<Stage<Refusing<QuickView>>, Fai
     empty_stage(alloc, view, 1, 64)
 }
 
+/// A topic is refused so many times: some, or more than a pump goes on for.
+fn play_refused<R: AllocGlobal + Wait + Abort>(rt: &R, times: u64) -> Result<(), Fail> {
+    let mut stage = refusing(rt.alloc(), times)?;
+    refused_so_often(rt, &mut stage, times)
+}
+
+/// Plays what comes of so many refusals.
+fn refused_so_often<V: NetworkView + Drop, R: AllocGlobal + Wait + Abort>(
+    rt: &R,
+    stage: &mut Stage<V>,
+    times: u64,
+) -> Result<(), Fail> {
+    if times > 1_000 {
+        refused_on_and_on(rt, stage)
+    } else {
+        refused_three_times(rt, stage)
+    }
+}
+
 const TOPIC: [&[u8]; 1] = [b":s TOPIC #c x"];
 
 const THE_TOPIC_IS_SENT: [&[u8]; 1] = [b":s TOPIC #c x\r\n"];
@@ -225,8 +241,7 @@ const THE_TOPIC_IS_SENT: [&[u8]; 1] = [b":s TOPIC #c x\r\n"];
 /// A line that is refused is held, and sent once where it is taken.
 #[test]
 fn a_line_that_is_refused_three_times(rt: HostRuntime) -> Result<(), Fail> {
-    let mut stage = refusing(rt.alloc(), 3)?;
-    refused_three_times(&rt, &mut stage)
+    play_refused(&rt, 3)
 }
 
 /// A session attaches, and a topic is refused three times.
@@ -256,8 +271,7 @@ fn the_topic_is_sent_late<V: NetworkView + Drop, R: AllocGlobal + Wait + Abort>(
 /// After 1,000 refusals the pump ends; the line stays held, and another pump sends it.
 #[test]
 fn a_line_that_is_refused_on_and_on(rt: HostRuntime) -> Result<(), Fail> {
-    let mut stage = refusing(rt.alloc(), 1_001)?;
-    refused_on_and_on(&rt, &mut stage)
+    play_refused(&rt, 1_001)
 }
 
 /// A session attaches, and a pump ends at a topic that is refused 1,000 times.
@@ -277,19 +291,18 @@ fn refused_on_and_on<V: NetworkView + Drop, R: AllocGlobal + Wait + Abort>(
 /// The pump ends at the first message for which there is no number.
 #[test]
 fn numbers_that_are_spent(rt: HostRuntime) -> Result<(), Fail> {
-    let mut stage = stage_after(&rt, rt.alloc(), u64::MAX, &JOINED)?;
-    put_messages(rt.alloc(), &mut stage, 2)?;
-    no_number_is_left(&rt, &stage.network)
+    play_on_a_stage(rt, u64::MAX, Scene::NoNumberIsLeft)
 }
 
 /// Two messages wait, and there is a number for the first one alone.
-fn no_number_is_left<V: NetworkView + Drop, R: AllocGlobal + Wait + Abort>(
+pub(crate) fn no_number_is_left<V: NetworkView + Drop, R: AllocGlobal + Wait + Abort>(
     rt: &R,
-    network: &Network<V>,
+    stage: &mut Stage<V>,
 ) -> Result<(), Fail> {
+    put_messages(rt.alloc(), stage, 2)?;
     let gate = Steps::new();
-    let ended = pump_loop(rt, rt.alloc(), network, &gate, &Still, 5_000);
+    let ended = pump_loop(rt, rt.alloc(), &stage.network, &gate, &Still, 5_000);
     assert!(rt; ended == PumpEnd::Spent && gate.count() == 2);
-    assert!(rt; pump(rt, rt.alloc(), network, 9) == PumpEnd::Spent);
+    assert!(rt; pump(rt, rt.alloc(), &stage.network, 9) == PumpEnd::Spent);
     Ok(())
 }

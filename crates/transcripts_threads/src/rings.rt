@@ -1,9 +1,9 @@
 //! Rings of one place, and threads that sleep until they are woken.
 
 use crate::gates::Still;
+use crate::scenes::{Scene, play_on_a_stage};
 use crate::stage::{
-    BURST, JOINED, Stage, attach, is_sent, joined, put, put_and_take, quick_stage, stage_after,
-    take_all,
+    BURST, JOINED, Stage, attach, is_sent, joined, put, put_and_take, quick_stage, take_all,
 };
 use crate::streams::Pieces;
 use hub_threads::{FreeGate, InletEnd, Network, OutletEnd, PumpEnd, Reading, pump_loop, read_in};
@@ -21,12 +21,11 @@ use std::time::{Clock, Duration};
 /// An outlet of one place: the burst has to be taken before there is room for a message.
 #[test]
 fn packets_that_wait(rt: HostRuntime) -> Result<(), Fail> {
-    let mut stage = stage_after(&rt, rt.alloc(), 1, &JOINED)?;
-    two_wait(&rt, &mut stage)
+    play_on_a_stage(rt, 1, Scene::TwoWait)
 }
 
 /// Two sessions attach with room for one packet, and one of them is cut.
-fn two_wait<V: NetworkView + Drop, R: AllocGlobal + Wait + Abort>(
+pub(crate) fn two_wait<V: NetworkView + Drop, R: AllocGlobal + Wait + Abort>(
     rt: &R,
     stage: &mut Stage<V>,
 ) -> Result<(), Fail> {
