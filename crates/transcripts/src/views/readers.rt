@@ -97,7 +97,7 @@ const ACCOUNTS_BY_NICK: [&[u8]; 3] = [
     b":bob!b@h JOIN #c bobacc :Bob",
 ];
 
-const ACCOUNTS_BY_NICK_THEN: [(&[u8], Option<&[u8]>); 3] = [
+static ACCOUNTS_BY_NICK_THEN: [(&[u8], Option<&[u8]>); 3] = [
     (b"BOB", Some(b"bobacc")),
     (b"Me", None),
     (b"eve", None),

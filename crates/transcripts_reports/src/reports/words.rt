@@ -48,7 +48,7 @@ fn check_bad<R: AllocGlobal + Abort>(rt: &R, rows: &[&[&str]]) {
     }
 }
 
-const WORDS_FOR_HELP: [&[&str]; 4] = [
+static WORDS_FOR_HELP: [&[&str]; 4] = [
     &["--help"],
     &["help"],
     &["check", "-h"],
@@ -105,7 +105,7 @@ fn what_is_wrong_with_words(rt: HostRuntime) -> Result<(), Fail> {
     Ok(())
 }
 
-const LISTS_OF_CAPABILITIES: [(&str, Option<&[u8]>); 5] = [
+static LISTS_OF_CAPABILITIES: [(&str, Option<&[u8]>); 5] = [
     ("", Some(b"")),
     ("batch", Some(b"batch")),
     ("batch,server-time", Some(b"server-time batch")),
@@ -134,7 +134,7 @@ fn lists_of_capabilities(rt: HostRuntime) {
 
 const NUMBERS_OF_MESSAGES: [&str; 5] = ["attach", "--history", "10000", "--caps", "batch"];
 
-const NO_NUMBERS_OF_MESSAGES: [&[&str]; 6] = [
+static NO_NUMBERS_OF_MESSAGES: [&[&str]; 6] = [
     &["attach", "--history", "0"],
     &["attach", "--history", "10001"],
     &["attach", "--history", ""],
@@ -152,7 +152,7 @@ fn numbers_of_messages(rt: HostRuntime) {
     check_bad(&rt, &NO_NUMBERS_OF_MESSAGES);
 }
 
-const WORDS_THAT_ASK_FOR_NOTHING: [&[&str]; 6] = [
+static WORDS_THAT_ASK_FOR_NOTHING: [&[&str]; 6] = [
     &[],
     &["check"],
     &["check", "a", "b"],
