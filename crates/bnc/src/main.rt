@@ -1,14 +1,12 @@
 //! bnc: an IRC bouncer with late attach.
 #![tactic(auto)]
 
-ghost use Rattle.std.specs.Prelude.{◌≡◌};
-ghost use Rattle.std.specs.Process.{exit_status};
-
 mod serve;
 
 use crate::serve::serve_file;
 use commands::{
     Command, Fault, WordsFault, check_file, explain_words, read_words, run_attach, run_view,
+    tell_bad_words, tell_fault,
 };
 use std::alloc::{AllocError, Global};
 use std::io::ErrorKind;
@@ -52,16 +50,11 @@ fn explanation_of<R: AllocGlobal + Env>(rt: &R) -> Result<Option<String>, WordsF
 }
 
 /// Tells that the words after the program's name ask for nothing, and what is wrong with them.
-fn refuse_words<R: AllocGlobal + Env + Eprint>(rt: &R) -> ExitCode
-    ensures { exit_status result ≡ 2 }
-{
-    let bad = WordsFault::Bad;
-    let _ = eprintln!(rt; "bnc: {bad}");
-    if let Ok(Some(text)) = explanation_of(rt) {
-        let _ = eprintln!(rt; "{text}");
+fn refuse_words<R: AllocGlobal + Env + Eprint>(rt: &R) -> ExitCode {
+    match explanation_of(rt) {
+        Ok(Some(text)) => tell_bad_words(rt, Some(text.as_str())),
+        _ => tell_bad_words(rt, None),
     }
-    let _ = eprintln!(rt; "try 'bnc --help'");
-    ExitCode::from(2)
 }
 
 /// Does what the command line asks for.
@@ -95,14 +88,6 @@ fn run<
     }
 }
 
-/// Tells a fault of what the program was given.
-fn refuse(rt: &impl Eprint, fault: &Fault) -> ExitCode
-    ensures { exit_status result ≡ 1 }
-{
-    let _ = eprintln!(rt; "bnc: {fault}");
-    ExitCode::from(1)
-}
-
 fn main(rt: HostRuntime) -> ExitCode {
     let done = match command_of(&rt) {
         Ok(command) => run(rt, &command),
@@ -112,6 +97,6 @@ fn main(rt: HostRuntime) -> ExitCode {
     };
     match done {
         Ok(()) => ExitCode::SUCCESS,
-        Err(fault) => refuse(&rt, &fault),
+        Err(fault) => tell_fault(&rt, &fault),
     }
 }

@@ -1,5 +1,5 @@
-//! What `bnc` does but for serving, over readers and writers: `view`, `attach` and `check`; and the
-//! words of its command line.
+//! What `bnc` does but for serving, over readers and writers: `view`, `attach` and `check`; the words
+//! of its command line; and what is told of faults.
 #![tactic(auto)]
 
 mod attach;
@@ -7,6 +7,7 @@ mod check;
 mod fault;
 mod input;
 mod report;
+mod telling;
 mod view;
 mod words;
 
@@ -14,5 +15,6 @@ pub use attach::{Attaching, attach_input, run_attach};
 pub use check::{check_file, run_check};
 pub use fault::Fault;
 pub use report::report_text;
+pub use telling::{tell_bad_words, tell_fault};
 pub use view::{Viewing, report_input, run_view};
 pub use words::{Command, WordsFault, explain_words, read_words};
