@@ -1,6 +1,9 @@
 //! bnc: an IRC bouncer with late attach.
 #![tactic(auto)]
 
+ghost use Rattle.std.specs.Prelude.{◌≡◌};
+ghost use Rattle.std.specs.Process.{exit_status};
+
 mod serve;
 
 use crate::serve::serve_file;
@@ -50,7 +53,9 @@ fn explanation_of<R: AllocGlobal + Env>(rt: &R) -> Result<Option<String>, WordsF
 }
 
 /// Tells that the words after the program's name ask for nothing, and what is wrong with them.
-fn refuse_words<R: AllocGlobal + Env + Eprint>(rt: &R) -> ExitCode {
+fn refuse_words<R: AllocGlobal + Env + Eprint>(rt: &R) -> ExitCode
+    ensures { exit_status result ≡ 2 }
+{
     match explanation_of(rt) {
         Ok(Some(text)) => tell_bad_words(rt, Some(text.as_str())),
         _ => tell_bad_words(rt, None),

@@ -1,5 +1,5 @@
-//! What `bnc` does but for serving, over readers and writers: `view`, `attach` and `check`; the words
-//! of its command line; and what is told of faults.
+//! What `bnc` does but for serving, over readers and writers: `view`, `attach` and `check`; the
+//! words of its command line; and what is told of faults.
 #![tactic(auto)]
 
 mod attach;
