@@ -1,8 +1,9 @@
 //! Connections of clients.
 
 use crate::client::serve_client;
+use crate::event::Event;
+use crate::log::tell;
 use crate::shared::{Seat, Shared, take_seat};
-use event_log::{Event, tell};
 use std::alloc::Global;
 use std::io::Write;
 use std::net::{Shutdown, SocketAddr, TcpListener, TcpStream};

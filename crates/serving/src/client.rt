@@ -1,12 +1,15 @@
 //! One client, from its connection's beginning to its end.
 
+use crate::clock::SystemClock;
 use crate::closing::{HangingUp, hang_up};
 use crate::counted::Counted;
+use crate::event::Event;
 use crate::limits::Limits;
+use crate::log::tell;
 use crate::paced::Paced;
 use crate::shared::{Seat, Shared};
+use crate::shown::Who;
 use crate::timed::Until;
-use event_log::{Event, SystemClock, Who, tell};
 use hub_threads::Network;
 use quick_view::QuickView;
 use sessions::{

@@ -1,13 +1,15 @@
 //! The thread that dials a network, takes part in its registration, and reads it.
 
+use crate::clock::SystemClock;
 use crate::closing::hang_up;
+use crate::event::Event;
 use crate::limits::Limits;
 use crate::link::Link;
+use crate::log::tell;
 use crate::recalling::Recalling;
 use crate::rejoining::rejoin;
 use crate::shared::{Served, Shared};
 use crate::timed::{OnSilence, Patient, Until};
-use event_log::{Event, SystemClock, tell};
 use hub_threads::{
     FreeGate, InletEnd, Network, OutletEnd, ReadEnd, Reading, Stopper, Written, put_lines, read_in,
     write_out,

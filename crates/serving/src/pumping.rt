@@ -1,7 +1,9 @@
 //! The thread that takes what a network sends into its hub.
 
+use crate::clock::SystemClock;
+use crate::event::Event;
+use crate::log::tell;
 use crate::shared::Shared;
-use event_log::{Event, SystemClock, tell};
 use hub_threads::{FreeGate, PumpEnd, pump_loop};
 use std::alloc::Global;
 use std::rt::Clock;

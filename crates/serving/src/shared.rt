@@ -2,8 +2,8 @@
 
 use crate::limits::Limits;
 use crate::link::{Link, network_with_link};
+use crate::shown::Who;
 use bnc_config::{Config, NetworkConfig, Place};
-use event_log::Who;
 use hub_threads::Network;
 use quick_view::QuickView;
 use std::alloc::{AllocError, Global};

@@ -1,5 +1,6 @@
 //! Tests alone: tables of lines, names, network settings and settings files as they come, with what
-//! is expected of each, and of messages that are kept.
+//! is expected of each, of messages that are kept, and of what the program prints of its inputs and
+//! the words of its command line.
 #![tactic(auto)]
 
 #[cfg(test)]
@@ -8,6 +9,8 @@ mod kept_messages;
 mod lines;
 #[cfg(test)]
 mod names;
+#[cfg(test)]
+mod reports;
 #[cfg(test)]
 mod settings;
 #[cfg(test)]

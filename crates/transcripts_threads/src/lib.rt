@@ -1,12 +1,26 @@
-//! Tests alone: hubs between threads, with readers and writers that fail and workers that are held.
+//! Tests alone: hubs between threads, with readers and writers that fail and workers that are held;
+//! and the bouncer over the loopback range, with a small network and clients of the tests' own. Each
+//! of these ends by itself: every wait has a limit, and all that is served is counted.
 #![tactic(auto)]
 
+#[cfg(test)]
+mod bouncer;
+#[cfg(test)]
+mod coming_back;
+#[cfg(test)]
+mod connections;
 #[cfg(test)]
 mod ending;
 #[cfg(test)]
 mod gates;
 #[cfg(test)]
 mod held;
+#[cfg(test)]
+mod log_lines;
+#[cfg(test)]
+mod pasting;
+#[cfg(test)]
+mod peer;
 #[cfg(test)]
 mod pumping;
 #[cfg(test)]
@@ -17,6 +31,8 @@ mod refusing;
 mod rings;
 #[cfg(test)]
 mod scenes;
+#[cfg(test)]
+mod session;
 #[cfg(test)]
 mod stage;
 #[cfg(test)]

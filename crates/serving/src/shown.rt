@@ -29,6 +29,14 @@ impl fmt::Display for Shown<'_> {
     }
 }
 
+/// How a byte is shown where words are: as they are, a space too.
+fn sign_in_words(byte: u8) -> char {
+    match byte {
+        b' ' => ' ',
+        _ => sign_of(byte),
+    }
+}
+
 /// How many bytes of a network's parting words are shown.
 const WORDS: usize = 256;
 
@@ -44,7 +52,7 @@ impl fmt::Display for Parting<'_> {
         };
         f.write_str("; it said: ")?;
         for byte in text.iter().take(WORDS) {
-            f.write_char(if *byte == b' ' { ' ' } else { sign_of(*byte) })?;
+            f.write_char(sign_in_words(*byte))?;
         }
         Ok(())
     }

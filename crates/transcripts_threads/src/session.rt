@@ -3,12 +3,11 @@
 use crate::peer::{Peer, same};
 use bnc_config::{Config, Place};
 use client_caps::Moment;
-use event_log::SystemClock;
 use hub_threads::{FreeGate, InletEnd, Network, OutletEnd, PumpEnd, pump_loop};
 use irc_line::Line;
 use net_view::Item;
 use quick_view::QuickView;
-use serving::{Link, network_with_link};
+use serving::{Link, SystemClock, network_with_link};
 use sessions::{Served, serve_session};
 use std::alloc::Global;
 use std::net::{Net, TcpListener, TcpStream};

@@ -2,9 +2,8 @@
 
 use crate::peer::same;
 use client_caps::Caps;
-use event_log::{Event, Shown, Who};
 use hub_core::AttachError;
-use serving::Recalling;
+use serving::{Event, Recalling, Shown, Who};
 use std::alloc::Global;
 use std::io::Read;
 use std::net::SocketAddr;
