@@ -1,7 +1,7 @@
 -- A line that goes to the network.
 use Rattle.std.proofs.Common.{◌≡◌, ◌∙◌, ◌∷◌, [], ℕ, List, Bool, true, false, None, Some, refl, sym}
-use Rattle.std.proofs.Common.{ap, subst, inl, Option, ◌≤◌}
-use Rattle.std.specs.Prelude.{Result, Ok, Err, IfOk, IfErr}
+use Rattle.std.proofs.Common.{ap, subst, inl, Option, ◌<◌, ◌≤◌}
+use Rattle.std.specs.Prelude.{Result, Ok, Err, IfOk, IfErr, IsSome}
 use Rattle.std.specs.Prelude.{if◌then◌else◌}
 use Rattle.irc_line.specs.Line.{Parts}
 use Rattle.net_view.specs.Arrival.{Received}
@@ -10,7 +10,8 @@ use Rattle.hub_core.specs.declared.hub.HubError.{HubError}
 use Rattle.hub_core.specs.declared.hub.HubError.TheVariants as fault
 use Rattle.hub_core.specs.declared.said.Said.{Said}
 use Rattle.hub_core.specs.declared.said.Said.TheVariants as said
-use Rattle.hub_core.specs.States.{SessionState, HubState, OutletState}
+use Rattle.hub_core.specs.Online.{is_online}
+use Rattle.hub_core.specs.States.{SessionState, HubState, OutletState, heard}
 use Rattle.hub_core.specs.Given.{Delivered}
 use Rattle.hub_core.specs.Upkeep.{with_upstream}
 use Rattle.hub_core.specs.Saying.{Forwards, Sent, Stays, given_others, own_message, from_us}
@@ -64,12 +65,17 @@ room_found alone h s c m f e1 e2 e3 more so = record {
 
 -- what came of it, from what came once room was found
 pub sent_from : (alone : Bool) (old mid new : HubState) (id : ℕ) (line : Parts) (moment : ℕ)
-    (r : Result Said HubError) → Stays alone old mid
+    (r : Result Said HubError) → is_online (heard old) ≡ true → IsSome old.history.next
+    → 0 < mid.upstream.free → Stays alone old mid
     → IfOk r (λ s. (s ≡ said.Forwarded) × Forwards alone mid id line moment new)
     → IfErr r (λ e. (e ≡ fault.OutOfMemory) × (new ≡ mid)) → Sent alone old id line moment r new
-sent_from alone old mid new id line moment (Ok s) stays ok err =
+sent_from alone old mid new id line moment (Ok s) online number room stays ok err =
     subst (λ x. Sent alone old id line moment (Ok x) new) (sym ok.0)
     (forwards_from alone old mid new id line moment stays ok.1)
-sent_from alone old mid new id line moment (Err e) stays ok err =
-    subst (λ x. Sent alone old id line moment (Err x) new) (sym err.0)
-    (subst (Stays alone old) (sym err.1) stays)
+sent_from alone old mid new id line moment (Err e) online number room stays ok err =
+    subst (λ x. Sent alone old id line moment (Err x) new) (sym err.0) (
+      online,
+      (λ _. number),
+      subst (λ (h : HubState). 0 < h.upstream.free) (sym err.1) room,
+      subst (Stays alone old) (sym err.1) stays,
+    )

@@ -1,5 +1,5 @@
 -- What a hub does of a line that a client says.
-use Rattle.std.specs.Prelude.{◌≡◌, ◌⊎◌, ◌+◌, ◌≤◌, ℕ, List, [], ◌∷◌, ◌++◌, Option, None, Some}
+use Rattle.std.specs.Prelude.{◌≡◌, ◌⊎◌, ◌+◌, ◌<◌, ◌≤◌, ℕ, List, [], ◌∷◌, ◌++◌, Option, None, Some}
 use Rattle.std.specs.Prelude.{IsSome, Bool, true, false, length, codes, if◌then◌else◌, Result, Ok}
 use Rattle.std.specs.Prelude.{Err}
 use Rattle.std.specs.List.{list_any}
@@ -192,7 +192,9 @@ Sent alone old id line moment (Err fault.Spent) new =
 Sent alone old id line moment (Ok said.Busy) new =
     (is_online (heard old) ≡ true) × (is_message line ≡ true → IsSome old.history.next) ×
     (old.upstream.free ≡ 0) × (new ≡ old)
-Sent alone old id line moment (Err fault.OutOfMemory) new = Stays alone old new
+Sent alone old id line moment (Err fault.OutOfMemory) new =
+    (is_online (heard old) ≡ true) × (is_message line ≡ true → IsSome old.history.next) ×
+    (0 < new.upstream.free) × Stays alone old new
 Sent alone old id line moment (Ok said.Forwarded) new = Forwards alone old id line moment new
 Sent alone old id line moment (Ok _) new = ⊥
 

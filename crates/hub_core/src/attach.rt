@@ -26,7 +26,8 @@ use std::alloc::Global;
 use thiserror::Error;
 use welcome::{Packet, burst};
 
-/// Why a session was not attached, in the order in which the reasons are looked for.
+/// Why a session was not attached, in the order in which the reasons are looked for, but that room
+/// in its outlet is looked for before memory is asked for a new name.
 #[derive(Clone, Copy, Debug, PartialEq, Eq, Error)]
 pub enum AttachError {
     /// The network has not told all that a client is told first: no `376`, `422` or JOIN came

@@ -56,7 +56,7 @@ said_next means.Forwards h id line moment (Ok said.Offline) new s = same_next h 
 said_next means.Forwards h id line moment (Err fault.Spent) new s = same_next h new s.3
 said_next means.Forwards h id line moment (Ok said.Busy) new s = same_next h new s.3
 said_next means.Forwards h id line moment (Err fault.OutOfMemory) new s =
-    ap (λ (k : HubState). k.next) s.is
+    ap (λ (k : HubState). k.next) s.3.is
 said_next means.Forwards h id line moment (Ok said.Forwarded) new s = s.same.3
 said_next means.Forwards h id line moment (Ok _) new s = absurd s
 

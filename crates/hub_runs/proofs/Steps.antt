@@ -261,7 +261,7 @@ module _ (start : WorldState) (events : List Event) (replies : List Reply) where
   says_by means.Forwards h id line moment (Ok said.Busy) new rests s =
       stands_still h new rests s.3
   says_by means.Forwards h id line moment (Err fault.OutOfMemory) new rests s =
-      stays h new rests s
+      stays h new rests s.3
   says_by means.Forwards h id line moment (Ok said.Forwarded) new rests s =
       forwards h id line moment new rests s
   says_by means.Forwards h id line moment (Ok _) new rests s = absurd s

@@ -4,6 +4,8 @@ use Rattle.hub_core.specs.Insides.{hub_of}
 use Rattle.hub_core.specs.Given.{Delivered}
 use Rattle.hub_core.specs.Pumping.{with_entry}
 use Rattle.hub_core.specs.States.{HubState}
+use Rattle.history.specs.Entry.{is_message}
+use Rattle.std.specs.Prelude.{IsSome, is_some}
 use Rattle.std.specs.List.{filter_map}
 use Rattle.hub_core.specs.Saying.{Forwards, given_others, own_message, entry_said, images_said}
 use Rattle.hub_core.specs.Saying.{sent_up}
@@ -14,6 +16,8 @@ use Rattle.hub_core.proofs.Forwarded.{nobody, no_message, outlet, room_found, se
 use Rattle.hub_core.specs.Upkeep.{with_upstream}
 use Rattle.hub_core.proofs.hub.Hub.forward.Goals as goal
 use Rattle.hub_core.proofs.hub.Hub.forward.Given
+use Rattle.hub_core.proofs.hub.Hub.forward.Goals.{else-is_for_all-via-then-is_for_all+else-is_none}
+use Rattle.hub_core.proofs.hub.Hub.forward.Goals.{else-is_for_all-via-else-is_for_all}
 
 abbrev old : (g : Given.Over)
     → Inside g.row.V.Denot g.row.I.Denot g.row.O.Denot g.row.V-Memory.Denot → HubState
@@ -25,23 +29,41 @@ pub returns-then-not-self : goal.returns-then-not-self
 returns-then-not-self g c =
     rw (← c.self.view_is) (sym c.self.invariant.online_is ∙ c.if-not-self.true, refl)
 
+not_both : true ≡ false → ⊥
+not_both e = cc
+
 pub returns-in-Err : goal.returns-in-Err
 returns-in-Err g c =
-    rw (← c.self.view_is)
-    (room_found g.O.Outlet.alone (old g c.self.inside) _ _ _ _ c.room.ensures.sent
-    c.room.ensures.closed c.room.ensures.capacity c.room.ensures.more c.room.ensures.alone)
+    let number : is_message c.args.line.now ≡ true → IsSome (old g c.self.inside).history.next =
+    (λ message. elim c.else-is_for_all.branch [
+      | else-is_for_all-via-then-is_for_all+else-is_none w ↦
+          ap is_some (sym w.next_number.ensures) ∙ w.if-is_none.ensures
+      | else-is_for_all-via-else-is_for_all w ↦
+          absurd (not_both (sym message ∙ sym w.if-is_for_all.ensures))
+    ]) in
+    rw (← c.self.view_is) (
+      sym c.self.invariant.online_is ∙ c.if-not-self.false,
+      number,
+      c.if-not-room.ensures.value.0 refl,
+      room_found g.O.Outlet.alone (old g c.self.inside) _ _ _ _ c.room.ensures.sent
+          c.room.ensures.closed c.room.ensures.capacity c.room.ensures.more c.room.ensures.alone,
+    )
 
 pub returns-then-is_for_all-2 : goal.returns-then-is_for_all-2
 returns-then-is_for_all-2 g c =
     rw (← c.self.view_is)
     (sent_from g.O.Outlet.alone (old g c.self.inside) _ c.spread.new.self c.args.id c.args.line.now
-    c.args.moment.0 c.spread.result
+    c.args.moment.0 c.spread.result (sym c.self.invariant.online_is ∙ c.if-not-self.false)
+    (elim c.else-is_for_all.branch [
+      | else-is_for_all-via-then-is_for_all+else-is_none w ↦
+          ap is_some (sym w.next_number.ensures) ∙ w.if-is_none.ensures
+      | else-is_for_all-via-else-is_for_all w ↦
+          absurd (not_both (c.if-is_for_all-2.ensures ∙ sym w.if-is_for_all.ensures))
+    ])
+    (c.if-not-room.ensures.value.0 refl)
     (room_found g.O.Outlet.alone (old g c.self.inside) _ _ _ _ c.room.ensures.sent
     c.room.ensures.closed c.room.ensures.capacity c.room.ensures.more c.room.ensures.alone)
     c.spread.ensures.ok c.spread.ensures.err)
-
-not_both : true ≡ false → ⊥
-not_both e = cc
 
 forwards : (g : Given.Over) (c : goal.After-put_into_room g) → Forwards g.O.Outlet.alone
     (old g c.self.inside) c.args.id c.args.line.now c.args.moment.0
