@@ -23,18 +23,22 @@ use std::alloc::Global;
 use std::io::{Read, Write};
 use std::sync::Wait;
 use std::thread::Threads;
+use thiserror::Error;
 
 /// How many packets wait for a client at most.
 const PACKETS: usize = 256;
 
 /// Why a client that was let in had no session, or lost it.
-#[derive(Clone, Copy, Debug, PartialEq, Eq)]
+#[derive(Clone, Copy, Debug, PartialEq, Eq, Error)]
 pub enum ServeFault {
     /// An allocation was refused, or no thread could be started. There is no session.
+    #[error("out of memory or threads")]
     Memory,
     /// It was not attached, and was told why.
+    #[error("{0}")]
     Refused(AttachError),
     /// The hub has the session no more: its outlet was full. Its writer runs on to its own end.
+    #[error("cut")]
     Cut,
 }
 

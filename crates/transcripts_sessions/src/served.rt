@@ -12,6 +12,8 @@ use net_view::Item;
 use quick_view::QuickView;
 use sessions::{Served, serve_session};
 use std::alloc::Global;
+use std::io;
+use std::io::{ErrorKind, Write};
 use std::process::Abort;
 use std::sync::{Arc, Wait};
 use std::test::Fail;
@@ -228,4 +230,57 @@ fn a_network_that_is_not_ready(rt: HostRuntime) -> Result<(), Fail> {
         (LOGIN, "PRIVMSG #c :hi\r\n"),
         refused,
     )
+}
+
+/// A writer that takes nothing.
+#[derive(Drop)]
+struct Gone;
+
+impl Write for Gone {
+    fn write(&mut self, _buf: &[u8]) -> io::Result<usize> {
+        Err(io::Error::from(ErrorKind::BrokenPipe))
+    }
+
+    fn flush(&mut self) -> io::Result<()> {
+        Ok(())
+    }
+}
+
+/// Serves a client that says this and takes nothing; whether its session was cut.
+fn is_cut<R: Threads + Wait + Send + Copy + 'static>(
+    rt: R,
+    alloc: Global,
+    mut said: &[u8],
+) -> Result<bool, Fail> {
+    let config = Config::read(alloc, SETTINGS.as_bytes())?;
+    let (network, _sent) = network_of(&rt, alloc, &HEARD)?;
+    let place = Place {
+        user: 1,
+        network: 0,
+    };
+    let networks = [(place, network)];
+    let served = serve_session(
+        rt, alloc, &mut said, Gone, &config, &networks, &FreeGate, &Still,
+    )?;
+    match served {
+        Served::Cut => Ok(true),
+        _ => Ok(false),
+    }
+}
+
+/// A login, and behind it more questions than wait for a client and than its writer takes at once.
+fn many_questions(alloc: Global) -> Result<Vec<u8>, Fail> {
+    let mut said = Vec::from_slice(alloc, LOGIN.as_bytes())?;
+    for _ in 0..1_000 {
+        said.extend_from_slice(b"PING x\r\n")?;
+    }
+    said.extend_from_slice(b"QUIT\r\n")?;
+    Ok(said)
+}
+
+#[test]
+fn a_session_that_takes_nothing_is_cut(rt: HostRuntime) -> Result<(), Fail> {
+    let said = many_questions(rt.alloc())?;
+    assert!(rt; is_cut(rt, rt.alloc(), said.as_slice())?);
+    Ok(())
 }

@@ -7,7 +7,7 @@ use std::net::{Net, TcpListener, TcpStream};
 use std::test::Fail;
 
 /// What a client without capabilities is greeted with.
-const GREETING: &str = ":bnc 001 ann :Welcome to the bouncer\r\n\
+const PLAIN: &str = ":bnc 001 ann :Welcome to the bouncer\r\n\
     :bnc 002 ann :Your host is bnc, running version 1\r\n\
     :bnc 003 ann :This server was created for you\r\n\
     :bnc 004 ann bnc 1 i biklmnopstv\r\n\
@@ -17,19 +17,32 @@ const GREETING: &str = ":bnc 001 ann :Welcome to the bouncer\r\n\
     :bnc 353 ann = #c :ann @bob\r\n\
     :bnc 366 ann #c :End of NAMES list\r\n";
 
-/// The login of one client of ann.
+/// What a client is greeted with that asked for multi-prefix.
+const WITH_ALL_SYMBOLS: &str = ":bnc CAP * ACK multi-prefix\r\n\
+    :bnc 001 ann :Welcome to the bouncer\r\n\
+    :bnc 002 ann :Your host is bnc, running version 1\r\n\
+    :bnc 003 ann :This server was created for you\r\n\
+    :bnc 004 ann bnc 1 i biklmnopstv\r\n\
+    :bnc 005 ann PREFIX=(ov)@+ CHANTYPES=# :are supported by this server\r\n\
+    :bnc 422 ann :MOTD File is missing\r\n\
+    :ann JOIN #c\r\n\
+    :bnc 353 ann = #c :ann @+bob\r\n\
+    :bnc 366 ann #c :End of NAMES list\r\n";
+
+/// The login of one client of ann, without capabilities.
 const PHONE: &str = "PASS ann@phone/net:bc\r\nNICK x\r\nUSER x 0 * :x\r\n";
 
-/// The login of another.
-const DESK: &str = "PASS ann@desk/net:bc\r\nNICK x\r\nUSER x 0 * :x\r\n";
+/// The login of another, which asks for multi-prefix.
+const DESK: &str = "CAP REQ :multi-prefix\r\nPASS ann@desk/net:bc\r\nNICK x\r\n\
+    USER x 0 * :x\r\nCAP END\r\n";
 
 /// What bob says while the phone is away.
 const MISSED: &str = ":bob!b@h PRIVMSG #c two\r\n:bob!b@h NOTICE #c three\r\n";
 
-/// What a client hears of a connection that is made anew.
+/// What the desk hears of a connection that is made anew.
 const ANEW: &str = ":s 001 ann Welcome\r\n\
     :s 005 ann PREFIX=(ov)@+ CHANTYPES=# :are supported\r\n\
-    :s 376 ann :End of MOTD\r\n:ann!a@h JOIN #c\r\n:s 353 ann = #c :ann @bob\r\n\
+    :s 376 ann :End of MOTD\r\n:ann!a@h JOIN #c\r\n:s 353 ann = #c :ann @+bob\r\n\
     :s 366 ann #c End\r\n";
 
 /// The network and two clients.
@@ -42,7 +55,7 @@ pub struct Room {
 
 /// The bouncer is in a channel with bob from here on, and has taken it.
 fn enter(alloc: Global, network: &mut Peer) -> Result<(), Fail> {
-    network.say(":ann!a@h JOIN #c\r\n:s 353 ann = #c :ann @bob\r\n:s 366 ann #c :End\r\n")?;
+    network.say(":ann!a@h JOIN #c\r\n:s 353 ann = #c :ann @+bob\r\n:s 366 ann #c :End\r\n")?;
     settle(alloc, network)
 }
 
@@ -53,22 +66,23 @@ fn let_in(alloc: Global, bouncer: &Bouncer) -> Result<Peer, Fail> {
     Ok(network)
 }
 
-/// A client logs in by one PASS, without capabilities.
+/// A client logs in by one PASS, and is greeted so.
 fn come<R: Net<Listener = TcpListener, Stream = TcpStream>>(
     rt: &R,
     alloc: Global,
     bouncer: &Bouncer,
     login: &str,
+    greeting: &str,
 ) -> Result<Peer, Fail> {
     let mut client = Peer::dial(rt, bouncer.address)?;
-    greeted(alloc, &mut client, login)?;
+    greeted(alloc, &mut client, login, greeting)?;
     Ok(client)
 }
 
 /// A client logs in and is greeted.
-fn greeted(alloc: Global, client: &mut Peer, login: &str) -> Result<(), Fail> {
+fn greeted(alloc: Global, client: &mut Peer, login: &str, greeting: &str) -> Result<(), Fail> {
     client.say(login)?;
-    client.hears(alloc, GREETING)
+    client.hears(alloc, greeting)
 }
 
 /// The network lets the bouncer in, and two clients come.
@@ -78,8 +92,8 @@ pub fn gather<R: Net<Listener = TcpListener, Stream = TcpStream>>(
     bouncer: &Bouncer,
 ) -> Result<Room, Fail> {
     let network = let_in(alloc, bouncer)?;
-    let phone = come(rt, alloc, bouncer, PHONE)?;
-    let desk = come(rt, alloc, bouncer, DESK)?;
+    let phone = come(rt, alloc, bouncer, PHONE, PLAIN)?;
+    let desk = come(rt, alloc, bouncer, DESK, WITH_ALL_SYMBOLS)?;
     Ok(Room {
         network,
         phone,
@@ -121,7 +135,7 @@ fn go_and_come_back<R: Net<Listener = TcpListener, Stream = TcpStream>>(
 ) -> Result<(), Fail> {
     let mut room = gather(rt, alloc, bouncer)?;
     talk(alloc, &mut room.network, &mut room.phone, &mut room.desk)?;
-    room.phone = come(rt, alloc, bouncer, PHONE)?;
+    room.phone = come(rt, alloc, bouncer, PHONE, PLAIN)?;
     catch_up(alloc, &mut room.phone)?;
     leave(alloc, &mut room.desk)
 }
@@ -180,7 +194,7 @@ fn lose_and_dial_again<R: Net<Listener = TcpListener, Stream = TcpStream>>(
     bouncer: &Bouncer,
 ) -> Result<(), Fail> {
     let network = let_in(alloc, bouncer)?;
-    let mut desk = come(rt, alloc, bouncer, DESK)?;
+    let mut desk = come(rt, alloc, bouncer, DESK, WITH_ALL_SYMBOLS)?;
     join_and_lose(alloc, network, &mut desk)?;
     made_anew(alloc, bouncer, &mut desk)
 }
