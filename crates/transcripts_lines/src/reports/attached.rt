@@ -126,6 +126,48 @@ fn the_last_messages(rt: HostRuntime) -> Result<(), Fail> {
     Ok(())
 }
 
+const SAID_TO_BOTH: &str = ":bob!b@h PRIVMSG #c m1
+:bob!b@h PRIVMSG #c m2
+:bob!b@h PRIVMSG Me :hi there
+:bob!b@h PRIVMSG #c m3
+";
+
+const THE_LAST_OF_BOTH: [(&str, &str); 2] = [
+    (
+        "batch",
+        ":bnc BATCH +h0 chathistory #c
+@batch=h0 :bob!b@h PRIVMSG #c m2
+@batch=h0 :bob!b@h PRIVMSG #c m3
+:bnc BATCH -h0
+:bob!b@h PRIVMSG Me :hi there
+",
+    ),
+    (
+        "batch server-time",
+        ":bnc BATCH +h0 chathistory #c
+@batch=h0;time=1970-01-01T00:00:00.000Z :bob!b@h PRIVMSG #c m2
+@batch=h0;time=1970-01-01T00:00:00.000Z :bob!b@h PRIVMSG #c m3
+:bnc BATCH -h0
+@time=1970-01-01T00:00:00.000Z :bob!b@h PRIVMSG Me :hi there
+",
+    ),
+];
+
+#[test]
+fn messages_for_a_channel_and_for_us(rt: HostRuntime) -> Result<(), Fail> {
+    let alloc = rt.alloc();
+    let input = format!(in alloc; "{READY}{JOINED}{SAID_TO_BOTH}")?;
+    let state = format!(in alloc;
+        "{GREETING}{SETTINGS}:Me JOIN #c\n:bnc 353 Me = #c Me\n:bnc 366 Me #c :End of NAMES list\n"
+    )?;
+    for (names, playback) in THE_LAST_OF_BOTH {
+        let want = format!(in alloc; "{state}{playback}")?;
+        let written = written_for(alloc, input.as_str(), names, 3)?;
+        assert!(rt; written.as_slice() == want.as_bytes());
+    }
+    Ok(())
+}
+
 /// A writer that takes nothing.
 #[derive(Drop)]
 struct Closed;

@@ -61,7 +61,7 @@ fn words_and_what_they_ask_for(rt: HostRuntime) -> Result<(), Fail> {
     assert!(rt; checks(&read_words(alloc, &["check", "bnc.toml"])?, "bnc.toml"));
     assert!(rt; serves(&read_words(alloc, &["serve", "bnc.toml"])?, "bnc.toml"));
     assert!(rt; views(alloc, &["view"]));
-    assert!(rt; matches!(attach_of(alloc, &["attach"]), Some((_, 500))));
+    assert!(rt; attach_of(alloc, &["attach"]) == Some((Caps::none(), 500)));
     check_helps(&rt, &WORDS_FOR_HELP);
     Ok(())
 }
@@ -105,12 +105,13 @@ fn what_is_wrong_with_words(rt: HostRuntime) -> Result<(), Fail> {
     Ok(())
 }
 
-static LISTS_OF_CAPABILITIES: [(&str, Option<&[u8]>); 5] = [
+static LISTS_OF_CAPABILITIES: [(&str, Option<&[u8]>); 6] = [
     ("", Some(b"")),
     ("batch", Some(b"batch")),
     ("batch,server-time", Some(b"server-time batch")),
     ("multi-prefix,-multi-prefix", Some(b"")),
     ("batch,sasl", None),
+    ("sasl", None),
 ];
 
 /// Each list is read as the names behind it, or refused.
@@ -134,6 +135,8 @@ fn lists_of_capabilities(rt: HostRuntime) {
 
 const NUMBERS_OF_MESSAGES: [&str; 5] = ["attach", "--history", "10000", "--caps", "batch"];
 
+const THREE_MESSAGES: [&str; 5] = ["attach", "--caps", "batch", "--history", "3"];
+
 static NO_NUMBERS_OF_MESSAGES: [&[&str]; 6] = [
     &["attach", "--history", "0"],
     &["attach", "--history", "10001"],
@@ -149,6 +152,8 @@ fn numbers_of_messages(rt: HostRuntime) {
     let good = attach_of(alloc, &NUMBERS_OF_MESSAGES);
     assert!(rt; matches!(good, Some((caps, 10_000)) if caps.batch));
     assert!(rt; matches!(attach_of(alloc, &["attach", "--history=1"]), Some((_, 1))));
+    let batch = read_request(Caps::none(), b"batch");
+    assert!(rt; attach_of(alloc, &THREE_MESSAGES) == batch.map(|caps| (caps, 3)));
     check_bad(&rt, &NO_NUMBERS_OF_MESSAGES);
 }
 
