@@ -43,6 +43,7 @@ use Rattle.std.proofs.Common.{
   take,
   drop,
   add-one,
+  drop-cons,
 }
 use Rattle.std.proofs.lemmas.List.{length-map, map-set, get_or-map}
 use Rattle.irc_support.specs.Text.{Text}
@@ -81,18 +82,30 @@ module _ {Y : Type 0} (g : Y → Y) where
   one_more (x ∷ xs) zero d l = refl
   one_more (x ∷ xs) (suc i) d l = ap (λ l. g x ∷ l) (one_more xs i d (omega arith))
 
+  module _ {E : Type 0} (f : E → Y) (xs : List Y) (s : List E) (i : ℕ) (x : E) (l : i < length s)
+      (e : map f s ≡ done i xs) (at : x ≡ get_or s i x) where
+    within : i < length xs
+    within = subst (λ n. i < n) (sym (length-map s f) ∙ ap length e ∙ long xs i) l
+
+    -- what stands there is not changed yet
+    not_yet : f x ≡ get_or xs i (f x)
+    not_yet =
+        ap f at ∙ sym (get_or-map f s i x (f x) l) ∙ ap (λ l. get_or l i (f x)) e ∙ here xs i (f x)
+
+    -- what a function makes of what stands there and behind it
+    pub made_from : {Z : Type 0} (h : Y → Z) → map h (drop i xs) ≡ h (f x) ∷ map h (drop (i + 1) xs)
+    made_from h =
+        ap (map h) (drop-cons xs i (f x) within)
+        ∙ (λ j. h (sym not_yet j) ∷ map h (drop (sym (add-one i) j) xs))
+
   -- one more is changed
   pub changed_more : {E : Type 0} (f : E → Y) (xs : List Y) (s : List E) (i : ℕ) (x new : E) → i <
       length s → map f s ≡ done i xs →
       x ≡ get_or s i x → f new ≡ g (f x) → map f (set s i new) ≡ done (i + 1) xs
   changed_more f xs s i x new l e at is =
-      let within : i < length xs = subst (λ n. i < n) (sym (length-map s f) ∙ ap length e ∙ long xs
-      i) l in
-      let fx : f x ≡ get_or xs i (f x) =
-      ap f at ∙ sym (get_or-map f s i x (f x) l) ∙ ap (λ l. get_or l i (f x)) e ∙ here xs i (f x) in
       map-set f s i new
-      ∙ (λ j. set (e j) i ((is ∙ ap g fx) j))
-      ∙ one_more xs i (f x) within
+      ∙ (λ j. set (e j) i ((is ∙ ap g (not_yet f xs s i x l e at)) j))
+      ∙ one_more xs i (f x) (within f xs s i x l e at)
       ∙ ap (λ n. done n xs) (sym (add-one i))
 
 -- all of a list, whose items are written anew
@@ -187,6 +200,12 @@ module _ {A : Type 0} where
   pub rooms_sorted : (xs : List (Slot (Room A) A)) → T (fin.is_sorted bytes_cmp (map entry_of xs))
       → T (fin.is_sorted bytes_cmp (map room_entry xs))
   rooms_sorted xs h = still_sorted bytes_cmp (map entry_of xs) (map room_entry xs) (room_keys xs) h
+
+  pub entries_are : (xs : List (Slot (Room A) A)) → T (fin.is_sorted bytes_cmp (map entry_of xs)) →
+      fin.entries (rooms_of (fin.from_sorted (map entry_of xs))) ≡ map room_entry xs
+  entries_are xs h =
+      ap fin.entries (rooms_are xs h)
+      ∙ fin.entries-from_sorted bytes_cmp (map room_entry xs) (rooms_sorted xs h)
 
   module _ (g : Channel → Channel) (xs ys : List (Slot (Room A) A)) (h : T (fin.is_sorted
       bytes_cmp (map entry_of xs)))

@@ -3,7 +3,7 @@ use Rattle.std.specs.Prelude.{ℕ, List, map, Bool, if◌then◌else◌}
 use Rattle.std.specs.Option.{option_map, option_map_or}
 use Rattle.std.specs.Ordering.{nat_cmp}
 use Rattle.std.specs.FinMap as fin
-use Rattle.std.proofs.Common.{Option}
+use Rattle.std.proofs.Common.{Option, Some, None}
 use Rattle.irc_support.specs.Text.{Text}
 use Rattle.net_view.specs.Names.{bytes_cmp}
 use Rattle.net_view.specs.View.{Channel}
@@ -35,6 +35,14 @@ each_changed change entries = map (λ e. (e.0, change e.1)) entries
 -- whether the person is a member of this one
 abbrev pub is_in : Text → Text × Channel → Bool
 is_in n entry = fin.contains_key entry.1.members n
+
+-- a copy of the key for a channel of these members, where the person is one
+abbrev pub copy_for : Text → Text → fin.FinMap bytes_cmp (List ℕ) → Option Text
+copy_for key n members = if fin.contains_key members n then Some key else None
+
+-- those for all channels
+abbrev pub copies_of : Text → Text → List (Text × Channel) → List (Option Text)
+copies_of key n entries = map (λ e. copy_for key n e.1.members) entries
 
 -- a channel with these modes
 abbrev pub with_modes : fin.FinMap nat_cmp (Option Text) → Channel → Channel

@@ -16,7 +16,7 @@ pub use person::{
     People, Person, name_person, new_person, rename_person, retain_seen, set_account, set_away,
 };
 pub use room::{
-    Members, Room, Rooms, copies, fresh_room, new_member, no_room, seat, set_modes, set_topic,
+    Copies, Members, Room, Rooms, fresh_room, new_member, no_room, seat, set_modes, set_topic,
     unseat,
 };
 pub use slot::Entry;

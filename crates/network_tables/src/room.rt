@@ -1,8 +1,8 @@
 //! Channels that we are on.
 
-ghost use Rattle.std.specs.Prelude.{◌≡◌, ◌≤◌, [], None, length, map, is_some, OnOk, OnErr, IfOk};
+ghost use Rattle.std.specs.Prelude.{◌≡◌, [], None, map, is_some, OnOk, OnErr, IfOk};
 ghost use Rattle.std.specs.Option.{option_map};
-ghost use Rattle.std.specs.List.{All, list_any};
+ghost use Rattle.std.specs.List.{list_any};
 ghost use Rattle.std.specs.FinMap as fin;
 ghost use Rattle.net_view.specs.Step.{is_seen, old_member};
 ghost use Rattle.net_view.specs.Changes.{with_topic, with_ranks, without_member, fresh_channel};
@@ -13,16 +13,19 @@ ghost use Rattle.network_tables.specs.Sought.{sought_key};
 ghost use Rattle.network_tables.specs.People.{changed_at};
 ghost use Rattle.network_tables.specs.Rooms.{channel_of, rooms_of, with_modes, room_entry};
 ghost use Rattle.network_tables.specs.Rooms.{each_changed, is_in, moved_in, moved_channel};
+ghost use Rattle.network_tables.specs.Rooms.{copy_for, copies_of};
 
 use crate::OutOfMemory;
 use crate::modes::Modes;
 use crate::slot::{Entry, Slot, new_entry};
 use crate::sought::{Sought, head};
 use crate::table::Table;
+use crate::text::copy_of;
 use block_list::Blocks;
 use irc_names::CaseMapping;
 use irc_support::Ranks;
 use std::alloc::Allocator;
+use std::collections::VecDeque;
 
 /// The members of a channel, by the keys of their nicks, each with the ranks held there.
 pub type Members<A> = Table<Ranks, A>;
@@ -51,6 +54,9 @@ impl<A: Allocator> Drop for Room<A> {
 
 /// The channels that we are on, by the keys of their names.
 pub type Rooms<A> = Table<Room<A>, A>;
+
+/// For each of the channels, in the order of their keys, a copy of a member's key or none.
+pub type Copies<A> = VecDeque<Option<Vec<u8, A>>, A>;
 
 /// A channel without a name, a mode or a member, which stands for one that is being changed.
 pub fn no_room<A: Allocator + Copy>(alloc: A) -> Room<A>
@@ -217,58 +223,63 @@ fn unseat_each<A: Allocator>(rooms: &mut Blocks<Slot<Room<A>, A>, A>, who: Sough
     }
 }
 
-/// Gives a member another key. Whoever stood under that one is gone, where it may be taken.
+/// Gives a member another key, of which this is a copy where there is the member. Whoever stood
+/// under that key is gone, where it may be taken.
 fn rename_member<A: Allocator>(
     members: &mut Members<A>,
     head: u64,
     old: Sought<'_>,
     taken: bool,
-    new: Vec<u8, A>,
+    new: &[u8],
+    copy: Option<Vec<u8, A>>,
 )
     requires head { head ≡ head_of (sought_key old) }
     requires bytes { AreBytesTo 8 (sought_key old) }
+    requires copy { option_map (λ k. k.items) copy
+        ≡ copy_for new.now (sought_key old) members.old.all }
     ensures { members.new.all
-        ≡ moved_in taken (sought_key old.entry) new.items members.old.all }
+        ≡ moved_in taken (sought_key old.entry) new.now members.old.all }
 {
-    match members.remove_by(head, old) {
-        Some(mut member) => {
+    if let Some(new) = copy {
+        if let Some(mut member) = members.remove_by(head, old) {
             member.key = new;
             members.insert(member);
         }
-        None => {
-            if taken {
-                members.forget(&new);
-            }
-        }
+    } else if taken {
+        members.forget(new);
     }
 }
 
-/// Copies of a key.
-pub fn copies<A: Allocator + Copy>(
+/// Copies of a key, one for each of the channels in which somebody is a member.
+fn copies_in<A: Allocator + Copy>(
     alloc: A,
+    rooms: &Blocks<Slot<Room<A>, A>, A>,
+    who: Sought<'_>,
     key: &[u8],
-    count: usize,
-) -> Result<Vec<Vec<u8, A>, A>, OutOfMemory>
-    ensures { IfOk result (λ keys. (length keys.items ≡ count) × All (λ k. k.items ≡ key.now)
-        keys.items) }
+) -> Result<Copies<A>, OutOfMemory>
+    ensures { IfOk result (λ copies. map (option_map (λ k. k.items)) copies.items
+        ≡ copies_of key.now (sought_key who.entry) (map room_entry rooms.now.items)) }
 {
-    let mut keys = Vec::new(alloc);
-    for _made in 0..count {
-        keys.push(Vec::from_slice(alloc, key)?)?;
+    let head = head(who);
+    let mut copies = VecDeque::with_capacity(alloc, rooms.len())?;
+    for place in 0..rooms.len() {
+        let is_member = rooms.at(place).entry.value.members.contains_by(head, who);
+        let copy = copy_of(alloc, is_member.then_some(key))?;
+        copies.push_back(copy)?;
     }
-    Ok(keys)
+    Ok(copies)
 }
 
-/// Gives a member another key in each of the channels, for each of which there is a copy of it.
+/// Gives a member another key in each of the channels, by these copies of it.
 fn rename_each<A: Allocator>(
     rooms: &mut Blocks<Slot<Room<A>, A>, A>,
     old: Sought<'_>,
     taken: bool,
     new: &[u8],
-    keys: &mut Vec<Vec<u8, A>, A>,
+    copies: &mut Copies<A>,
 )
-    requires enough { length rooms.old.items ≤ length keys.old.items }
-    requires copies { All (λ k. k.items ≡ new.now) keys.old.items }
+    requires { map (option_map (λ k. k.items)) copies.old.items
+        ≡ copies_of new.now (sought_key old) (map room_entry rooms.old.items) }
     ensures { map room_entry rooms.new.items
         ≡ each_changed (moved_channel taken (sought_key old.entry) new.now)
         (map room_entry rooms.old.items) }
@@ -276,8 +287,10 @@ fn rename_each<A: Allocator>(
     let head = head(old);
     for place in 0..rooms.len() {
         let room = rooms.at_mut(place);
-        match keys.pop() {
-            Some(key) => rename_member(&mut room.entry.value.members, head, old, taken, key),
+        match copies.pop_front() {
+            Some(copy) => {
+                rename_member(&mut room.entry.value.members, head, old, taken, new, copy);
+            }
             None => unreachable!(),
         }
     }
@@ -297,14 +310,14 @@ fn is_member_of_any<A: Allocator>(rooms: &Blocks<Slot<Room<A>, A>, A>, who: Soug
 }
 
 impl<A: Allocator> Table<Room<A>, A> {
-    ghost use Rattle.std.specs.Prelude.{◌≡◌, ◌≤◌, length};
-    ghost use Rattle.std.specs.List.{All};
+    ghost use Rattle.std.specs.Prelude.{◌≡◌, IfOk, map};
+    ghost use Rattle.std.specs.Option.{option_map};
     ghost use Rattle.std.specs.FinMap as fin;
     ghost use Rattle.net_view.specs.Step.{is_seen};
     ghost use Rattle.net_view.specs.Changes.{without_member};
     ghost use Rattle.network_tables.specs.Shown.{shown};
     ghost use Rattle.network_tables.specs.Sought.{sought_key};
-    ghost use Rattle.network_tables.specs.Rooms.{rooms_of, moved_channel};
+    ghost use Rattle.network_tables.specs.Rooms.{rooms_of, moved_channel, copies_of};
 
     /// Takes a member off all channels.
     pub fn unseat_all(&mut self, who: Sought<'_>)
@@ -314,21 +327,30 @@ impl<A: Allocator> Table<Room<A>, A> {
         unseat_each(&mut self.entries, who);
     }
 
-    /// Gives a member another key in all channels, for each of which there is a copy of it. Where
-    /// the other key may be taken, whoever stood under it is gone.
-    pub fn rename_all(
-        &mut self,
-        old: Sought<'_>,
-        taken: bool,
-        new: &[u8],
-        keys: &mut Vec<Vec<u8, A>, A>,
-    )
-        requires enough { length (fin.entries self.old.all) ≤ length keys.old.items }
-        requires copies { All (λ k. k.items ≡ new.now) keys.old.items }
+    /// Copies of a key, one for each of the channels in which somebody is a member.
+    pub fn copies_for(
+        &self,
+        alloc: A,
+        who: Sought<'_>,
+        key: &[u8],
+    ) -> Result<Copies<A>, OutOfMemory>
+    where
+        A: Copy,
+        ensures { IfOk result (λ copies. map (option_map (λ k. k.items)) copies.items
+            ≡ copies_of key.now (sought_key who.entry) (fin.entries (rooms_of self.now.all))) }
+    {
+        copies_in(alloc, &self.entries, who, key)
+    }
+
+    /// Gives a member another key in all channels, by the copies of it that are for them. Where the
+    /// other key may be taken, whoever stood under it is gone.
+    pub fn rename_all(&mut self, old: Sought<'_>, taken: bool, new: &[u8], copies: &mut Copies<A>)
+        requires { map (option_map (λ k. k.items)) copies.old.items
+            ≡ copies_of new.now (sought_key old) (fin.entries (rooms_of self.old.all)) }
         ensures { rooms_of self.new.all
             ≡ shown (moved_channel taken (sought_key old.entry) new.now) (rooms_of self.old.all) }
     {
-        rename_each(&mut self.entries, old, taken, new, keys);
+        rename_each(&mut self.entries, old, taken, new, copies);
     }
 
     /// Whether somebody is a member of one of the channels.

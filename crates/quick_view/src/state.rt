@@ -6,7 +6,7 @@ use crate::moding::{change_modes, change_room};
 use irc_line::Line;
 use irc_support::{Ranks, Support};
 use network_tables::{
-    Modes, People, Rooms, Sought, Table, copies, copy_of, copy_of_told, fresh_room, name_person,
+    Modes, People, Rooms, Sought, Table, copy_of, copy_of_told, fresh_room, name_person,
     new_member, new_person, no_room, rename_person, retain_seen, seat, set_account, set_away,
     set_modes, set_topic, unseat,
 };
@@ -253,14 +253,14 @@ impl<A: Allocator + Copy> State<A> {
         let key = mapping.key(self.alloc, new)?;
         let again = Vec::from_slice(self.alloc, &key)?;
         let nick = Vec::from_slice(self.alloc, new)?;
-        let own = Vec::from_slice(self.alloc, new)?;
-        let mut keys = copies(self.alloc, &key, self.rooms.len())?;
+        let own = copy_of(self.alloc, ours.then_some(new))?;
         let old = Sought::Name(mapping, old);
+        let mut copies = self.rooms.copies_for(self.alloc, old, &key)?;
         let taken = self.people.get(Sought::Key(&key)).is_some();
-        self.rooms.rename_all(old, taken, &key, &mut keys);
+        self.rooms.rename_all(old, taken, &key, &mut copies);
         rename_person(&mut self.people, old, key, again, nick);
         if ours {
-            self.own = Some(own);
+            self.own = own;
         }
         Ok(())
     }

@@ -1,3 +1,4 @@
+use Rattle.std.proofs.lemmas.Grind.{common_steps}
 use Rattle.std.proofs.Common.{arith, ap, sym, subst, ◌∙◌, ◌-◌, ◌≡◌, suc, get_or}
 use Rattle.std.specs.List.{remove}
 use Rattle.net_view.specs.Step.{is_seen}
@@ -27,3 +28,6 @@ loop-place-preserved-then-not-is_seen g c =
           ∙ sym c.is_seen.ensures ∙ c.if-not-is_seen.true);
       within = omega (arith, within);
     }
+
+pub loop-place-init : goal.loop-place-init
+loop-place-init g c = grind (arith, common_steps)

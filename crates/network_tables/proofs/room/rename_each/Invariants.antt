@@ -1,7 +1,7 @@
-use Rattle.std.proofs.Common.{◌≡◌, ◌++◌, ◌≤◌, ◌+◌, map, take, drop, length}
-use Rattle.std.specs.List.{All}
+use Rattle.std.proofs.Common.{◌≡◌, ◌++◌, map, take, drop, length}
+use Rattle.std.specs.Option.{option_map}
 use Rattle.network_tables.specs.Sought.{sought_key}
-use Rattle.network_tables.specs.Rooms.{room_entry, each_changed, moved_channel}
+use Rattle.network_tables.specs.Rooms.{room_entry, each_changed, moved_channel, copies_of}
 use Rattle.network_tables.proofs.room.rename_each.Given as goal
 
 abbrev pub invariant-loop-place : goal.invariant-loop-place
@@ -11,6 +11,6 @@ invariant-loop-place g l = record {
       (take l.place (map room_entry l.initial.rooms.items))
       ++ drop l.place (map room_entry l.initial.rooms.items);
   as_long : length l.rooms.items ≡ length l.initial.rooms.items;
-  enough : length l.initial.rooms.items ≤ length l.keys.items + l.place;
-  copies : All (λ k. k.items ≡ l.new) l.keys.items;
+  copies : map (option_map (λ k. k.items)) l.copies.items
+      ≡ copies_of l.new (sought_key l.old) (drop l.place (map room_entry l.initial.rooms.items));
 }

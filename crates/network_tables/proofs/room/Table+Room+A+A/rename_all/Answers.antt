@@ -1,13 +1,9 @@
-use Rattle.std.proofs.Common.{◌≡◌, map, length, sym, ap, subst, ◌∙◌}
+use Rattle.std.proofs.Common.{sym, ap, ◌∙◌}
 use Rattle.std.specs.FinMap as fin
-use Rattle.std.specs.Prelude.{◌≤◌}
-use Rattle.std.proofs.lemmas.List.{length-map}
-use Rattle.net_view.specs.Names.{bytes_cmp}
 use Rattle.network_tables.specs.Shown.{shown}
 use Rattle.network_tables.specs.Sought.{sought_key}
-use Rattle.network_tables.specs.Table.{entry_of}
-use Rattle.network_tables.specs.Rooms.{rooms_of, moved_channel}
-use Rattle.network_tables.proofs.EachLemmas.{each_sorted, each_is}
+use Rattle.network_tables.specs.Rooms.{rooms_of, moved_channel, copies_of}
+use Rattle.network_tables.proofs.EachLemmas.{each_sorted, each_is, entries_are}
 use Rattle.network_tables.proofs.room.Table+Room+A+A.rename_all.Goals as goal
 
 pub invariant_of-self : goal.invariant_of-self
@@ -23,11 +19,8 @@ returns g c =
     c.rename_each.ensures
     ∙ ap (λ t. shown change (rooms_of t.all)) c.self.view_is
 
-pub rename_each-requires-clause-enough : goal.rename_each-requires-clause-enough
-rename_each-requires-clause-enough g c =
+pub rename_each-requires : goal.rename_each-requires
+rename_each-requires g c =
     let xs = c.self.inside.entries.items in
-    let as_long : length (fin.entries c.args.self.now.all) ≡ length xs =
-    ap (λ t. length (fin.entries t.all)) (sym c.self.view_is)
-    ∙ ap length (fin.entries-from_sorted bytes_cmp (map entry_of xs) c.self.invariant)
-    ∙ length-map xs entry_of in
-    subst (λ n. n ≤ length c.args.keys.now.items) as_long c.requires.enough
+    c.requires ∙ sym (ap (copies_of c.args.new.now (sought_key c.args.old)) (sym (entries_are xs
+    c.self.invariant) ∙ ap (λ t. fin.entries (rooms_of t.all)) c.self.view_is))

@@ -1,4 +1,6 @@
 use Rattle.std.proofs.Common.{◌≡◌, cond, false, is_some, Some, sym, ap, ◌∙◌}
+use Rattle.std.specs.Bool.{then_some}
+use Rattle.std.specs.Option.{option_map}
 use Rattle.std.specs.FinMap as fin
 use Rattle.irc_names.specs.CaseMapping.{key_of}
 use Rattle.net_view.specs.Names.{bytes_cmp}
@@ -25,8 +27,10 @@ returns-then-ours-clause-taken g c known =
     ∙ ap (fin.contains_key ps) (sym (c.deref-3.ensures.value ∙ c.in_ok-key.ensures))
     ∙ ap is_some (sym c.get.ensures) ∙ shown_some (λ p. p.now) c.get.result
     ∙ sym c.is_some-taken.ensures ∙ f in
+    let own = c.in_ok-own.ensures ∙ ap (option_map (λ t. t.now)) (c.then_some.ensures
+    ∙ ap (λ b. then_some b c.args.new) c.if-ours.true) in
     (λ i. record {
-      own = cond (sym c.if-ours.true i) (Some (c.in_ok-own.ensures.items i)) v.own;
+      own = cond (sym c.if-ours.true i) (own i) v.own;
       ready = v.ready;
       settings = v.settings;
       channels = (c.rename_all.ensures
