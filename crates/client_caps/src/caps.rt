@@ -15,7 +15,8 @@ pub struct Caps {
     pub account_notify: bool,
     /// AWAY, when a person goes away or comes back (IRCv3 away-notify).
     pub away_notify: bool,
-    /// The tag `time` on each line (IRCv3 server-time).
+    /// The tag `time` on each line of the network that is passed on, and on each message that is
+    /// played back (IRCv3 server-time).
     pub server_time: bool,
     /// Playback between BATCH lines (IRCv3 batch, of the type `chathistory`).
     pub batch: bool,

@@ -1,4 +1,4 @@
-use Rattle.std.proofs.Common.{arith, ◌∙◌, ◌+◌, length-set, set}
+use Rattle.std.proofs.Common.{rules, arith, ◌∙◌, ◌+◌, length-set, set}
 use Rattle.std.proofs.lemmas.List.{get_or-set_other}
 use Rattle.block_list.proofs.Tiles.{drawn, short_moved}
 use Rattle.block_list.proofs.moving.close_up.Goals as goal
@@ -27,3 +27,6 @@ loop-hole-preserved g c =
           c.push_back_reserved.ensures.len c.in-Some.ensures.capacity
           c.push_back_reserved.ensures.capacity;
     }
+
+pub returns-clause-tiled : goal.returns-clause-tiled
+returns-clause-tiled g c = search rules

@@ -1,4 +1,4 @@
-use Rattle.std.proofs.Common.{◌≤◌, ◌∙◌, arith}
+use Rattle.std.proofs.Common.{rules, ◌≤◌, ◌∙◌, arith}
 use Rattle.net_view.specs.Readers.{channels_shown}
 use Rattle.client_caps.proofs.ImageMade.{parts_more, parts_all}
 use Rattle.client_caps.proofs.images.part_lines.Goals as goal
@@ -15,3 +15,6 @@ returns g c =
     let past : channels_shown v ≤ c.loop-place.place =
     omega (arith, c.channel_count-place-end.ensures, c.loop-place-test.false) in
     c.loop-place.invariant ∙ parts_all v c.loop-place.place past
+
+pub loop-place-init : goal.loop-place-init
+loop-place-init g c = search rules

@@ -1,4 +1,4 @@
-use Rattle.std.proofs.Common.{sym, subst, Result, Ok, Err, OnErr}
+use Rattle.std.proofs.Common.{rules, sym, subst, Result, Ok, Err, OnErr}
 use Rattle.hub_core.specs.LostChannels.{lost_channels}
 use Rattle.hub_core.specs.Online.{is_online}
 use Rattle.hub_core.specs.Running.{IsRunning}
@@ -29,3 +29,9 @@ returns-clause-detached g c = record {
   runs = subst Runs (sym c.deref_mut.ensures.value) c.lock.ensures.running;
   detached = c.in_ok-outlet.ensures.ok;
 }
+
+pub returns-clause-token : goal.returns-clause-token
+returns-clause-token g c = search rules
+
+pub returns-clause-whole : goal.returns-clause-whole
+returns-clause-whole g c = search rules

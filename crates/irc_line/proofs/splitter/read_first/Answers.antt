@@ -1,4 +1,5 @@
-use Rattle.std.proofs.Common.{refl, sym}
+use Rattle.std.proofs.lemmas.Grind.{common_steps}
+use Rattle.std.proofs.Common.{arith, refl, sym}
 use Rattle.irc_line.proofs.Outcomes.{no_value, not_ok, on_err}
 use Rattle.irc_line.proofs.More.{same_more}
 use Rattle.irc_line.proofs.splitter.read_first.Goals as goal
@@ -44,3 +45,9 @@ returns-clause-err g c = c.read_segment-2.ensures.err
 
 pub returns-clause-grown : goal.returns-clause-grown
 returns-clause-grown g c = (_, c.in_ok-extend_from_slice.ensures.items)
+
+pub returns-then-is_empty-clause-added : goal.returns-then-is_empty-clause-added
+returns-then-is_empty-clause-added g c = grind (arith, common_steps)
+
+pub returns-then-is_empty-clause-skips : goal.returns-then-is_empty-clause-skips
+returns-then-is_empty-clause-skips g c = grind (arith, common_steps)

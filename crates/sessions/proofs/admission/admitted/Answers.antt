@@ -1,3 +1,4 @@
+use Rattle.std.proofs.Common.{rules}
 use Rattle.sessions.specs.Claims.{parts_of}
 use Rattle.sessions.proofs.Places.{admits_by}
 use Rattle.sessions.proofs.admission.admitted.Goals as goal
@@ -9,3 +10,6 @@ returns c =
     c.as_slice.ensures.value c.as_slice-2.ensures.value c.as_slice-3.ensures.value
     c.as_slice-4.ensures.value c.find.ensures
     (c.password_matches.ensures.0 c.if-not-password_matches.false)
+
+pub returns-then-not-password_matches : goal.returns-then-not-password_matches
+returns-then-not-password_matches c = search rules

@@ -1,3 +1,4 @@
+use Rattle.std.proofs.Common.{rules}
 use Rattle.upstream.proofs.Writable.{nick_is_clean, word_is_clean}
 use Rattle.upstream.proofs.sending.first_lines.Goals as goal
 
@@ -6,3 +7,6 @@ push_command-requires-in-Some c = word_is_clean c.in-Some.password.now c.in-Some
 
 pub push_command-requires-2 : goal.push_command-requires-2
 push_command-requires-2 c = nick_is_clean c.nick.result.now c.nick.ensures.clean
+
+pub returns : goal.returns
+returns = search rules

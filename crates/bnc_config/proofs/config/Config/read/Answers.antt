@@ -1,4 +1,4 @@
-use Rattle.std.proofs.Common.{inl, inr}
+use Rattle.std.proofs.Common.{rules, inl, inr}
 use Rattle.std.proofs.lemmas.Result.{err_from_is_err_and}
 use Rattle.toml.specs.View.{table_view}
 use Rattle.bnc_config.proofs.FaultLemmas.{fault_of_tree}
@@ -18,3 +18,6 @@ returns-in_err-users c =
       | inr fault ↦ fault_of_tree c.args.text.now (table_view c.in-Ok.table) _ is
           (rw (listen.0, history.0, retry.0, tables.0, ← tables.1) fault)
     ])
+
+pub returns-in_err-retry : goal.returns-in_err-retry
+returns-in_err-retry c = search rules

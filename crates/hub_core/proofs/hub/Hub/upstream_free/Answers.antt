@@ -1,4 +1,4 @@
-use Rattle.std.proofs.Common.{refl, ap}
+use Rattle.std.proofs.Common.{rules, refl, ap}
 use Rattle.std.specs.List.{filter_map}
 use Rattle.hub_core.specs.Insides.{hub_of}
 use Rattle.hub_core.specs.Running.{content_said}
@@ -20,3 +20,6 @@ returns-clause-hub g c =
     g.O.Outlet.closed g.O.Outlet.capacity g.O.Outlet.free c.self.inside) _ _ _ _
     c.free.ensures.sent c.free.ensures.closed c.free.ensures.capacity c.free.ensures.more
     c.free.ensures.alone)
+
+pub returns-clause-value : goal.returns-clause-value
+returns-clause-value g c = search rules

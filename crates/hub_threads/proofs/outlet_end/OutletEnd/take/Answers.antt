@@ -1,4 +1,4 @@
-use Rattle.std.proofs.Common.{ap, sym, ◌∙◌, append-nil, List}
+use Rattle.std.proofs.Common.{rules, ap, sym, ◌∙◌, append-nil, List}
 use Rattle.rtrb.specs.Ring.{received}
 use Rattle.hub_threads.specs.declared.queued.Queued.{Queued}
 use Rattle.hub_threads.specs.Queues.{packets_in}
@@ -38,3 +38,6 @@ returns-in-Ok-Closing-clause-taken c =
     ap (λ (l : List Queued). packets_in l) ok.0
     ∙ (packets_in_closing (received c.args.self.now.consumer) c.in-Ok-Closing.id _
     ∙ sym (append-nil _))
+
+pub returns-then-is_some-clause-next : goal.returns-then-is_some-clause-next
+returns-then-is_some-clause-next c = search rules

@@ -1,4 +1,4 @@
-use Rattle.std.proofs.Common.{◌∙◌, ap, List}
+use Rattle.std.proofs.Common.{rules, ◌∙◌, ap, List}
 use Rattle.std.proofs.lemmas.Bool.{false≢true}
 use Rattle.rtrb.specs.Ring.{sent}
 use Rattle.hub_threads.specs.declared.queued.Queued.{Queued}
@@ -22,3 +22,6 @@ returns-clause-told c h =
           ∙ closing_told (sent c.args.self.now.producer) c.args.id _)
       | in-Err w ↦ absurd (false≢true (w.in-Err.ensures.succeeds (slot_free _ _ h)))
     ]
+
+pub push-requires : goal.push-requires
+push-requires c = search rules

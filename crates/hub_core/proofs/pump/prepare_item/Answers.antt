@@ -1,0 +1,8 @@
+use Rattle.std.proofs.Common.{rules}
+use Rattle.hub_core.proofs.pump.prepare_item.Goals as goal
+
+pub returns-clause-made : goal.returns-clause-made
+returns-clause-made g c = search rules
+
+pub returns-clause-numbered : goal.returns-clause-numbered
+returns-clause-numbered g c = search rules

@@ -1,0 +1,5 @@
+use Rattle.std.proofs.Common.{rules}
+use Rattle.hub_core.proofs.said.meaning.Goals as goal
+
+pub returns-else-is_unheard : goal.returns-else-is_unheard
+returns-else-is_unheard c = search rules
