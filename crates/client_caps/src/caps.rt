@@ -1,6 +1,6 @@
 //! The capabilities that a client can hold.
 
-ghost use Rattle.std.specs.Prelude.{◌≡◌, option_map, slice_get, is_some};
+ghost use Rattle.std.specs.Prelude.{◌≡◌, option_map, slice_get};
 ghost use Rattle.client_caps.specs.Caps.{cap_names, holds, no_caps, with_cap};
 
 /// Which capabilities a client holds (IRCv3 capability negotiation). The six have places from 0 to

@@ -1,5 +1,5 @@
 -- What each session was sent, once one thing more has happened.
-use Rattle.std.proofs.Common.{◌≡◌, ◌∙◌, ◌+◌, ◌<◌, ◌==◌, ℕ, List, [], ◌∷◌, ◌++◌, refl, sym, ap}
+use Rattle.std.proofs.Common.{◌≡◌, ◌∙◌, ◌<◌, ◌==◌, ℕ, List, [], ◌∷◌, ◌++◌, refl, sym, ap}
 use Rattle.std.proofs.Common.{arith, Option, None, Bool, true, false, subst, inl, inr}
 use Rattle.std.proofs.Common.{option_to_list}
 use Rattle.std.proofs.lemmas.Bool.Decides.{nat_tests}

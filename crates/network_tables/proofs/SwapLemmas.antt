@@ -1,5 +1,5 @@
 -- A value that is taken out of a table, changed, and put back.
-use Rattle.std.specs.Prelude.{◌≡◌, Bool, true, false, cond, is_some, List}
+use Rattle.std.specs.Prelude.{◌≡◌, Bool, true, false, cond, is_some}
 use Rattle.std.specs.Option.{option_map, option_map_or, unwrap_or}
 use Rattle.std.specs.Cmp.Lexicographic.{nat_list_cmp_total}
 use Rattle.std.specs.declared.vec.Vec.{Vec}
@@ -11,7 +11,7 @@ use Rattle.net_view.specs.Changes.{told_person, renamed_in, renamed_channel}
 use Rattle.net_view.specs.Step.{is_seen, old_member}
 use Rattle.net_view.specs.View.{Channel}
 use Rattle.net_view.proofs.AfterMaps.{seen_in}
-use Rattle.network_tables.specs.Rooms.{moved_in, moved_channel}
+use Rattle.network_tables.specs.Rooms.{moved_channel}
 use Rattle.net_view.proofs.Keys.{bytes_exact, same_refl}
 use Rattle.net_view.proofs.AfterAlike.{put_again, removed_none}
 use Rattle.network_tables.specs.Table.{swapped_in, swapped_out}
@@ -202,13 +202,6 @@ renamed_some change m m1 m2 old new x y some first last is =
     last ∙ (λ i. fin.insert (first i) new (is i))
     ∙ ap (λ o. option_map_or (λ x. fin.insert (fin.remove m old) new (change x)) o (fin.remove m
     new)) some
-
--- a member's key moved, where nobody may stand under the other one
-pub moved_none : (m m1 : fin.FinMap bytes_cmp (List ℕ)) (old new : Text) → None ≡ fin.get m old → m1
-    ≡ fin.remove m old → m1 ≡ moved_in false old new m
-moved_none m m1 old new none first =
-    first ∙ removed_none m old (sym none)
-    ∙ ap (λ o. option_map_or (λ ranks. fin.insert (fin.remove m old) new ranks) o m) none
 
 not_by : (b s : Bool) → (b ≡ true → s ≡ true) → s ≡ false → b ≡ false
 not_by true s f e = sym (f refl) ∙ e

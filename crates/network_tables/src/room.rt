@@ -250,24 +250,25 @@ fn rename_member<A: Allocator>(
     }
 }
 
-/// Copies of a key, one for each of the channels in which somebody is a member.
+/// Makes copies of a key, one for each of the channels in which somebody is a member.
 fn copies_in<A: Allocator + Copy>(
     alloc: A,
     rooms: &Blocks<Slot<Room<A>, A>, A>,
     who: Sought<'_>,
     key: &[u8],
-) -> Result<Copies<A>, OutOfMemory>
-    ensures { IfOk result (λ copies. map (option_map (λ k. k.items)) copies.items
+    copies: &mut Copies<A>,
+) -> Result<(), OutOfMemory>
+    ensures { OnOk result (map (option_map (λ k. k.items)) copies.new.items
         ≡ copies_of key.now (sought_key who.entry) (map room_entry rooms.now.items)) }
 {
     let head = head(who);
-    let mut copies = VecDeque::with_capacity(alloc, rooms.len())?;
+    copies.clear();
     for place in 0..rooms.len() {
         let is_member = rooms.at(place).entry.value.members.contains_by(head, who);
         let copy = copy_of(alloc, is_member.then_some(key))?;
         copies.push_back(copy)?;
     }
-    Ok(copies)
+    Ok(())
 }
 
 /// Gives a member another key in each of the channels, by these copies of it.
@@ -310,7 +311,7 @@ fn is_member_of_any<A: Allocator>(rooms: &Blocks<Slot<Room<A>, A>, A>, who: Soug
 }
 
 impl<A: Allocator> Table<Room<A>, A> {
-    ghost use Rattle.std.specs.Prelude.{◌≡◌, IfOk, map};
+    ghost use Rattle.std.specs.Prelude.{◌≡◌, OnOk, map};
     ghost use Rattle.std.specs.Option.{option_map};
     ghost use Rattle.std.specs.FinMap as fin;
     ghost use Rattle.net_view.specs.Step.{is_seen};
@@ -327,23 +328,26 @@ impl<A: Allocator> Table<Room<A>, A> {
         unseat_each(&mut self.entries, who);
     }
 
-    /// Copies of a key, one for each of the channels in which somebody is a member.
+    /// Makes copies of a key, one for each of the channels in which somebody is a member, in this
+    /// list, whose room is used again. Where there is no memory for them, what it holds then is of no
+    /// use.
     pub fn copies_for(
         &self,
         alloc: A,
         who: Sought<'_>,
         key: &[u8],
-    ) -> Result<Copies<A>, OutOfMemory>
+        copies: &mut Copies<A>,
+    ) -> Result<(), OutOfMemory>
     where
         A: Copy,
-        ensures { IfOk result (λ copies. map (option_map (λ k. k.items)) copies.items
+        ensures { OnOk result (map (option_map (λ k. k.items)) copies.new.items
             ≡ copies_of key.now (sought_key who.entry) (fin.entries (rooms_of self.now.all))) }
     {
-        copies_in(alloc, &self.entries, who, key)
+        copies_in(alloc, &self.entries, who, key, copies)
     }
 
-    /// Gives a member another key in all channels, by the copies of it that are for them. Where the
-    /// other key may be taken, whoever stood under it is gone.
+    /// Gives a member another key in all channels, by the copies of it that are for them, which are
+    /// taken out of their list. Where the other key may be taken, whoever stood under it is gone.
     pub fn rename_all(&mut self, old: Sought<'_>, taken: bool, new: &[u8], copies: &mut Copies<A>)
         requires { map (option_map (λ k. k.items)) copies.old.items
             ≡ copies_of new.now (sought_key old) (fin.entries (rooms_of self.old.all)) }

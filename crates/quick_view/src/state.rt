@@ -6,11 +6,12 @@ use crate::moding::{change_modes, change_room};
 use irc_line::Line;
 use irc_support::{Ranks, Support};
 use network_tables::{
-    Modes, People, Rooms, Sought, Table, copy_of, copy_of_told, fresh_room, name_person,
+    Copies, Modes, People, Rooms, Sought, Table, copy_of, copy_of_told, fresh_room, name_person,
     new_member, new_person, no_room, rename_person, retain_seen, seat, set_account, set_away,
     set_modes, set_topic, unseat,
 };
 use std::alloc::Allocator;
+use std::collections::VecDeque;
 
 /// What is kept of a network.
 #[derive(Drop)]
@@ -21,6 +22,8 @@ pub(crate) struct State<A: Allocator> {
     pub(crate) support: Support<A>,
     pub(crate) rooms: Rooms<A>,
     pub(crate) people: People<A>,
+    /// Where the copies stand that a NICK makes before it changes anything.
+    pub(crate) copies: Copies<A>,
 }
 
 impl<A: Allocator + Copy> State<A> {
@@ -54,6 +57,7 @@ impl<A: Allocator + Copy> State<A> {
             support,
             rooms: Table::new(alloc),
             people: People::new(alloc),
+            copies: VecDeque::new(alloc),
         })
     }
 
@@ -255,9 +259,10 @@ impl<A: Allocator + Copy> State<A> {
         let nick = Vec::from_slice(self.alloc, new)?;
         let own = copy_of(self.alloc, ours.then_some(new))?;
         let old = Sought::Name(mapping, old);
-        let mut copies = self.rooms.copies_for(self.alloc, old, &key)?;
+        self.rooms
+            .copies_for(self.alloc, old, &key, &mut self.copies)?;
         let taken = self.people.get(Sought::Key(&key)).is_some();
-        self.rooms.rename_all(old, taken, &key, &mut copies);
+        self.rooms.rename_all(old, taken, &key, &mut self.copies);
         rename_person(&mut self.people, old, key, again, nick);
         if ours {
             self.own = own;

@@ -63,11 +63,12 @@ fn packet_of_state<V: NetworkView, A: Allocator + Clone>(
 /// The 005 lines have the network's settings, in order, at most 12 tokens and 400 bytes of them on
 /// a line, or one token; there is none without settings. From JOIN to 366 are the lines of a
 /// channel; channels, and the members in a 353, stand in the order of their keys, and a 353 has at
-/// most 400 bytes of words, or one word. 332 stands where there is a topic, and 324 where there are modes, in the order of
-/// their letters' bytes. Without multi-prefix a member has the highest of its symbols alone. With
-/// extended-join a JOIN is `:Me JOIN #c account :`, with `*` where we have no account. Last comes
-/// each person in sight whose account or away text is known, in the order of the keys: ACCOUNT
-/// stands only with account-notify, AWAY only with away-notify. The texts and limits are our own.
+/// most 400 bytes of words, or one word. 332 stands where there is a topic, and 324 where there are
+/// modes, in the order of their letters' bytes. Without multi-prefix a member has the highest of
+/// its symbols alone. With extended-join a JOIN is `:Me JOIN #c account :`, with `*` where we have
+/// no account. Last comes each person in sight whose account or away text is known, in the order of
+/// the keys: ACCOUNT stands only with account-notify, AWAY only with away-notify. The texts and
+/// limits are our own.
 ///
 /// `OutOfMemory` is told where an allocation was refused, and for no other cause.
 pub fn state_part<V: NetworkView, A: Allocator + Copy>(

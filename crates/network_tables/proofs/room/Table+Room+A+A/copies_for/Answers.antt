@@ -1,5 +1,5 @@
 use Rattle.std.proofs.Common.{sym, ap, map, subst, ◌≡◌, ◌∙◌}
-use Rattle.std.specs.Prelude.{IfOk}
+use Rattle.std.specs.Prelude.{OnOk}
 use Rattle.std.specs.Option.{option_map}
 use Rattle.std.specs.FinMap as fin
 use Rattle.network_tables.specs.Sought.{sought_key}
@@ -9,7 +9,7 @@ use Rattle.network_tables.proofs.room.Table+Room+A+A.copies_for.Goals as goal
 
 pub returns : goal.returns
 returns g c =
-    subst (λ es. IfOk c.copies_in.result (λ copies. map (option_map (λ k. k.items)) copies.items ≡
+    subst (λ es. OnOk c.copies_in.result (map (option_map (λ k. k.items)) c.copies_in.new.copies.items ≡
     copies_of c.args.key.now (sought_key c.args.who) es))
     (sym (entries_are c.self.inside.entries.items c.self.invariant)
     ∙ ap (λ t. fin.entries (rooms_of t.all)) c.self.view_is)
