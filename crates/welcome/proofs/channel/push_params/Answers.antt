@@ -1,4 +1,5 @@
 use Rattle.std.proofs.Common.{◌≡◌, None, [], ◌∷◌, ap, sym, ◌∙◌, ◌++◌, arith, map, take, append-nil}
+use Rattle.std.proofs.Common.{rules}
 use Rattle.std.specs.List.{filter_map}
 use Rattle.std.specs.Option.{option_map}
 use Rattle.std.proofs.lemmas.List.{map-append}
@@ -51,3 +52,6 @@ returns g c =
     c.loop-letter.invariant.so_far
     ∙ ap (λ ms. map (λ p. p.now) c.args.params.now.items
     ++ filter_map (λ (m : Mode). m.1) ms) (modes_all v c.args.i c.loop-letter.j none)
+
+pub returns-in_err-push : goal.returns-in_err-push
+returns-in_err-push g c = search rules

@@ -1,4 +1,5 @@
 use Rattle.std.proofs.Common.{[], ◌∷◌, ◌++◌, Some, sym, ap, ◌∙◌, map, option_map, append_assoc}
+use Rattle.std.proofs.Common.{rules}
 use Rattle.std.proofs.lemmas.List.{map-append}
 use Rattle.net_view.specs.View.{Person}
 use Rattle.welcome.specs.Lent.{person_lent}
@@ -34,3 +35,6 @@ loop-j-preserved g c =
           ap (λ t. map person_lent t.items) w.persons-is ∙ c.loop-j.invariant
           ∙ ap (λ t. before ++ t) (sym (nobody_there v i j shown.nick))
     ]
+
+pub returns-in_err-push : goal.returns-in_err-push
+returns-in_err-push g c = search rules
