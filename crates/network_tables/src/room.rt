@@ -346,8 +346,8 @@ impl<A: Allocator> Table<Room<A>, A> {
         copies_in(alloc, &self.entries, who, key, copies)
     }
 
-    /// Gives a member another key in all channels, by the copies of it that are for them, which are
-    /// taken out of their list. Where the other key may be taken, whoever stood under it is gone.
+    /// Gives a member another key in all channels, by the copies of it that are for them. Where the
+    /// other key may be taken, whoever stood under it is gone.
     pub fn rename_all(&mut self, old: Sought<'_>, taken: bool, new: &[u8], copies: &mut Copies<A>)
         requires { map (option_map (λ k. k.items)) copies.old.items
             ≡ copies_of new.now (sought_key old) (fin.entries (rooms_of self.old.all)) }
