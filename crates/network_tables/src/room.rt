@@ -329,8 +329,7 @@ impl<A: Allocator> Table<Room<A>, A> {
     }
 
     /// Makes copies of a key, one for each of the channels in which somebody is a member, in this
-    /// list, whose room is used again. Where there is no memory for them, what it holds then is of no
-    /// use.
+    /// list, whose room is used again. At `OutOfMemory` nothing is said of what it holds.
     pub fn copies_for(
         &self,
         alloc: A,
