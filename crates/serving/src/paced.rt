@@ -2,6 +2,7 @@
 
 use hub_ends::Outlet;
 use hub_threads::Network;
+use net_view::NetworkView;
 use quick_view::QuickView;
 use std::io::Read;
 use std::rt::Clock;
@@ -28,6 +29,20 @@ pub struct Paced<'a, I: Read + Drop, R: Wait + Clock> {
     count: usize,
 }
 
+/// Whether what goes to a network has less than half of its room, or a session of the network is
+/// nearly full. While the network is lost no line goes there, so its room does not count.
+fn is_crowded<V: NetworkView + Drop, R: Wait>(rt: &R, network: &Network<V>) -> bool {
+    let mut hub = network.lock(rt);
+    let half = hub.upstream_outlet().capacity() / 2;
+    if hub.is_online() && hub.upstream_free() < half {
+        return true;
+    }
+    match hub.nearly_full() {
+        Ok(sessions) => !sessions.is_empty(),
+        Err(_) => false,
+    }
+}
+
 impl<'a, I: Read + Drop, R: Wait + Clock> Paced<'a, I, R> {
     /// A reader of what a client of this network says.
     pub fn new(rt: &'a R, input: I, network: &'a Network<QuickView>) -> Paced<'a, I, R> {
@@ -39,26 +54,12 @@ impl<'a, I: Read + Drop, R: Wait + Clock> Paced<'a, I, R> {
         }
     }
 
-    /// Whether what goes to the network has less than half of its room, or a session of the network
-    /// is nearly full. While the network is lost no line goes there, so its room does not count.
-    fn is_crowded(&self) -> bool {
-        let mut hub = self.network.lock(self.rt);
-        let half = hub.upstream_outlet().capacity() / 2;
-        if hub.is_online() && hub.upstream_free() < half {
-            return true;
-        }
-        match hub.nearly_full() {
-            Ok(sessions) => !sessions.is_empty(),
-            Err(_) => false,
-        }
-    }
-
     /// Waits a millisecond, and on until there is room in what goes to the network and to each
     /// session, but at most 50 ms.
     fn wait(&self) {
         for _ in 0..PATIENCE {
             thread::sleep(self.rt, Duration::from_millis(1));
-            if !self.is_crowded() {
+            if !is_crowded(self.rt, self.network) {
                 return;
             }
         }

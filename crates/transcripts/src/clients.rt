@@ -1,6 +1,7 @@
 //! What clients ask for and are sent.
 
-use crate::views::{Rows, check_after, line};
+use crate::lines::line;
+use crate::views::{Rows, check_after};
 use client_caps::{Caps, Moment, image, part_lines, read_request};
 use irc_line::Line;
 use net_view::NetworkView;

@@ -99,14 +99,14 @@ fn check_places<R: AllocGlobal + Abort>(
     Ok(())
 }
 
-/// The same for four sets of capabilities, from one on.
+/// The same for eight sets of capabilities, from one on.
 fn check_sets<R: AllocGlobal + Abort>(
     rt: &R,
     session: &[&[u8]],
     first: usize,
     from: u64,
 ) -> Result<(), Fail> {
-    for place in 0..4 {
+    for place in 0..8 {
         let caps = caps_of(rt.alloc(), from.saturating_add(place))?;
         check_places(rt, session, first, caps)?;
     }

@@ -1,5 +1,7 @@
-//! Tests alone: tables of transcripts as servers send them, with what both views show of them, and
-//! what clients that attach are sent.
+//! Tests alone: tables of lines, names, network settings and settings files as they come, with what
+//! is expected of each; of transcripts as servers send them, with what both views show of them, and
+//! what clients that attach are sent; of messages that are kept; of what the program prints of its
+//! inputs, and the words of its command line.
 #![tactic(auto)]
 
 #[cfg(test)]
@@ -7,17 +9,29 @@ mod arrivals;
 #[cfg(test)]
 mod clients;
 #[cfg(test)]
+mod kept_messages;
+#[cfg(test)]
 mod late_attach;
+#[cfg(test)]
+mod lines;
 #[cfg(test)]
 mod long_rows;
 #[cfg(test)]
 mod moments;
+#[cfg(test)]
+mod names;
 #[cfg(test)]
 mod playback;
 #[cfg(test)]
 mod quick;
 #[cfg(test)]
 mod read_back;
+#[cfg(test)]
+mod reports;
+#[cfg(test)]
+mod settings;
+#[cfg(test)]
+mod settings_file;
 #[cfg(test)]
 mod views;
 #[cfg(test)]

@@ -1,7 +1,8 @@
 //! The messages that a client missed, as it is sent them.
 
 use crate::clients::asked;
-use crate::views::{Rows, check_after, line};
+use crate::lines::line;
+use crate::views::{Rows, check_after};
 use client_caps::{Caps, Moment, time_text};
 use history::{Entry, History};
 use net_view::NetworkView;

@@ -2,7 +2,8 @@
 //! shows.
 
 use crate::clients::asked;
-use crate::views::{item, line, quick_of, show_the_same, shown, tape_of};
+use crate::lines::line;
+use crate::views::{item, quick_of, show_the_same, shown, tape_of};
 use crate::whole_sessions::{INSPIRCD, NGIRCD};
 use client_caps::{Caps, Moment, image};
 use irc_line::Line;

@@ -4,20 +4,14 @@ mod channels;
 mod people;
 mod readers;
 
-use irc_line::Line;
+use crate::lines::line;
 use irc_support::Ranks;
 use net_view::{Item, NetworkView};
 use quick_view::QuickView;
-use std::alloc::Global;
+use std::alloc::{AllocError, Global};
 use std::process::Abort;
 use std::test::Fail;
 use tape_view::TapeView;
-
-/// The line of this text.
-pub(crate) fn line(alloc: Global, text: &[u8]) -> Result<Line, Fail> {
-    let line = Line::<Global>::read(alloc, text)?;
-    Ok(line.ok_or("the text is a line")?)
-}
 
 /// The item that this text stands for: a line, or a loss.
 pub(crate) fn item(alloc: Global, text: &[u8]) -> Result<Item, Fail> {
@@ -49,26 +43,35 @@ pub(crate) fn quick_of(alloc: Global, texts: &[&[u8]]) -> Result<QuickView, Fail
     Ok(view)
 }
 
+/// A mode with its parameter, behind a space where it is not the first.
+fn show_mode(
+    place: usize,
+    (letter, param): (u8, Option<&[u8]>),
+    text: &mut Vec<u8>,
+) -> Result<(), AllocError> {
+    if place > 0 {
+        text.push(b' ')?;
+    }
+    text.push(letter)?;
+    text.extend_from_slice(param.unwrap_or(b""))?;
+    Ok(())
+}
+
 /// The modes of a channel in braces, in order, each with its parameter.
 pub(crate) fn show_modes<V: NetworkView>(
     view: &V,
     channel: usize,
     text: &mut Vec<u8>,
-) -> Result<(), Fail> {
+) -> Result<(), AllocError> {
     if view.mode_at(channel, 0).is_none() {
         return Ok(());
     }
-    text.push(b' ')?;
-    text.push(b'{')?;
+    text.extend_from_slice(b" {")?;
     for place in 0..256 {
-        let Some((letter, param)) = view.mode_at(channel, place) else {
+        let Some(mode) = view.mode_at(channel, place) else {
             break;
         };
-        if place > 0 {
-            text.push(b' ')?;
-        }
-        text.push(letter)?;
-        text.extend_from_slice(param.unwrap_or(b""))?;
+        show_mode(place, mode, text)?;
     }
     text.push(b'}')?;
     Ok(())
@@ -90,7 +93,11 @@ pub(crate) fn show_ranks<V: NetworkView>(
 }
 
 /// A text behind a mark, where there is one.
-pub(crate) fn show_fact(mark: u8, fact: Option<&[u8]>, text: &mut Vec<u8>) -> Result<(), Fail> {
+pub(crate) fn show_fact(
+    mark: u8,
+    fact: Option<&[u8]>,
+    text: &mut Vec<u8>,
+) -> Result<(), AllocError> {
     if let Some(fact) = fact {
         text.push(mark)?;
         text.extend_from_slice(fact)?;

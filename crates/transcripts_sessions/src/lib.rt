@@ -1,14 +1,50 @@
 //! Tests alone: handshakes with clients and networks, scripts of events over a hub, and clients
-//! over streams in memory.
+//! over streams in memory; hubs between threads, with readers and writers that fail and workers that
+//! are held; and the bouncer over the loopback range, with a small network and clients of the tests'
+//! own. Each of these ends by itself: every wait has a limit, and all that is served is counted.
 #![tactic(auto)]
 
 #[cfg(test)]
+mod bouncer;
+#[cfg(test)]
+mod coming_back;
+#[cfg(test)]
+mod connections;
+#[cfg(test)]
 mod dialling;
+#[cfg(test)]
+mod ending;
+#[cfg(test)]
+mod gates;
+#[cfg(test)]
+mod held;
 #[cfg(test)]
 mod hub_rows;
 #[cfg(test)]
+mod log_lines;
+#[cfg(test)]
 mod login;
+#[cfg(test)]
+mod pasting;
+#[cfg(test)]
+mod peer;
+#[cfg(test)]
+mod pumping;
+#[cfg(test)]
+mod reading;
+#[cfg(test)]
+mod refusing;
 #[cfg(test)]
 mod registration;
 #[cfg(test)]
+mod rings;
+#[cfg(test)]
+mod scenes;
+#[cfg(test)]
 mod served;
+#[cfg(test)]
+mod session;
+#[cfg(test)]
+mod stage;
+#[cfg(test)]
+mod streams;

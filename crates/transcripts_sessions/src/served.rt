@@ -1,21 +1,16 @@
 //! Clients over streams in memory, from the login to the end of the session.
 
+use crate::gates::Still;
+use crate::stage::{Stage, stage_after};
 use bnc_config::{Config, Place};
-use client_caps::Moment;
-use hub_core::{Hub, Setup};
-use hub_threads::{
-    Clock, FreeGate, InletEnd, Network, OutletEnd, SharedBell, inlet, outlet, pump_loop,
-    shared_bell,
-};
-use irc_line::Line;
-use net_view::Item;
+use hub_threads::{FreeGate, Network, OutletEnd};
 use quick_view::QuickView;
 use sessions::{Served, serve_session};
 use std::alloc::Global;
 use std::io;
 use std::io::{ErrorKind, Write};
 use std::process::Abort;
-use std::sync::{Arc, Wait};
+use std::sync::Wait;
 use std::test::Fail;
 use std::thread::Threads;
 
@@ -32,22 +27,22 @@ const SETTINGS: &str = "listen = \"h:1\"\n[[user]]\nname = \"bob\"\nsalt = \"\"\
     realname = \"Ann A\"\n";
 
 /// What the network sent.
-const HEARD: [&str; 8] = [
-    ":s 001 Me :hi",
-    ":s 005 Me PREFIX=(ov)@+ CHANTYPES=# :are supported",
-    ":s 376 Me :end",
-    ":Me!m@h JOIN #c",
-    ":s 332 Me #c :Hello all",
-    ":s 324 Me #c +kl key 9",
-    ":s 353 Me = #c :Me @+bob +eve",
-    ":s 366 Me #c :End",
+pub(crate) const HEARD: [&[u8]; 8] = [
+    b":s 001 Me :hi",
+    b":s 005 Me PREFIX=(ov)@+ CHANTYPES=# :are supported",
+    b":s 376 Me :end",
+    b":Me!m@h JOIN #c",
+    b":s 332 Me #c :Hello all",
+    b":s 324 Me #c +kl key 9",
+    b":s 353 Me = #c :Me @+bob +eve",
+    b":s 366 Me #c :End",
 ];
 
 /// The login of ann from her computer.
-const LOGIN: &str = "PASS ann@pc/net:bc\r\nNICK x\r\nUSER x 0 * :A\r\n";
+pub(crate) const LOGIN: &str = "PASS ann@pc/net:bc\r\nNICK x\r\nUSER x 0 * :A\r\n";
 
 /// What she is sent first.
-const BURST: &str = ":bnc 001 Me :Welcome to the bouncer\r\n\
+pub(crate) const BURST: &str = ":bnc 001 Me :Welcome to the bouncer\r\n\
     :bnc 002 Me :Your host is bnc, running version 1\r\n\
     :bnc 003 Me :This server was created for you\r\n\
     :bnc 004 Me bnc 1 i biklmnopstv\r\n\
@@ -56,47 +51,18 @@ const BURST: &str = ":bnc 001 Me :Welcome to the bouncer\r\n\
     :bnc 324 Me #c +kl key 9\r\n:bnc 353 Me = #c :@bob +eve Me\r\n\
     :bnc 366 Me #c :End of NAMES list\r\n";
 
-/// A clock that stands still.
-struct Still;
-
-impl Clock for Still {
-    fn now(&self) -> Moment {
-        Moment(0)
-    }
-}
-
-/// Puts lines.
-fn put_lines(alloc: Global, end: &mut InletEnd, texts: &[&str]) -> Result<(), Fail> {
-    for text in texts {
-        let line = Line::<Global>::read(alloc, text.as_bytes())?.ok_or("the text is a line")?;
-        if end.put(Item::Line(line), Moment(0)).is_err() {
-            return Err("the ring is full".into());
-        }
-    }
-    Ok(())
-}
-
 /// A hub behind a lock that heard this, and the end to read what is sent to its network.
 fn network_of<R: Wait>(
     rt: &R,
     alloc: Global,
-    heard: &[&str],
+    heard: &[&[u8]],
 ) -> Result<(Network<QuickView>, OutletEnd), Fail> {
-    let bell: SharedBell = shared_bell(alloc)?;
-    let (mut end, ring) = inlet(alloc, 16, Arc::try_clone(&bell)?)?;
-    let (upstream, sent) = outlet(alloc, 8, Arc::try_clone(&bell)?)?;
-    put_lines(alloc, &mut end, heard)?;
-    let setup = Setup {
-        history: 500,
-        first_number: 1,
-        first_session: 0,
-    };
-    let hub = Hub::start(alloc, QuickView::new(alloc)?, ring, upstream, setup).map_err(
-        |_| "no hub",
-    )?;
-    let network = Network::new(hub, bell);
-    pump_loop(rt, alloc, &network, &FreeGate, &Still, 10);
-    Ok((network, sent))
+    let Stage {
+        network,
+        upward,
+        ..
+    } = stage_after(rt, alloc, 1, heard)?;
+    Ok((network, upward))
 }
 
 /// What came of a client, in words, and what it was sent in its session.
@@ -148,7 +114,7 @@ fn push_sent(end: &mut OutletEnd, text: &mut Vec<u8>) -> Result<(), Fail> {
 fn serves<R: Threads + Wait + Send + Copy + 'static>(
     rt: R,
     alloc: Global,
-    heard: &[&str],
+    heard: &[&[u8]],
     said: &[u8],
 ) -> Result<Vec<u8>, Fail> {
     let config = Config::read(alloc, SETTINGS.as_bytes())?;
@@ -165,7 +131,7 @@ fn serves<R: Threads + Wait + Send + Copy + 'static>(
 fn is_served<R: Threads + Wait + Abort + Send + Copy + 'static>(
     rt: R,
     alloc: Global,
-    heard: &[&str],
+    heard: &[&[u8]],
     said: (&str, &str),
     want: (&str, &str, &str),
 ) -> Result<(), Fail> {
@@ -226,7 +192,7 @@ fn a_network_that_is_not_ready(rt: HostRuntime) -> Result<(), Fail> {
     is_served(
         rt,
         rt.alloc(),
-        &[":s 001 Me :hi"],
+        &[b":s 001 Me :hi"],
         (LOGIN, "PRIVMSG #c :hi\r\n"),
         refused,
     )

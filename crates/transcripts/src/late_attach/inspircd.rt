@@ -5,81 +5,41 @@ use crate::whole_sessions::INSPIRCD;
 use std::test::Fail;
 
 #[test]
-fn from_set_0(rt: HostRuntime) -> Result<(), Fail> {
+fn sets_0_to_7(rt: HostRuntime) -> Result<(), Fail> {
     check_sets(&rt, &INSPIRCD, 9, 0)
 }
 
 #[test]
-fn from_set_4(rt: HostRuntime) -> Result<(), Fail> {
-    check_sets(&rt, &INSPIRCD, 9, 4)
-}
-
-#[test]
-fn from_set_8(rt: HostRuntime) -> Result<(), Fail> {
+fn sets_8_to_15(rt: HostRuntime) -> Result<(), Fail> {
     check_sets(&rt, &INSPIRCD, 9, 8)
 }
 
 #[test]
-fn from_set_12(rt: HostRuntime) -> Result<(), Fail> {
-    check_sets(&rt, &INSPIRCD, 9, 12)
-}
-
-#[test]
-fn from_set_16(rt: HostRuntime) -> Result<(), Fail> {
+fn sets_16_to_23(rt: HostRuntime) -> Result<(), Fail> {
     check_sets(&rt, &INSPIRCD, 9, 16)
 }
 
 #[test]
-fn from_set_20(rt: HostRuntime) -> Result<(), Fail> {
-    check_sets(&rt, &INSPIRCD, 9, 20)
-}
-
-#[test]
-fn from_set_24(rt: HostRuntime) -> Result<(), Fail> {
+fn sets_24_to_31(rt: HostRuntime) -> Result<(), Fail> {
     check_sets(&rt, &INSPIRCD, 9, 24)
 }
 
 #[test]
-fn from_set_28(rt: HostRuntime) -> Result<(), Fail> {
-    check_sets(&rt, &INSPIRCD, 9, 28)
-}
-
-#[test]
-fn from_set_32(rt: HostRuntime) -> Result<(), Fail> {
+fn sets_32_to_39(rt: HostRuntime) -> Result<(), Fail> {
     check_sets(&rt, &INSPIRCD, 9, 32)
 }
 
 #[test]
-fn from_set_36(rt: HostRuntime) -> Result<(), Fail> {
-    check_sets(&rt, &INSPIRCD, 9, 36)
-}
-
-#[test]
-fn from_set_40(rt: HostRuntime) -> Result<(), Fail> {
+fn sets_40_to_47(rt: HostRuntime) -> Result<(), Fail> {
     check_sets(&rt, &INSPIRCD, 9, 40)
 }
 
 #[test]
-fn from_set_44(rt: HostRuntime) -> Result<(), Fail> {
-    check_sets(&rt, &INSPIRCD, 9, 44)
-}
-
-#[test]
-fn from_set_48(rt: HostRuntime) -> Result<(), Fail> {
+fn sets_48_to_55(rt: HostRuntime) -> Result<(), Fail> {
     check_sets(&rt, &INSPIRCD, 9, 48)
 }
 
 #[test]
-fn from_set_52(rt: HostRuntime) -> Result<(), Fail> {
-    check_sets(&rt, &INSPIRCD, 9, 52)
-}
-
-#[test]
-fn from_set_56(rt: HostRuntime) -> Result<(), Fail> {
+fn sets_56_to_63(rt: HostRuntime) -> Result<(), Fail> {
     check_sets(&rt, &INSPIRCD, 9, 56)
-}
-
-#[test]
-fn from_set_60(rt: HostRuntime) -> Result<(), Fail> {
-    check_sets(&rt, &INSPIRCD, 9, 60)
 }

@@ -1,38 +1,48 @@
 //! The side of the network: the transcript, looked back through.
 
 use super::{Client, show_member};
-use crate::views::{line, quick_of, show_channel};
+use crate::lines::line;
+use crate::views::{quick_of, show_channel};
 use irc_line::Line;
-use irc_support::{Ranks, Support, changes, names};
+use irc_support::{Change, Ranks, Support, changes, names};
 use net_view::{Member, NetworkView};
 use quick_view::QuickView;
 use std::alloc::Global;
 use std::test::Fail;
 
+/// Whether a line has this command, and this channel at a place.
+fn is_of(support: &Support, line: &Line, command: &[u8], (place, channel): (usize, &[u8])) -> bool {
+    line.is(command)
+        && support
+            .mapping()
+            .same(line.param(place).unwrap_or(b""), channel)
+}
+
+/// Whether a change gives a person a rank.
+fn is_gift(support: &Support, change: Change<'_>, nick: &[u8], rank: u8) -> bool {
+    change.plus
+        && support.rank_of_letter(change.letter) == Some(rank)
+        && support.mapping().same(change.param.unwrap_or(b""), nick)
+}
+
 /// Whether a line is a MODE that gives a person a rank.
 fn gives(support: &Support, line: &Line, channel: &[u8], nick: &[u8], rank: u8) -> bool {
-    let mapping = support.mapping();
-    if !line.is(b"MODE") || !mapping.same(line.param(0).unwrap_or(b""), channel) {
-        return false;
-    }
     let mut is_given = false;
-    for change in changes(support, line) {
-        let is_of_both = support.rank_of_letter(change.letter) == Some(rank)
-            && mapping.same(change.param.unwrap_or(b""), nick);
-        is_given = is_given || (change.plus && is_of_both);
+    if is_of(support, line, b"MODE", (0, channel)) {
+        for change in changes(support, line) {
+            is_given = is_given || is_gift(support, change, nick, rank);
+        }
     }
     is_given
 }
 
 /// Whether a line is a name list with a person.
 fn lists(support: &Support, line: &Line, channel: &[u8], nick: &[u8]) -> bool {
-    let mapping = support.mapping();
-    if !line.is(b"353") || !mapping.same(line.param(2).unwrap_or(b""), channel) {
-        return false;
-    }
     let mut is_listed = false;
-    for (_, name) in names(support, line) {
-        is_listed = is_listed || mapping.same(name, nick);
+    if is_of(support, line, b"353", (2, channel)) {
+        for (_, name) in names(support, line) {
+            is_listed = is_listed || support.mapping().same(name, nick);
+        }
     }
     is_listed
 }

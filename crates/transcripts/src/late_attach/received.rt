@@ -11,13 +11,14 @@ use hub_ends::MemoryOutlet;
 use hub_runs::{Event, Run, run};
 use net_view::{Item, NetworkView};
 use quick_view::QuickView;
-use std::alloc::Global;
+use std::alloc::{AllocError, Global};
 use std::test::Fail;
 use welcome::Packet;
 
 /// A line of the network, as its bytes come.
-fn up(alloc: Global, text: &[u8]) -> Result<Event, Fail> {
-    let bytes = [text, b"\r\n"].concat(alloc)?;
+fn up(alloc: Global, text: &[u8]) -> Result<Event, AllocError> {
+    let mut bytes = Vec::from_slice(alloc, text)?;
+    bytes.extend_from_slice(b"\r\n")?;
     Ok(Event::Up(bytes, Moment(0)))
 }
 

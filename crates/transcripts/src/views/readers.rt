@@ -1,6 +1,7 @@
 //! What the readers of both views answer, and those of one line.
 
-use crate::views::{Rows, check_after, item, line};
+use crate::lines::line;
+use crate::views::{Rows, check_after, item};
 use irc_line::Line;
 use net_view::{NetworkView, StateCommand, Telling, is_state_line, is_word, told};
 use quick_view::QuickView;

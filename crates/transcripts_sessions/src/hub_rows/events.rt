@@ -4,7 +4,7 @@ use client_caps::{Caps, Moment, read_request};
 use hub_runs::Event;
 use irc_line::Line;
 use irc_support::cut;
-use std::alloc::Global;
+use std::alloc::{AllocError, Global};
 use std::test::Fail;
 
 /// The number that digits say.
@@ -19,8 +19,10 @@ fn number(text: &[u8]) -> Result<u64, Fail> {
 }
 
 /// A text, with an LF behind it or not.
-fn bytes(alloc: Global, text: &[u8], end: &[u8]) -> Result<Vec<u8>, Fail> {
-    Ok([text, end].concat(alloc)?)
+fn bytes(alloc: Global, text: &[u8], end: &[u8]) -> Result<Vec<u8>, AllocError> {
+    let mut bytes = Vec::from_slice(alloc, text)?;
+    bytes.extend_from_slice(end)?;
+    Ok(bytes)
 }
 
 /// The capabilities of these names with commas; `-` is none.

@@ -1,11 +1,10 @@
 //! A session served over a socket, from the login to QUIT.
 
 use crate::peer::{Peer, same};
+use crate::served::{BURST, HEARD, LOGIN};
+use crate::stage::put;
 use bnc_config::{Config, Place};
-use client_caps::Moment;
-use hub_threads::{FreeGate, InletEnd, Network, OutletEnd, PumpEnd, pump_loop};
-use irc_line::Line;
-use net_view::Item;
+use hub_threads::{FreeGate, Network, OutletEnd, PumpEnd, pump_loop};
 use quick_view::QuickView;
 use serving::{Link, SystemClock, network_with_link};
 use sessions::{Served, serve_session};
@@ -16,47 +15,11 @@ use std::sync::Wait;
 use std::test::Fail;
 use std::thread::Threads;
 
-/// A network's lines: a channel with a topic, modes and members.
-const LINES: [&str; 8] = [
-    ":s 001 Me :hi",
-    ":s 005 Me PREFIX=(ov)@+ CHANTYPES=# :are supported",
-    ":s 376 Me :end",
-    ":Me!m@h JOIN #c",
-    ":s 332 Me #c :Hello all",
-    ":s 324 Me #c +kl key 9",
-    ":s 353 Me = #c :Me @+bob +eve",
-    ":s 366 Me #c :End",
-];
-
-/// What a client is sent that comes then.
-const BURST: &str = ":bnc 001 Me :Welcome to the bouncer\r\n\
-    :bnc 002 Me :Your host is bnc, running version 1\r\n\
-    :bnc 003 Me :This server was created for you\r\n\
-    :bnc 004 Me bnc 1 i biklmnopstv\r\n\
-    :bnc 005 Me PREFIX=(ov)@+ CHANTYPES=# :are supported by this server\r\n\
-    :bnc 422 Me :MOTD File is missing\r\n\
-    :Me JOIN #c\r\n\
-    :bnc 332 Me #c :Hello all\r\n\
-    :bnc 324 Me #c +kl key 9\r\n\
-    :bnc 353 Me = #c :@bob +eve Me\r\n\
-    :bnc 366 Me #c :End of NAMES list\r\n";
-
 /// The settings: the user ann, whose password is bc, and the network net.
 const SETTINGS: &str = "listen = \"h:1\"\n[[user]]\nname = \"ann\"\nsalt = \"61\"\n\
     password = \"ba7816bf8f01cfea414140de5dae2223b00361a396177a9cb410ff61f20015ad\"\n\
     [[user.network]]\nname = \"net\"\naddress = \"h:2\"\nnick = \"ann\"\nuser = \"ann\"\n\
     realname = \"Ann A\"\n";
-
-/// Puts the lines.
-fn put_lines(alloc: Global, end: &mut InletEnd) -> Result<(), Fail> {
-    for text in LINES {
-        let line = Line::<Global>::read(alloc, text.as_bytes())?.ok_or("the text is a line")?;
-        if end.put(Item::Line(line), Moment(0)).is_err() {
-            return Err("the ring is full".into());
-        }
-    }
-    Ok(())
-}
 
 /// Has the network take what was put.
 fn take_all<R: Wait + Clock>(
@@ -86,7 +49,7 @@ fn network_of_lines<R: Wait + Clock>(
     alloc: Global,
 ) -> Result<(Network<QuickView>, Link), Fail> {
     let (network, mut link) = network_with_link(alloc, 500, 16)?;
-    put_lines(alloc, &mut link.inlet)?;
+    put(alloc, &mut link.inlet, &HEARD)?;
     take_all(rt, alloc, &network)?;
     Ok((network, link))
 }
@@ -136,7 +99,7 @@ fn say_and_quit<
     networks: &[(Place, Network<QuickView>)],
 ) -> Result<(), Fail> {
     let (mut client, stream) = connected(&rt)?;
-    client.say("PASS ann@pc/net:bc\r\nNICK x\r\nUSER x 0 * :A\r\n")?;
+    client.say(LOGIN)?;
     client.say("PRIVMSG #c :hi all\r\nQUIT\r\n")?;
     serve(rt, alloc, stream, config, networks)?;
     client.ends_with(alloc, BURST)

@@ -1,7 +1,7 @@
 //! Reports of whole sessions, written in the words of two servers. The reports were read off the
 //! transcripts.
 
-use commands::run_view;
+use crate::reports::viewed::{Row, check_reports};
 use std::test::Fail;
 
 /// As an ngIRCd server says it: names by `ascii`, one symbol in a name list, and no capabilities.
@@ -151,13 +151,12 @@ member @IvyG account ivy
 member %+Uma account una
 ";
 
+static SESSIONS_AND_THEIR_REPORTS: [Row; 2] = [
+    (&[NGIRCD], &[NGIRCD_REPORT]),
+    (&[INSPIRCD], &[INSPIRCD_REPORT]),
+];
+
 #[test]
 fn sessions_and_their_reports(rt: HostRuntime) -> Result<(), Fail> {
-    let alloc = rt.alloc();
-    for (session, want) in [(NGIRCD, NGIRCD_REPORT), (INSPIRCD, INSPIRCD_REPORT)] {
-        let mut out = Vec::new(alloc);
-        run_view(alloc, &mut session.as_bytes(), &mut out)?;
-        assert!(rt; out.as_slice() == want.as_bytes());
-    }
-    Ok(())
+    check_reports(&rt, &SESSIONS_AND_THEIR_REPORTS)
 }

@@ -119,18 +119,24 @@ const MESSAGES: [&[u8]; 3] = [
     b":bob!b@h PRIVMSG #c m3",
 ];
 
-/// How many sessions are cut at each of the messages.
-fn cut_at_each<V: NetworkView + Drop, R: Wait>(
+/// The messages, and how many sessions are cut at each.
+const CUT_AT_EACH: [(&[u8], usize); 3] = [
+    (b":bob!b@h PRIVMSG #c m1", 0),
+    (b":bob!b@h PRIVMSG #c m2", 0),
+    (b":bob!b@h PRIVMSG #c m3", 1),
+];
+
+/// At each message so many sessions are cut.
+fn are_cut_at_each<V: NetworkView + Drop, R: AllocGlobal + Wait + Abort>(
     rt: &R,
-    alloc: Global,
     stage: &mut Stage<V>,
-) -> Result<[usize; 3], Fail> {
-    let [first, second, third] = MESSAGES;
-    Ok([
-        put_and_take(rt, alloc, stage, &[first])?.1,
-        put_and_take(rt, alloc, stage, &[second])?.1,
-        put_and_take(rt, alloc, stage, &[third])?.1,
-    ])
+    rows: &[(&[u8], usize)],
+) -> Result<(), Fail> {
+    for (text, count) in rows {
+        let (_, cut) = put_and_take(rt, rt.alloc(), stage, &[*text])?;
+        assert!(rt; cut == *count);
+    }
+    Ok(())
 }
 
 /// Whether a session is not there any more.
@@ -187,7 +193,7 @@ fn only_this_is_cut<V: NetworkView + Drop, R: AllocGlobal + Wait + Abort>(
     id: SessionId,
 ) -> Result<(), Fail> {
     let (_, mut other) = attach(rt, rt.alloc(), &stage.network, b"", 8)?;
-    assert!(rt; cut_at_each(rt, rt.alloc(), stage)? == [0, 0, 1]);
+    are_cut_at_each(rt, stage, &CUT_AT_EACH)?;
     assert!(rt; is_gone(rt, rt.alloc(), &stage.network, id)?);
     assert!(rt; is_sent(rt.alloc(), &mut other, &[BURST, THREE])?);
     Ok(())
