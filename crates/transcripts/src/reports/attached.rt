@@ -39,7 +39,7 @@ const GREETING: &str = ":bnc 001 Me :Welcome to the bouncer
 const SETTINGS: &str = ":bnc 005 Me PREFIX=(ov)@+ CHANTYPES=# :are supported by this server\n\
         :bnc 422 Me :MOTD File is missing\n";
 
-/// What comes without channels and messages.
+/// What is written of a channel of which our own JOIN alone came.
 const CHANNEL: &str = ":Me JOIN #c\n:bnc 353 Me = #c Me\n:bnc 366 Me #c :End of NAMES list\n";
 
 const ALL: &str = "multi-prefix extended-join account-notify away-notify server-time batch";
