@@ -1,52 +1,59 @@
 -- Worked transcripts as text.
-use Rattle.std.specs.Prelude.{ℕ, List, [], ◌∷◌, ◌++◌, map, reverse, filter, if◌then◌else◌}
-use Rattle.std.proofs.Common.{Option, Some, None, codes}
+use Rattle.std.specs.Prelude.{ℕ, List, [], ◌∷◌, ◌++◌, map, reverse, if◌then◌else◌}
+use Rattle.std.proofs.Common.{Option, Some, None, codes, filter}
+use Prim.Native.String.{String}
 use Rattle.irc_line.specs.Reading.{parts_of}
-use Rattle.irc_support.specs.Text.{Text}
-use Rattle.irc_support.specs.Ranks.{ranks_that}
+use Rattle.irc_support.specs.Text.{Text, is_word}
+use Rattle.irc_support.specs.Tokens.{set_tokens}
+use Rattle.irc_support.specs.Ranking.{spelled_by, ranking_of}
+use Rattle.irc_support.specs.Ranks.{rank_count, ranks_that}
+use Rattle.irc_support.specs.ChanModes.{kind_of}
+use Rattle.irc_support.specs.Settings.{mapping_of, is_channel}
+use Rattle.irc_support.specs.ModeChanges.{changes}
+use Rattle.irc_support.specs.NamesReply.{words}
 use Rattle.net_view.specs.Arrival.{Arrival, Received}
+use Rattle.net_view.specs.StateLines.{state_lines, told}
 use Rattle.net_view.specs.Transcript.{Reading, readings_of}
 use Rattle.net_view.specs.Members.{is_member, rank_decided}
 use Rattle.net_view.specs.Facts.{spelling_of, account_of, away_of}
 
--- a transcript, the oldest line first
-abbrev pub heard : List Text → List Arrival
-heard lines = reverse (map (λ line. Received (parts_of line)) lines)
+-- what it takes to compute what transcripts mean
+unfoldable pub reading : Unit {0}
+unfolding told state_lines ranks_that rank_count words ranking_of spelled_by mapping_of is_channel
+    is_word set_tokens changes kind_of
+reading = tt
 
-abbrev pub read : List Text → List Reading
+-- a transcript, the oldest line first
+abbrev pub heard : List String → List Arrival
+heard lines = reverse (map (λ line. Received (parts_of (codes line))) lines)
+
+abbrev pub read : List String → List Reading
 read lines = readings_of (heard lines)
 
--- the readings of what came after the first lines alone
-abbrev pub newest : {A : Type 0} → List Text → List A → List A
-newest [] items = []
-newest (line ∷ lines) [] = []
-newest (line ∷ lines) (x ∷ items) = x ∷ newest lines items
-
-abbrev pub read_after : List Text → List Text → List Reading
-read_after before lines = newest lines (read (before ++ lines))
-
--- the ranks, spelling, account and away text of a member
-abbrev pub member : List Reading → Text → Text
+-- the ranks, spelling, account and away text of a member of a channel
+abbrev pub member : String → String → List String
     → Option (List ℕ × Option Text × Option Text × Option Text)
-member rs c n =
+member channel key lines =
+    let rs : List Reading = read lines in
+    let c : Text = codes channel in let n : Text = codes key in
     if is_member rs c n then Some
     (ranks_that (rank_decided rs c n), spelling_of rs n, account_of rs n, away_of rs n) else None
 
--- whom of these a channel has
-abbrev pub members : List Reading → Text → List Text → List Text
-members rs c people = filter (is_member rs c) people
+-- whom of these people #c has
+abbrev pub members : List String → List String → List String
+members people lines = filter (λ key. is_member (read lines) (codes "#c") (codes key)) people
 
 -- ---- how transcripts begin
 
 -- the network takes us in, names its settings and ends its greeting
-abbrev pub welcome : List Text
-welcome = codes ":s 001 Me :hi" ∷ codes ":s 005 Me PREFIX=(ov)@+ CHANTYPES=# :are supported"
-    ∷ codes ":s 376 Me :end" ∷ []
+abbrev pub welcome : List String
+welcome =
+    ":s 001 Me :hi" ∷ ":s 005 Me PREFIX=(ov)@+ CHANTYPES=# :are supported" ∷ ":s 376 Me :end" ∷ []
 
 -- then we join a channel
-abbrev pub joined : List Text
-joined = welcome ++ codes ":Me!m@h JOIN #c" ∷ []
+abbrev pub joined : List String
+joined = welcome ++ ":Me!m@h JOIN #c" ∷ []
 
 -- and bob joins it
-abbrev pub with_bob : List Text
-with_bob = joined ++ codes ":bob!b@h JOIN #c" ∷ []
+abbrev pub with_bob : List String
+with_bob = joined ++ ":bob!b@h JOIN #c" ∷ []
