@@ -1,26 +1,25 @@
 -- The view after what tells of a channel alone: TOPIC, 332 and 331, MODE and 324. What a MODE and a
 -- 324 leave is said by look-ups: any maps that answer so are the channel's.
-use Rattle.std.specs.Prelude.{◌≡◌, ℕ, Bool, false, cond, List, is_some}
+use native.Mathlib.Omega.{arith}
+use Rattle.std.specs.Prelude.{◌≡◌, ℕ, Bool, List, is_some}
 use Rattle.std.specs.Option.{option_map, option_map_or, unwrap_or}
 use Rattle.std.specs.Ordering.{nat_cmp}
 use Rattle.std.specs.FinMap as fin
 use Rattle.std.proofs.Common.{Option, Some, None, refl, sym, ap, ◌∙◌}
 use Rattle.irc_support.specs.Text.{Text}
 use Rattle.irc_support.specs.Ranks.{ranks_that, has_rank}
-use Rattle.net_view.specs.Names.{same, bytes_cmp}
+use Rattle.net_view.specs.Names.{bytes_cmp}
 use Rattle.net_view.specs.Told.{LetterChange, ModeChange, Titled, Changed, Listed}
 use Rattle.net_view.specs.Transcript.{is_us}
 use Rattle.net_view.specs.LookBack.{last_in}
 use Rattle.net_view.specs.Modes.{setting_of}
 use Rattle.net_view.specs.Members.{rank_in_change}
 use Rattle.net_view.specs.View.{Channel, View}
-use Rattle.net_view.specs.Step.{standing_of, had_rank, after_told, people_after, is_seen}
+use Rattle.net_view.specs.Step.{standing_of, after_told, is_seen, channel_after}
 use Rattle.net_view.specs.Changes.{with_topic, on_channel}
-use Rattle.net_view.proofs.Tests.{is_some_map}
 use Rattle.net_view.proofs.Keys.{same_refl}
-use Rattle.net_view.proofs.AfterAlike.{HasSets, IsKnowing, IsQuiet, channel_is, member_stays}
-use Rattle.net_view.proofs.AfterAlike.{one_channel, no_channel, same_seen, kept_members}
-use Rattle.net_view.proofs.AfterAlike.{all_persons_stay}
+use Rattle.net_view.proofs.AfterAlike.{HasSets, IsKnowing, channel_is, member_stays, one_channel}
+use Rattle.net_view.proofs.AfterAlike.{no_channel, same_seen, kept_members, all_persons_stay}
 
 -- a channel that we are on, with these modes and members
 abbrev pub with_maps : Channel → fin.FinMap nat_cmp (Option Text) → fin.FinMap bytes_cmp (List ℕ)
@@ -48,18 +47,6 @@ module _ (v : View) (sets : HasSets v) (known : IsKnowing v) (c : Text) where
 
   -- ---- TOPIC, 332 and 331
 
-  title_quiet : (topic : Option Text) (d : Text) → same d c ≡ false → IsQuiet us (Titled c topic) d
-  title_quiet topic d e =
-      record {
-        on = refl;
-        topic = ap (λ b. cond b (Some topic) None) e;
-        mode =
-            λ letter. refl;
-        member = λ n. refl;
-        rank = λ n rank. refl;
-        name = λ n. refl;
-      }
-
   pub after_topic : (topic : Option Text)
       → after_told v (Titled c topic) ≡ on_channel v c (with_topic topic)
   after_topic topic = by_channel (fin.get v.channels c) refl where
@@ -70,65 +57,24 @@ module _ (v : View) (sets : HasSets v) (known : IsKnowing v) (c : Text) where
               option_map_or (λ ch. fin.insert v.channels c (with_topic topic ch)) o v.channels;
         }
     by_channel None e =
-        let cs = no_channel us (Titled c topic) v.channels sets c e refl (title_quiet topic) in
-        let ps = ap (λ cs. people_after us (Titled c topic) cs v.people) cs
-        ∙ all_persons_stay us (Titled c topic) v.channels v.people known (λ n. refl) in
-        λ i. record {
-          own = v.own;
-          ready = v.ready;
-          settings = v.settings;
-          channels = cs i;
-          people =
-              ps i;
-        }
+        let cs = no_channel us (Titled c topic) v.channels sets c e refl (λ d q. grind arith) in
+        simp (cs, all_persons_stay us (Titled c topic) v.channels v.people known)
     by_channel (Some ch) e =
+        let t = Titled c topic in
         let is = with_topic topic ch in
-        let new =
-        ap Some (channel_is us (Titled c topic) c (Some ch) is
-        (ap (λ b. unwrap_or (cond b (Some topic) None) ch.topic) (same_refl c))
-        (λ letter. refl) (λ n. member_stays (fin.get ch.members n) (sets c ch e n))) in
-        let cs = one_channel us (Titled c topic) v.channels sets c ch is e new (title_quiet topic)
-        in
-        let ps = ap (λ cs. people_after us (Titled c topic) cs v.people) cs
-        ∙ all_persons_stay us (Titled c topic) (fin.insert v.channels c is) v.people
-        (still_known ch is e (λ n. refl)) (λ n. refl) in
-        λ i. record {
-          own = v.own;
-          ready = v.ready;
-          settings = v.settings;
-          channels = cs i;
-          people =
-              ps i;
-        }
+        let new = ap Some (channel_is us t c (Some ch) is (simp (same_refl c)) (λ letter. refl)
+        (λ n. member_stays (fin.get ch.members n) (sets c ch e n))) in
+        let cs = one_channel us t v.channels sets c ch is e new (λ d q. grind arith) in
+        simp (cs, all_persons_stay us t _ _ (still_known ch is e (λ n. refl)))
 
   -- ---- MODE
-
-  change_quiet : (letters : List LetterChange) (modes : List ModeChange) (d : Text)
-      → same d c ≡ false → IsQuiet us (Changed c letters modes) d
-  change_quiet letters modes d e = record {
-    on = refl;
-    topic = refl;
-    mode = λ letter. ap (λ b. cond b (last_in (setting_of letter) modes) None) e;
-    member = λ n. refl;
-    rank = λ n rank. ap (λ b. cond b (last_in (rank_in_change n rank) letters) None) e;
-    name = λ n. refl;
-  }
 
   pub after_mode_elsewhere : (letters : List LetterChange) (modes : List ModeChange)
       → fin.get v.channels c ≡ None → after_told v (Changed c letters modes) ≡ v
   after_mode_elsewhere letters modes e =
-      let cs = no_channel us (Changed c letters modes) v.channels sets c e refl
-      (change_quiet letters modes) in
-      let ps = ap (λ cs. people_after us (Changed c letters modes) cs v.people) cs
-      ∙ all_persons_stay us (Changed c letters modes) v.channels v.people known (λ n. refl) in
-      λ i. record {
-        own = v.own;
-        ready = v.ready;
-        settings = v.settings;
-        channels = cs i;
-        people =
-            ps i;
-      }
+      let t = Changed c letters modes in
+      let cs = no_channel us t v.channels sets c e refl (λ d q. grind arith) in
+      simp (cs, all_persons_stay us t v.channels v.people known)
 
   pub after_mode : (letters : List LetterChange) (modes : List ModeChange) (ch : Channel)
       → fin.get v.channels c ≡ Some ch
@@ -142,68 +88,19 @@ module _ (v : View) (sets : HasSets v) (known : IsKnowing v) (c : Text) where
   after_mode letters modes ch e ms ps modes_are members_are =
       let t = Changed c letters modes in
       let is = with_maps ch ms ps in
-      let here = same_refl c in
-      let new = ap Some (channel_is us t c (Some ch) is refl
-      (λ letter. ap
-      (λ b. unwrap_or (cond b (last_in (setting_of letter) modes) None)
-      (fin.get ch.modes letter)) here ∙ sym (modes_are letter))
-      (λ n. ap (λ b. cond (is_some (fin.get ch.members n))
-      (Some (ranks_that (λ rank. unwrap_or
-      (cond b (last_in (rank_in_change n rank) letters) None)
-      (had_rank rank (fin.get ch.members n))))) None) here
-      ∙ by_member n (fin.get ch.members n) ∙ sym (members_are n))) in
-      let cs = one_channel us t v.channels sets c ch is e new (change_quiet letters modes) in
-      let people =
-      ap (λ cs. people_after us t cs v.people) cs
-      ∙ all_persons_stay us t (fin.insert v.channels c is) v.people
-      (still_known ch is e (λ n. ap is_some (members_are n)
-      ∙ is_some_map (ranks_changed letters n) (fin.get ch.members n))) (λ n. refl)
-      in
-      λ i. record {
-        own = v.own;
-        ready = v.ready;
-        settings = v.settings;
-        channels = cs i;
-        people =
-            people i;
-      } where
-        by_member : (n : Text) (o : Option (List ℕ))
-            → cond (is_some o)
-            (Some (ranks_that (λ rank. unwrap_or (last_in (rank_in_change n rank) letters)
-            (had_rank rank o)))) None ≡ option_map (ranks_changed letters n) o
-        by_member n None = refl
-        by_member n (Some ranks) = refl
+      let new : channel_after us t c (Some ch) ≡ Some is =
+      grind (arith, channel_is us t c (Some ch) is, same_refl, modes_are, members_are) in
+      let cs = one_channel us t v.channels sets c ch is e new (λ d q. grind arith) in
+      let alike = still_known ch is e (λ n. grind (arith, members_are n)) in
+      simp (cs, all_persons_stay us t _ _ alike)
 
   -- ---- 324
-
-  list_quiet : (modes : List ModeChange) (d : Text) → same d c ≡ false
-      → IsQuiet us (Listed c modes) d
-  list_quiet modes d e =
-      record {
-        on = refl;
-        topic = refl;
-        mode =
-            λ letter. ap
-            (λ b. cond b (Some (unwrap_or (last_in (setting_of letter) modes) None)) None) e;
-        member = λ n. refl;
-        rank = λ n rank. refl;
-        name = λ n. refl;
-      }
 
   pub after_modes_elsewhere : (modes : List ModeChange) → fin.get v.channels c ≡ None
       → after_told v (Listed c modes) ≡ v
   after_modes_elsewhere modes e =
-      let cs = no_channel us (Listed c modes) v.channels sets c e refl (list_quiet modes) in
-      let ps = ap (λ cs. people_after us (Listed c modes) cs v.people) cs
-      ∙ all_persons_stay us (Listed c modes) v.channels v.people known (λ n. refl) in
-      λ i. record {
-        own = v.own;
-        ready = v.ready;
-        settings = v.settings;
-        channels = cs i;
-        people =
-            ps i;
-      }
+      let cs = no_channel us (Listed c modes) v.channels sets c e refl (λ d q. grind arith) in
+      simp (cs, all_persons_stay us (Listed c modes) v.channels v.people known)
 
   pub after_modes : (modes : List ModeChange) (ch : Channel) → fin.get v.channels c ≡ Some ch
       → (ms : fin.FinMap nat_cmp (Option Text)) →
@@ -214,20 +111,7 @@ module _ (v : View) (sets : HasSets v) (known : IsKnowing v) (c : Text) where
       let t = Listed c modes in
       let is = with_maps ch ms ch.members in
       let new = ap Some (channel_is us t c (Some ch) is refl
-      (λ letter. ap
-      (λ b. unwrap_or (cond b (Some (unwrap_or (last_in (setting_of letter) modes) None)) None)
-      (fin.get ch.modes letter)) (same_refl c) ∙ sym (modes_are letter))
+      (λ letter. simp (same_refl c, modes_are))
       (λ n. member_stays (fin.get ch.members n) (sets c ch e n))) in
-      let cs = one_channel us t v.channels sets c ch is e new (list_quiet modes) in
-      let people =
-      ap (λ cs. people_after us t cs v.people) cs
-      ∙ all_persons_stay us t (fin.insert v.channels c is) v.people
-      (still_known ch is e (λ n. refl)) (λ n. refl) in
-      λ i. record {
-        own = v.own;
-        ready = v.ready;
-        settings = v.settings;
-        channels = cs i;
-        people =
-            people i;
-      }
+      let cs = one_channel us t v.channels sets c ch is e new (λ d q. grind arith) in
+      simp (cs, all_persons_stay us t _ _ (still_known ch is e (λ n. refl)))

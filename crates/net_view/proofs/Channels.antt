@@ -39,11 +39,7 @@ modes_get items c =
 
 pub member_of_none : (items : List Reading) (c n : Text)
     → list_any (same n) (named people_in items) ≡ false → member_of items c n ≡ None
-member_of_none items c n h =
-    ap (λ b. cond (is_some (name_on items c)
-    && b) (Some (ranks_that (rank_decided items c n))) None) (covers_member items c n h)
-    ∙ cond_and_false (is_some (name_on items c)) false (Some (ranks_that (rank_decided items c n)))
-    None refl
+member_of_none items c n h = simp (covers_member, cond_and_false)
 
 pub channels_get : (items : List Reading) (c : Text)
     → fin.get (channels_of items) c ≡ channel_of items c
@@ -53,4 +49,4 @@ channels_get items =
 
 pub channel_none : (items : List Reading) (c : Text)
     → list_any (same c) (named channels_in items) ≡ false → channel_of items c ≡ None
-channel_none items c h = ap (option_map (channel_named items c)) (covers_on items c h)
+channel_none items c h = simp covers_on

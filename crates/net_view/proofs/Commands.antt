@@ -1,9 +1,9 @@
 -- Which state line a line is: a line has one of the commands only.
-use Rattle.std.specs.Prelude.{◌≡◌, Bool, true, false, cond, ◌||◌, List, [], ◌∷◌, is_some}
+use native.Mathlib.Omega.{arith}
+use Rattle.std.specs.Prelude.{◌≡◌, Bool, true, false, cond, List, [], ◌∷◌, is_some}
 use Rattle.std.specs.List.{find, list_any}
-use Rattle.std.specs.Option.{option_map_or}
-use Rattle.std.specs.Str.{bytes_eq, str_to_ascii_lowercase, str_eq_ignore_ascii_case}
-use Rattle.std.proofs.Common.{Some, refl, ap, ◌∙◌, subst, codes}
+use Rattle.std.specs.Str.{str_eq_ignore_ascii_case}
+use Rattle.std.proofs.Common.{Some, refl, codes}
 use Rattle.std.proofs.lemmas.Slice.Eq.{bytes_eq-Decides}
 use Rattle.irc_line.specs.Line.{Parts, has_command}
 use Rattle.irc_support.specs.Text.{Text}
@@ -23,35 +23,23 @@ use Rattle.net_view.specs.StateLines.{told_by_names, told_by_account, told_by_aw
 -- a line of a command has each other exactly where the two are one but for the case of letters
 pub has_command-named : (line : Parts) (name : Text) → has_command line name ≡ true → (other : Text)
     → has_command line other ≡ str_eq_ignore_ascii_case name other
-has_command-named line name e other =
-    ap (λ x. bytes_eq x (str_to_ascii_lowercase other))
-    ((bytes_eq-Decides (str_to_ascii_lowercase line.command) (str_to_ascii_lowercase name)).0 e)
+has_command-named line name e other = grind (arith, bytes_eq-Decides)
 
 -- ---- the command that a line was read to have
 
 found_meets : {X : Type 0} (p : X → Bool) (it : X) (xs : List X) → find p xs ≡ Some it → p it ≡ true
 found_meets p it [] e = cc
-found_meets p it (x ∷ xs) e =
-    elim (p x) as (λ b. p x ≡ b → cond b (Some x) (find p xs) ≡ Some it → p it ≡ true) [
-      | true ↦ λ is same. subst (λ o. option_map_or p o false ≡ true) same is
-      | false ↦ λ _ rest. found_meets p it xs rest
-    ] refl e
+found_meets p it (x ∷ xs) e = grind (arith, found_meets p it xs)
 
 -- a line has the command that it was read to have
 pub has_found : (line : Parts) (it : StateCommand) → state_command line ≡ Some it
     → has_command line (command_text it) ≡ true
-has_found line it e = found_meets (λ x. has_command line (command_text x)) it state_commands e
-
-some_found : {X : Type 0} (p : X → Bool) (xs : List X) → is_some (find p xs) ≡ list_any p xs
-some_found p [] = refl
-some_found p (x ∷ xs) =
-    elim (p x) as (λ b. is_some (cond b (Some x) (find p xs))
-    ≡ (b || list_any p xs)) [ true ↦ refl | false ↦ some_found p xs ]
+has_found line it e = grind (arith, found_meets)
 
 -- a state line is one that has such a command
 pub is_read : (line : Parts) → is_some (state_command line) ≡ is_state_line line
 unfolding state_commands state_lines
-is_read line = some_found (λ x. has_command line (command_text x)) state_commands
+is_read line = grind arith
 
 -- ---- which commands are none of the seventeen
 
@@ -59,26 +47,18 @@ is_read line = some_found (λ x. has_command line (command_text x)) state_comman
 pub is_state_by_name : (line : Parts) (name : Text) → has_command line name ≡ true
     → is_state_line line ≡ is_state_command name
 unfolding state_lines state_commands
-is_state_by_name line name e =
-    ap (λ (test : Text
-    → Bool). list_any (λ (s : StateLine). test s.command) state_lines)
-    (λ i other. has_command-named line name e other i)
+is_state_by_name line name e = simp (has_command-named line name e)
 
 not_among : (names : List Text) → list_any is_state_command names ≡ false → (line : Parts)
     → list_any (has_command line) names ≡ true → is_state_line line ≡ false
 not_among [] h line e = cc
 not_among (name ∷ names) h line e =
-    let parts = or_false (is_state_command name) (list_any is_state_command names) h in
-    elim (has_command line name) as (λ b. has_command line name ≡ b
-    → (b || list_any (has_command line) names) ≡ true → is_state_line line ≡ false) [
-      | true ↦ λ has _. is_state_by_name line name has ∙ parts.0
-      | false ↦ λ _ rest. not_among names (parts.1) line rest
-    ] refl e
+    grind (arith, is_state_by_name line name, not_among names, or_false)
 
 pub no_state_line : (line : Parts) → list_any (has_command line) other_commands ≡ true
     → is_state_line line ≡ false
 unfolding state_commands
-no_state_line line e = not_among other_commands refl line e
+no_state_line line e = search (arith, not_among)
 
 -- ---- what the rows of a list tell
 
@@ -93,32 +73,26 @@ told_by-named : (lines : List StateLine) (name : Text) (settings : List Token) (
     → has_command line name ≡ true → told_by lines settings line ≡ told_as lines name settings line
 told_by-named [] name settings line e = refl
 told_by-named (s ∷ lines) name settings line e =
-    ap (λ b. cond b (s.tells settings line) (told_by lines settings line))
-    (has_command-named line name e s.command)
-    ∙ ap (λ t. cond (str_eq_ignore_ascii_case name s.command) (s.tells settings line) t)
-    (told_by-named lines name settings line e)
+    grind (arith, has_command-named, told_by-named lines name settings line e)
 
 -- what a line of none of these commands tells
 told_by_none : (lines : List StateLine) (settings : List Token) (line : Parts)
     → is_of lines line ≡ false → told_by lines settings line ≡ Silent
 told_by_none [] settings line e = refl
-told_by_none (s ∷ lines) settings line e =
-    let parts = or_false (has_command line s.command) (is_of lines line) e in
-    ap (λ b. cond b (s.tells settings line) (told_by lines settings line)) (parts.0)
-    ∙ told_by_none lines settings line (parts.1)
+told_by_none (s ∷ lines) settings line e = grind (arith, told_by_none lines settings line)
 
 -- what is no state line tells nothing
 pub told-unread : (settings : List Token) (line : Parts) → is_state_line line ≡ false
     → told settings (Received line) ≡ Silent
 unfolding told
-told-unread settings line e = told_by_none state_lines settings line e
+told-unread settings line e = simp told_by_none
 
 -- ---- what a line of each command tells
 
 pub told_of_welcome : (settings : List Token) (line : Parts) → has_command line (codes "001") ≡ true
     → told settings (Received line) ≡ told_by_welcome settings line
 unfolding told state_lines
-told_of_welcome settings line e = told_by-named state_lines (codes "001") settings line e
+told_of_welcome settings line e = grind arith
 
 pub told_of_isupport : (settings : List Token) (line : Parts)
     → has_command line (codes "005") ≡ true → told settings (Received line) ≡ Supports line.params

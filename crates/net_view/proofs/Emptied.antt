@@ -6,7 +6,7 @@ use Rattle.std.specs.FinMap as fin
 use Rattle.std.proofs.Common.{Some, None, refl, sym, ap, ◌∙◌}
 use Rattle.irc_support.specs.Text.{Text}
 use Rattle.net_view.specs.Names.{bytes_cmp}
-use Rattle.net_view.specs.Told.{Told, Disconnected}
+use Rattle.net_view.specs.Told.{Told}
 use Rattle.net_view.specs.Arrival.{Arrival, Lost}
 use Rattle.net_view.specs.StateLines.{told}
 use Rattle.net_view.specs.Transcript.{Standing, standing_after, is_us}
@@ -15,7 +15,7 @@ use Rattle.net_view.specs.Named.{channels_in}
 use Rattle.net_view.specs.Table.{table, same_tables}
 use Rattle.net_view.specs.View.{lost_view, Channel, Person, View, view_of}
 use Rattle.net_view.specs.Step.{standing_of, after_told, channel_from, channel_after}
-use Rattle.net_view.specs.Step.{channels_after, members_at, person_after, people_after, after}
+use Rattle.net_view.specs.Step.{channels_after, people_after, after}
 use Rattle.net_view.proofs.Keys.{bytes_exact}
 use Rattle.net_view.proofs.StepLaw.{view_step}
 
@@ -46,9 +46,7 @@ no_keys =
 pub no_people : (us : Text → Bool) (t : Told) (old : fin.FinMap bytes_cmp Person)
     → people_after us t fin.empty old ≡ fin.empty
 unfolding table
-no_people us t old =
-    ap (λ keys. table bytes_cmp (members_at fin.empty keys) (person_after us t fin.empty old))
-    no_keys
+no_people us t old = simp no_keys
 
 -- a view of which the standing alone is left
 abbrev pub alone : Standing → View
@@ -64,20 +62,8 @@ alone s =
 
 pub emptied : (v : View) (t : Told) → ((c : Text) → ends (is_us (standing_of v)) t c ≡ true)
     → after_told v t ≡ alone (standing_after t (standing_of v))
-emptied v t off =
-    let us = is_us (standing_of v) in
-    let s = standing_after t (standing_of v) in
-    let cs = no_channels us t v.channels off in
-    let ps = ap (λ c. people_after us t c v.people) cs ∙ no_people us t v.people in
-    λ i. record {
-      own = s.own;
-      ready = s.ready;
-      settings = s.settings;
-      channels = cs i;
-      people =
-          ps i;
-    }
+emptied v t off = simp (no_channels, no_people)
 
 pub view_lost : (items : List Arrival) → view_of (items ++ Lost ∷ []) ≡ lost_view (view_of items)
 unfolding after told
-view_lost items = view_step items Lost ∙ emptied (view_of items) Disconnected (λ c. refl)
+view_lost items = simp (view_step, emptied)

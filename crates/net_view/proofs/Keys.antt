@@ -1,4 +1,5 @@
 -- Keys in lists and in tables.
+use native.Mathlib.Omega.{arith}
 use Rattle.std.specs.Prelude.{◌≡◌, Bool, true, false, ◌||◌, List, [], ◌∷◌}
 use Rattle.std.specs.List.{list_any}
 use Rattle.std.specs.declared.cmp.Ordering.{Ordering}
@@ -42,7 +43,7 @@ any_moved p (x ∷ xs) ys in_ys h =
 
 pub not_kept : {K X : Type 0} {R : K → K → Ordering} (m : fin.FinMap R X) (q : K)
     → list_any (eq_by_cmp R q) (fin.keys m) ≡ false → fin.get m q ≡ None
-not_kept m q h = none_of_is_some (fin.get m q) (fin.contains_key-keys m q ∙ h)
+not_kept m q h = search (arith, none_of_is_some, fin.contains_key-keys)
 
 pub same_refl : (a : Text) → same a a ≡ true
 same_refl a = ap is_eq (tied_itself nat_list_cmp_total a)

@@ -18,11 +18,9 @@ use Rattle.net_view.proofs.Keys.{bytes_exact}
 use Rattle.net_view.proofs.People.{contains-channels, sight_seen, sight_none, person_none}
 use Rattle.net_view.proofs.People.{people_get, seen_none, spelling_field, account_field, away_field}
 
-known_step : (says : Says) (field : Person
-    → Option Text) (x : Reading) (older : List Reading) (n : Text) →
-    ((m : Text) → known says older m ≡ option_and_then field (person_of older m)) →
-    in_sight (x ∷ older) n ≡ true →
-    known says (x ∷ older) n
+known_step : (says : Says) (field : Person → Option Text) (x : Reading) (older : List Reading)
+    (n : Text) → ((m : Text) → known says older m ≡ option_and_then field (person_of older m))
+    → in_sight (x ∷ older) n ≡ true → known says (x ∷ older) n
     ≡ known_after says field (ours x) x.told (channels_of (x ∷ older)) (people_of older) n
 known_step says field x older n fields h =
     ap (λ b. cond b

@@ -1,5 +1,6 @@
 -- With all four capabilities everything is seen.
-use Rattle.std.specs.Prelude.{◌≡◌, ℕ, ◌-◌, Bool, true, false, ◌&&◌, ◌||◌, List, length, reverse}
+use native.Mathlib.Omega.{arith}
+use Rattle.std.specs.Prelude.{◌≡◌, ℕ, Bool, List}
 use Rattle.std.specs.Option.{option_map}
 use Rattle.std.specs.Cmp.Lexicographic.{nat_list_cmp_total}
 use Rattle.std.specs.FinMap as fin
@@ -8,23 +9,17 @@ use Rattle.irc_support.specs.Text.{Text}
 use Rattle.irc_support.specs.Ranks.{ranks_that, has_rank}
 use Rattle.net_view.specs.Names.{bytes_cmp}
 use Rattle.net_view.specs.Arrival.{Arrival}
-use Rattle.net_view.specs.Transcript.{readings_of}
 use Rattle.net_view.specs.Table.{table}
 use Rattle.net_view.specs.View.{Channel, Person, view_of}
 use Rattle.net_view.specs.Seen.{all_caps, kept_person, kept_by, Shown, thinned_ranks}
-use Rattle.net_view.specs.Seen.{thinned_channel, thinned_channels, was_shown, seen_since}
+use Rattle.net_view.specs.Seen.{thinned_channel, thinned_channels, seen_since}
 use Rattle.net_view.proofs.Keys.{bytes_exact}
 use Rattle.net_view.proofs.FormSound.{view_ranked}
 use Rattle.net_view.proofs.Thinned.{get-thinned_channels, get-thinned_members, get-kept}
 
-all_pass : (b shown : Bool) → (b && (true || shown)) ≡ b
-all_pass true shown = refl
-all_pass false shown = refl
-
 ranks_whole : (shown : ℕ → Bool) (ranks : List ℕ) → ranks_that (has_rank ranks) ≡ ranks
     → thinned_ranks all_caps shown ranks ≡ ranks
-ranks_whole shown ranks set =
-    ap ranks_that (λ i rank. all_pass (has_rank ranks rank) (shown rank) i) ∙ set
+ranks_whole shown ranks set = grind arith
 
 channels_whole : (items : List Arrival) (shown : Shown)
     → thinned_channels all_caps shown (view_of items).channels ≡ (view_of items).channels
@@ -50,8 +45,7 @@ channels_whole items shown =
           λ i. Some (record { name = ch.name; topic = ch.topic; modes = ch.modes; members = ms i })
 
 kept_whole : (o : Option Person) → option_map (kept_person all_caps) o ≡ o
-kept_whole None = refl
-kept_whole (Some p) = refl
+kept_whole o = grind arith
 
 pub people_whole : (ps : fin.FinMap bytes_cmp Person)
     → table bytes_cmp (fin.keys ps) (λ n. option_map (kept_person all_caps) (fin.get ps n)) ≡ ps
@@ -61,15 +55,4 @@ people_whole ps =
 
 pub seen_whole : (items : List Arrival) (a : ℕ) → seen_since items a all_caps ≡ view_of items
 unfolding seen_since kept_by
-seen_whole items a =
-    let v = view_of items in
-    let cs = channels_whole items (was_shown (readings_of (reverse items)) (length items - a)) in
-    let ps = people_whole v.people in
-    λ i. record {
-      own = v.own;
-      ready = v.ready;
-      settings = v.settings;
-      channels = cs i;
-      people =
-          ps i;
-    }
+seen_whole items a = simp (channels_whole, people_whole)

@@ -1,16 +1,15 @@
 -- Every network view is sound, by induction on the transcript.
+use native.Mathlib.Omega.{arith}
 use Rattle.std.specs.Prelude.{◌≡◌, Bool, true, false, cond, IfSome, IsSomeAnd, is_some, List, []}
 use Rattle.std.specs.Prelude.{◌∷◌, ◌++◌, reverse}
 use Rattle.std.specs.Option.{ForSome, option_and_then, option_map, unwrap_or}
-use Rattle.std.specs.List.{list_any}
 use Rattle.std.specs.Cmp.Lexicographic.{nat_list_cmp_total}
 use Rattle.std.specs.FinMap as fin
 use Rattle.std.proofs.Common.{Option, Some, None, refl, sym, ap, ◌∙◌, subst}
-use Rattle.std.proofs.lemmas.Option.{cond_some, none-some}
-use Rattle.irc_names.specs.Nick.{is_nameable}
+use Rattle.std.proofs.lemmas.Option.{cond_some}
 use Rattle.irc_support.specs.Text.{Text}
 use Rattle.net_view.specs.Names.{bytes_cmp}
-use Rattle.net_view.specs.Told.{Told, Welcomed, Supports, Settles, Joined, Renamed}
+use Rattle.net_view.specs.Told.{Told}
 use Rattle.net_view.specs.Arrival.{Arrival}
 use Rattle.net_view.specs.StateLines.{told}
 use Rattle.net_view.specs.Transcript.{Standing, is_us, own_after, ready_after, settings_after}
@@ -21,7 +20,7 @@ use Rattle.net_view.specs.Named.{channels_in}
 use Rattle.net_view.specs.Table.{table, same_tables}
 use Rattle.net_view.specs.View.{Channel, Person, View, empty_view, view_back, view_of}
 use Rattle.net_view.specs.Step.{standing_of, old_member, channel_from, channel_after}
-use Rattle.net_view.specs.Step.{channels_after, is_seen, known_after, person_from, people_after}
+use Rattle.net_view.specs.Step.{channels_after, is_seen, known_after, person_from}
 use Rattle.net_view.specs.Step.{after_told, after}
 use Rattle.net_view.specs.Sound.{IsSpelling, IsFilled, IsAccount, IsSoundPerson, IsSound}
 use Rattle.net_view.proofs.Tests.{no_true, is_some_when}
@@ -30,7 +29,7 @@ use Rattle.net_view.proofs.Emptied.{no_keys, no_people}
 use Rattle.net_view.proofs.AfterMaps.{get-channels_after, get-people_after, seen_somewhere}
 use Rattle.net_view.proofs.PartsSound.{IsSoundTold}
 use Rattle.net_view.proofs.ToldSound.{told_sound}
-use Rattle.net_view.proofs.Holds.{for_some, if_some, of_either, of_next}
+use Rattle.net_view.proofs.Holds.{for_some, of_either, of_next}
 use Rattle.net_view.proofs.OwnSound.{own_nameable}
 use Rattle.net_view.proofs.PeopleSound.{said_account, said_away}
 use Rattle.net_view.proofs.StepLaw.{view_back_step}
@@ -61,12 +60,11 @@ settings_seen v t sound told n h =
 old_field : (P : Text → Type 0) (field : Person → Option Text) (v : View)
     → ((n : Text) → IfSome (option_and_then field (fin.get v.people n)) P) → (nb : Option Text)
     → IfSome (option_and_then (λ m. option_and_then field (fin.get v.people m)) nb) P
-old_field P field v h nb = of_next P nb (λ m. option_and_then field (fin.get v.people m)) h
+old_field P field v h nb = grind (arith, of_next)
 
 field_in : (P : Text → Type 0) (field : Person → Option Text) (o : Option Person)
     → ((p : Person) → o ≡ Some p → ForSome (field p) P) → IfSome (option_and_then field o) P
-field_in P field None h = tt
-field_in P field (Some p) h = if_some P (field p) (h p refl)
+field_in P field o h = grind arith
 
 people_sound : (v : View) (t : Told) → IsSound v → IsSoundTold v.settings t → (n : Text)
     → ForSome (fin.get (after_told v t).people n) (IsSoundPerson (after_told v t) n)
@@ -103,29 +101,19 @@ people_sound v t sound told n p h =
 -- ---- before a welcome
 
 own_none : (t : Told) (s : Standing) → own_after t s ≡ None → s.own ≡ None
-own_none (Welcomed nick) s h = cc
-own_none (Renamed old new) s h =
-    elim (is_us s old) as (λ b. cond b (Some new.spelled) s.own ≡ None
-    → s.own ≡ None) [ true ↦ λ e. cc | false ↦ λ e. e ] h
-own_none _ s h = h
+own_none t s h = grind arith
 
 nobody_begins : (t : Told) (c : Text) → begins (λ _. false) t c ≡ None
-nobody_begins (Joined channel valid who account) c = refl
-nobody_begins _ c = refl
+nobody_begins t c = grind arith
 
 abbrev nowhere : Standing
 nowhere = standing_of empty_view
 
 not_ready : (t : Told) → own_after t nowhere ≡ None → ready_after t nowhere ≡ false
-not_ready (Welcomed nick) h = cc
-not_ready Settles h = refl
-not_ready (Joined channel valid who account) h = refl
-not_ready _ h = refl
+not_ready t h = grind arith
 
 no_settings : (t : Told) → own_after t nowhere ≡ None → settings_after t nowhere ≡ []
-no_settings (Welcomed nick) h = cc
-no_settings (Supports params) h = refl
-no_settings _ h = refl
+no_settings t h = grind arith
 
 still_nowhere : (t : Told) → channels_after (λ _. false) t fin.empty ≡ fin.empty
 unfolding table
@@ -145,22 +133,10 @@ still_nowhere t =
 
 stays_empty : (t : Told) → own_after t nowhere ≡ None → after_told empty_view t ≡ empty_view
 stays_empty t h =
-    let cs = still_nowhere t in
-    let ps = ap (λ c. people_after (λ _. false) t c fin.empty) cs
-    ∙ no_people (λ _. false) t fin.empty in
-    let r = not_ready t h in
-    let s = no_settings t h in
-    λ i. record { own = h i; ready = r i; settings = s i; channels = cs i; people = ps i }
+    simp (still_nowhere t, no_people (λ _. false) t fin.empty, not_ready t h, no_settings t h, h)
 
 empty_sound : IsSound empty_view
-empty_sound = record {
-  unwelcomed = λ e. refl;
-  own = λ nick e. cc;
-  channels = λ c ch e. absurd (none-some ch (sym (fin.get-empty bytes_cmp c) ∙ e));
-  people = λ n p e. absurd (none-some p (sym (fin.get-empty bytes_cmp n) ∙ e));
-  known = λ n. ap is_some (fin.get-empty bytes_cmp n)
-      ∙ sym (ap (list_any (λ c. is_some (old_member (fin.get fin.empty c) n))) no_keys);
-}
+empty_sound = grind (arith, fin.get-empty, no_keys)
 
 -- ---- the whole
 
@@ -171,13 +147,8 @@ sound_step v t sound told =
     let us = is_us s in
     let cs = channels_after us t v.channels in
     record {
-      unwelcomed = λ e. let was = sound.unwelcomed (own_none t s e) in
-          ap (λ u. after_told u t) was
-          ∙ stays_empty t (ap (λ u. own_after t (standing_of u)) (sym was) ∙ e);
-      own = for_some (λ nick. is_nameable nick
-          ≡ true) (own_after t s)
-          (own_nameable v.settings t s told (if_some (λ nick. is_nameable nick
-          ≡ true) v.own sound.own));
+      unwelcomed = λ e. grind (arith, sound.unwelcomed, own_none, stays_empty);
+      own = λ nick e. grind (arith, own_nameable, sound.own);
       channels = channels_sound v t sound told;
       people = people_sound v t sound told;
       known = λ n. ap is_some (get-people_after us t cs v.people n)
@@ -187,10 +158,7 @@ sound_step v t sound told =
 pub sound_back : (items : List Arrival) → IsSound (view_back items)
 unfolding after table
 sound_back [] = empty_sound
-sound_back (x ∷ older) =
-    let v = view_back older in
-    subst IsSound (sym (view_back_step x older))
-    (sound_step v (told v.settings x) (sound_back older) (told_sound v.settings x))
+sound_back (x ∷ older) = search (arith, view_back_step, sound_step, told_sound, sound_back older)
 
 -- every network view is sound
 pub view_sound : (items : List Arrival) → IsSound (view_of items)
