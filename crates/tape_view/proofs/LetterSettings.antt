@@ -1,16 +1,15 @@
 -- What the changes of a line set of a letter.
-use Rattle.std.specs.Prelude.{◌≡◌, ℕ, cond, List}
+use native.Mathlib.Omega.{arith}
+use Rattle.std.specs.Prelude.{◌≡◌, ℕ, List}
 use Rattle.std.specs.List.{filter_map}
-use Rattle.std.specs.Option.{option_and_then, option_map}
-use Rattle.std.specs.Ordering.{nat_cmp, eq_by_cmp}
+use Rattle.std.specs.Option.{option_and_then}
 use Rattle.std.specs.Cmp.{nat_cmp_total}
-use Rattle.std.proofs.Common.{Option, Some, None, refl, sym, ap, ◌∙◌}
+use Rattle.std.proofs.Common.{Option, None}
 use Rattle.irc_support.specs.Text.{Text}
 use Rattle.irc_support.specs.Tokens.{Token}
 use Rattle.irc_support.specs.ChanModes.{kind_of}
 use Rattle.irc_support.specs.ModeChanges.{ChangeParts}
 use Rattle.net_view.specs.StateLines.{mode_change, setting_by}
-use Rattle.net_view.specs.Table.{same_arms}
 use Rattle.net_view.specs.LookBack.{last_in}
 use Rattle.net_view.specs.Modes.{setting_of}
 use Rattle.tape_view.proofs.LastIn.{last_found}
@@ -21,34 +20,15 @@ use Rattle.net_view.proofs.KeyPlaces as places
 abbrev pub sets : List Token → ℕ → ChangeParts → Option (Option (Option Text))
 sets settings letter change = option_and_then (setting_of letter) (mode_change settings change)
 
-sets_here : (letter other : ℕ) (o : Option (Option (Option Text)))
-    → option_and_then (setting_of letter) (option_map (λ s. record {
-      letter = other;
-      setting =
-          s;
-    }) o) ≡ cond (eq_by_cmp nat_cmp letter other) o None
-sets_here letter other None = sym (same_arms (eq_by_cmp nat_cmp letter other) None)
-sets_here letter other (Some s) = refl
-
 pub sets_it : (settings : List Token) (letter : ℕ) (change : ChangeParts) → change.letter ≡ letter
     → sets settings letter change ≡ setting_by (kind_of settings letter) change.plus change.param
 sets_it settings letter change e =
-    sets_here letter change.letter
-    (setting_by (kind_of settings change.letter) change.plus change.param)
-    ∙ ap (λ l. cond (eq_by_cmp nat_cmp letter l)
-    (setting_by (kind_of settings l) change.plus change.param) None) e
-    ∙ ap (λ b. cond b (setting_by (kind_of settings letter) change.plus change.param) None)
-    (places.same_itself nat_cmp_total fin.nat_cmp-IsAntisymmetric letter)
+    grind (arith, places.same_itself nat_cmp_total fin.nat_cmp-IsAntisymmetric letter)
 
 pub sets_none : (settings : List Token) (letter : ℕ) (change : ChangeParts)
     → (change.letter ≡ letter → ⊥) → sets settings letter change ≡ None
 sets_none settings letter change ne =
-    sets_here letter change.letter
-    (setting_by (kind_of settings change.letter) change.plus change.param)
-    ∙ ap (λ b. cond b (setting_by (kind_of settings change.letter) change.plus change.param) None)
-    (places.false_unless (eq_by_cmp nat_cmp letter change.letter)
-    (λ q. ne (sym
-    (places.same_key nat_cmp_total fin.nat_cmp-IsAntisymmetric letter change.letter q))))
+    grind (arith, places.same_key nat_cmp_total fin.nat_cmp-IsAntisymmetric)
 
 -- the changes that are not kept set nothing
 pub last_kept : (settings : List Token) (letter : ℕ) (changes : List ChangeParts)

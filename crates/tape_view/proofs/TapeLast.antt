@@ -1,22 +1,21 @@
 -- The last of some kept lines, and those before it.
-use Rattle.std.specs.Prelude.{◌≡◌, ◌+◌, ◌-◌, ◌<◌, ◌≤◌, Bool, true, false, cond, List, [], ◌∷◌, ◌++◌}
-use Rattle.std.specs.Prelude.{take, length, get_or, is_some, not, ◌&&◌, ℕ, zero, suc, set}
-use Rattle.std.proofs.Common.{◌⊎◌, inl, inr, Option, Some, None, Bor, refl, sym, ap, ◌∙◌, arith}
-use Rattle.std.proofs.Common.{subst}
+use Rattle.std.specs.Prelude.{◌≡◌, ◌-◌, ◌<◌, ◌≤◌, Bool, true, false, List, [], ◌∷◌, ◌++◌}
+use Rattle.std.specs.Prelude.{take, length, get_or, ℕ, zero, suc, set}
+use Rattle.std.proofs.Common.{◌⊎◌, Option, Some, None, Bor, refl, ap, arith}
 use Rattle.std.proofs.lemmas.List.{reverse-append, take_more, take_all}
 use Rattle.irc_line.specs.Line.{Parts}
 use Rattle.irc_support.specs.Text.{Text}
-use Rattle.irc_support.specs.Tokens.{Token, set_tokens}
+use Rattle.irc_support.specs.Tokens.{Token}
 use Rattle.tape_view.specs.declared.kept.Kept.{Kept}
 use Rattle.tape_view.specs.declared.tape.Said.{Said}
 use Rattle.net_view.specs.declared.state_line.Telling.{Telling}
-use Rattle.net_view.specs.Told.{Told, Welcomed, Supports, Renamed}
+use Rattle.net_view.specs.Told.{Told}
 use Rattle.net_view.specs.Arrival.{Arrival, Received}
 use Rattle.net_view.specs.StateCommands.{state_command}
 use Rattle.net_view.specs.StateLines.{told}
 use Rattle.net_view.specs.Transcript.{Standing, standing, standing_after, settings_after}
-use Rattle.net_view.specs.Transcript.{settings_of, ready_after, is_ready, own_after, own_nick}
-use Rattle.net_view.specs.Transcript.{is_us, Reading, readings_of, ours}
+use Rattle.net_view.specs.Transcript.{settings_of, ready_after, is_ready, own_nick}
+use Rattle.net_view.specs.Transcript.{Reading, readings_of}
 use Rattle.net_view.specs.Presence.{name_on, is_on}
 use Rattle.net_view.specs.Tells.{meant}
 use Rattle.net_view.specs.View.{channel_named}
@@ -24,47 +23,35 @@ use Rattle.net_view.proofs.Channels.{channels_get}
 use Rattle.net_view.proofs.KeyPlaces.{false_unless}
 use Rattle.net_view.proofs.SoundStep.{sound_back}
 use Rattle.net_view.proofs.Tests.{no_true}
-use Rattle.std.specs.Option.{option_map, option_or}
+use Rattle.std.specs.Option.{option_or}
 use Rattle.tape_view.specs.Marks.{own_said, IsMarked}
-use Rattle.tape_view.specs.Kept.{with_lost, played_back, tape_of, AreMarked, IsMarkedLine}
-use Rattle.tape_view.specs.Kept.{IsMarkedTape, IsReadable}
+use Rattle.tape_view.specs.Kept.{with_lost, tape_of, IsMarkedLine, IsMarkedTape, IsReadable}
 use Rattle.tape_view.specs.Tape.{Heard, IsLast}
 
 pub tape_push : {A : Type 0} (front : List (Kept A)) (k : Kept A)
     → tape_of (front ++ k ∷ []) ≡ with_lost k.lost (Received k.line ∷ tape_of front)
 unfolding tape_of
-tape_push front k = ap played_back (reverse-append front (k ∷ []))
+tape_push front k = simp reverse-append
 
 pub marked_split : {A : Type 0} (front : List (Kept A)) (k : Kept A)
     → IsMarkedTape (front ++ k ∷ []) → IsMarkedLine (tape_of front) k × IsMarkedTape front
 unfolding tape_of IsMarkedTape
-marked_split front k m = subst AreMarked (reverse-append front (k ∷ [])) m
+marked_split front k m = grind (arith, reverse-append)
 
 -- lines that are not none end with the last
 pub ends_with : {X : Type 0} (ks : List X) (k : X) → 1 ≤ length ks → k ≡ get_or ks (length ks - 1) k
     → ks ≡ take (length ks - 1) ks ++ k ∷ []
-ends_with ks k some last =
-    let e : length ks ≡ (length ks - 1) + 1 = omega arith in
-    sym (take_all (length ks) ks (omega arith))
-    ∙ ap (λ j. take j ks) e
-    ∙ take_more ks (length ks - 1) k (omega arith)
-    ∙ ap (λ j. take (length ks - 1) ks ++ j ∷ []) (sym last)
+ends_with ks k some last = grind (arith, take_all, take_more)
 
 -- where the settings are fixed after an item, they are those of before it
 steady : (t : Told) (s : Standing) → ready_after t s ≡ true → settings_after t s ≡ s.settings
-steady (Welcomed nick) s e = absurd (no_true e)
-steady (Supports params) s e =
-    ap (λ r. cond (is_some s.own && not r) (set_tokens s.settings params) s.settings) e
-    ∙ elim (is_some s.own) as (λ b. cond (b && not true) (set_tokens s.settings params) s.settings
-    ≡ s.settings) [ true ↦ refl | false ↦ refl ]
-steady _ s e = refl
+steady t s e = grind arith
 
 standing_line : (b : Bool) (l : Parts) (older : List Arrival)
     → standing (with_lost b (Received l ∷ older))
     ≡ standing_after (told (settings_of older) (Received l)) (standing older)
 unfolding told
-standing_line true l older = refl
-standing_line false l older = refl
+standing_line b l older = grind arith
 
 off_lost : (l : Parts) (older : List Arrival) (c : Text)
     → is_on (readings_of (with_lost true (Received l ∷ older))) c ≡ false
@@ -79,19 +66,16 @@ off_none A c = refl
 ready_on : (items : List Arrival) (c : Text) → is_on (readings_of items) c ≡ true
     → is_ready items ≡ true
 ready_on items c on =
-    elim (name_on (readings_of items) c) as (λ o. name_on (readings_of items) c ≡ o
-    → is_some o ≡ true → is_ready items ≡ true) [
-      | None ↦ λ e h. absurd (no_true h)
-      | Some name ↦ λ e
-          h. ((sound_back items).channels c (channel_named (readings_of items) c name)
-          (channels_get (readings_of items) c
-          ∙ ap (option_map (channel_named (readings_of items) c)) e)).ready
-    ] refl on
+    elim (name_on (readings_of items) c) as (λ o. name_on (readings_of items) c ≡ o → is_ready items
+    ≡ true) [
+      | None ↦ λ e. grind arith
+      | Some name ↦ λ e. ((sound_back items).channels c (channel_named (readings_of items) c name)
+          (grind (arith, channels_get))).ready
+    ] refl
 
 pub unready_off : (items : List Arrival) (c : Text) → is_ready items ≡ false
     → is_on (readings_of items) c ≡ false
-unready_off items c e =
-    false_unless (is_on (readings_of items) c) (λ on. no_true (sym e ∙ ready_on items c on))
+unready_off items c e = grind (arith, false_unless, no_true, ready_on)
 
 module _ {A : Type 0} (front : List (Kept A)) (k : Kept A) where
   -- the last line as it is read
@@ -103,34 +87,24 @@ module _ {A : Type 0} (front : List (Kept A)) (k : Kept A) where
   }
 
   pub standing_here : standing (tape_of (front ++ k ∷ [])) ≡ standing_after here.told here.before
-  standing_here = ap standing (tape_push front k) ∙ standing_line k.lost k.line (tape_of front)
+  standing_here = simp (tape_push, standing_line)
 
   -- the mark of the settings
   pub fixed_here : IsMarkedTape (front ++ k ∷ []) → is_ready (tape_of (front ++ k ∷ [])) ≡ k.fixed
-  fixed_here m =
-      ap (λ (s : Standing). s.ready) standing_here ∙ sym ((marked_split front k m).0).fixed
+  fixed_here m = grind (arith, standing_here, marked_split)
 
   off_here : IsMarkedTape (front ++ k ∷ []) → (c : Text) → (k.lost ≡ true) ⊎ (k.fixed ≡ false)
       → is_on (readings_of (tape_of (front ++ k ∷ []))) c ≡ false
-  off_here m c (inl lost) =
-      ap (λ items. is_on (readings_of items) c) (tape_push front k
-      ∙ ap (λ b. with_lost b (Received k.line ∷ tape_of front)) lost)
-      ∙ off_lost k.line (tape_of front) c
-  off_here m c (inr fixed) = unready_off (tape_of (front ++ k ∷ [])) c (fixed_here m ∙ fixed)
+  off_here m c u = grind (arith, tape_push, off_lost, unready_off, fixed_here)
 
   module _ (settings : List Token) (h : IsReadable settings (front ++ k ∷ [])) (fixed : k.fixed
       ≡ true) where
     -- once the settings are fixed, the line was read by those in force
     read_here : settings_of (tape_of front) ≡ settings
-    read_here =
-        let ready = fixed_here h.marked ∙ fixed in
-        sym (steady here.told here.before (sym (ap (λ (s : Standing). s.ready) standing_here)
-        ∙ ready))
-        ∙ sym (ap (λ (s : Standing). s.settings) standing_here)
-        ∙ h.read ready
+    read_here = grind (arith, fixed_here, steady, standing_here)
 
     readable_front : IsReadable settings front
-    readable_front = record { marked = (marked_split front k h.marked).1; read = λ _. read_here }
+    readable_front = grind (arith, marked_split, read_here)
 
     is_last_here : (s : Bor (List Token)) (r : Telling A) → s.now ≡ settings → k.lost ≡ false
         → ((s : List Token) → meant s r ≡ told s (Received k.line)) →
@@ -145,26 +119,7 @@ module _ {A : Type 0} (front : List (Kept A)) (k : Kept A) where
               k.marks;
         }) (record { settings = s.now; readings = readings_of (tape_of front) })
     unfolding told
-    is_last_here s r e lost tells =
-        let tell : meant s.now r ≡ here.told =
-        tells s.now ∙ ap (λ q. told q (Received k.line)) (e ∙ sym read_here) in
-        record {
-          reading = here;
-          whole = ap readings_of (tape_push front k
-              ∙ ap (λ b. with_lost b (Received k.line ∷ tape_of front)) lost);
-          told = tell;
-          marks = subst (λ t. IsMarked (ours here) t k.marks) (sym tell)
-              ((marked_split front k h.marked).0).marks;
-          settings = refl;
-          same_settings = refl;
-        }
-
-own_by : (t : Told) (s : Standing) → own_after t s ≡ option_or (own_said (is_us s) t) s.own
-own_by (Welcomed nick) s = refl
-own_by (Renamed old new) s =
-    elim (is_us s old) as (λ b. cond b (Some new.spelled) s.own
-    ≡ option_or (cond b (Some new.spelled) None) s.own) [ true ↦ refl | false ↦ refl ]
-own_by _ s = refl
+    is_last_here s r e lost tells = grind (arith, read_here, tape_push, marked_split)
 
 pub own_none : (A : Type 0) → own_nick (tape_of {A = A} []) ≡ None
 unfolding tape_of
@@ -181,16 +136,12 @@ module _ {A : Type 0} (ks : List (Kept A)) (k : Kept A) (some : 1 ≤ length ks)
 
   pub off_after : IsMarkedTape ks → (k.lost ≡ true) ⊎ (k.fixed ≡ false) → (c : Text)
       → is_on (readings_of (tape_of ks)) c ≡ false
-  off_after m either c =
-      let e = ends_with ks k some last in
-      ap (λ l. is_on (readings_of (tape_of l)) c) e
-      ∙ off_here older k (subst IsMarkedTape e m) c either
+  off_after m either c = grind (arith, ends_with ks k some last, off_here older k)
 
   pub readable_older : (settings : List Token) → IsReadable settings ks → k.fixed ≡ true
       → IsReadable settings (take (length ks - 1) ks)
   readable_older settings h fixed =
-      readable_front older k settings (subst (IsReadable settings) (ends_with ks k some last) h)
-      fixed
+      grind (arith, ends_with ks k some last, readable_front older k settings)
 
   pub is_last : (s : Bor (List Token)) (r : Telling A) (t : Heard)
       → record { settings = s.now; readings = readings_of (tape_of ks) } ≡ t → IsReadable s.now ks
@@ -202,18 +153,10 @@ module _ {A : Type 0} (ks : List (Kept A)) (k : Kept A) (some : 1 ≤ length ks)
         readings = readings_of (tape_of (take (length ks - 1) ks));
       })
   is_last s r t is h lost fixed tells =
-      let e = ends_with ks k some last in
-      subst (λ t. IsLast t (record {
-        support = s;
-        telling = r;
-        marks =
-            k.marks;
-      }) (record { settings = s.now; readings = readings_of (tape_of older) }))
-      (ap (λ l. record { settings = s.now; readings = readings_of (tape_of l) }) (sym e) ∙ is)
-      (is_last_here older k s.now (subst (IsReadable s.now) e h) fixed s r refl lost tells)
+      grind (arith, ends_with ks k some last, is_last_here older k s.now)
 
   pub marked_older : IsMarkedTape ks → IsMarkedTape (take (length ks - 1) ks)
-  marked_older m = (marked_split older k (subst IsMarkedTape (ends_with ks k some last) m)).1
+  marked_older m = grind (arith, ends_with ks k some last, marked_split older k)
 
   pub own_last : (r : Telling A) (own : Option Text)
       → ((s : List Token) → meant s r ≡ told s (Received k.line)) → IsMarkedTape ks
@@ -221,30 +164,17 @@ module _ {A : Type 0} (ks : List (Kept A)) (k : Kept A) (some : 1 ≤ length ks)
       → own ≡ own_said us (meant s r)) →
       own_nick (tape_of ks) ≡ option_or own (own_nick (tape_of (take (length ks - 1) ks)))
   own_last r own tells m read =
-      let e = ends_with ks k some last in
-      let items = tape_of older in
-      let tell = tells (settings_of items) in
-      let marks = (marked_split older k (subst IsMarkedTape e m)).0 in
-      ap (λ l. own_nick (tape_of l)) e
-      ∙ ap (λ (s : Standing). s.own) (standing_here older k)
-      ∙ ap (λ t. own_after t (standing items)) (sym tell)
-      ∙ own_by (meant (settings_of items) r) (standing items)
-      ∙ ap (λ o. option_or o (own_nick items))
-      (sym (read (settings_of items) (is_us (standing items))
-      (subst (λ t. IsMarked (is_us (standing items)) t k.marks) (sym tell) marks.marks)))
+      grind (arith, ends_with ks k some last, standing_here older k, marked_split older k)
 
   pub command_last : IsMarkedTape ks → state_command k.line ≡ Some k.command
-  command_last m =
-      ((marked_split older k (subst IsMarkedTape (ends_with ks k some last) m)).0).command
+  command_last m = grind (arith, ends_with ks k some last, marked_split older k)
 
   pub ready_last : IsMarkedTape ks → is_ready (tape_of ks) ≡ k.fixed
-  ready_last m =
-      let e = ends_with ks k some last in
-      ap (λ l. is_ready (tape_of l)) e ∙ fixed_here older k (subst IsMarkedTape e m)
+  ready_last m = grind (arith, ends_with ks k some last, fixed_here older k)
 
 pub last_shorter : {A : Type 0} (tape older : Heard) (said : Said A) → IsLast tape said older
     → length older.readings < length tape.readings
-last_shorter tape older said line = let e = ap length line.whole in omega (arith, e)
+last_shorter tape older said line = grind arith
 
 pub no_lines : {X : Type 0} (ks : List X) → length ks < 1 → ks ≡ []
 no_lines [] e = refl
@@ -260,8 +190,7 @@ pub record EndsWith {A : Type 0} (ks : List A) (i : ℕ) (x : A) : Type 0 where
 
 pub split_last : {A : Type 0} (ks : List A) (i : ℕ) (x : A) → suc i ≡ length ks → EndsWith ks i x
 split_last [] i x e = absurd (omega arith)
-split_last (k ∷ []) zero x e =
-    record { front = []; last = k; whole = refl; marked = refl; is = refl }
+split_last (k ∷ []) zero x e = grind arith
 split_last (k ∷ []) (suc i) x e = absurd (omega arith)
 split_last (k ∷ j ∷ ks) zero x e = absurd (omega arith)
 split_last (k ∷ j ∷ ks) (suc i) x e =

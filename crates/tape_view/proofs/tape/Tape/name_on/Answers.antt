@@ -1,5 +1,4 @@
-use Rattle.std.proofs.Common.{Some, None, sym, ◌∙◌}
-use Rattle.std.specs.Option.{option_map}
+use Rattle.std.proofs.Common.{None}
 use Rattle.irc_support.specs.Settings.{key_by}
 use Rattle.net_view.specs.Presence.{says_on}
 use Rattle.tape_view.proofs.LastLine.{asked}
@@ -7,12 +6,10 @@ use Rattle.tape_view.proofs.tape.Tape.name_on.Goals as goal
 
 pub returns-in-Some-says_on : goal.returns-in-Some-says_on
 returns-in-Some-says_on g c =
-    sym (c.loop-said.invariant
-    ∙ asked c.in-Some.ensures.last (λ s. says_on (key_by s c.args.channel.now)) None
-    (Some (option_map (λ n. n.now) c.in-Some-says_on.answer)) c.in-Some-says_on.ensures)
+    cc (asked c.in-Some.ensures.last (λ s. says_on (key_by s c.args.channel.now)) None _
+    c.in-Some-says_on.ensures)
 
 pub loop-said-preserved : goal.loop-said-preserved
 loop-said-preserved g c =
-    c.loop-said.invariant
-    ∙ asked c.in-Some.ensures.last (λ s. says_on (key_by s c.args.channel.now)) None None
-    c.in_default-says_on.ensures
+    cc (asked c.in-Some.ensures.last (λ s. says_on (key_by s c.args.channel.now)) None _
+    c.in_default-says_on.ensures)

@@ -8,11 +8,7 @@ use Rattle.tape_view.proofs.tape.Tape.ranks.Goals as goal
 use Rattle.tape_view.proofs.tape.Tape.ranks.Goals.{then-has_rank, else-has_rank}
 
 pub loop-rank-init : goal.loop-rank-init
-loop-rank-init g c =
-    c.none-ranks.ensures
-    ∙ sym (none_below
-    (rank_decided c.args.self.now.readings (key c.args.self.now c.args.channel.now)
-    (key c.args.self.now c.args.nick.now)))
+loop-rank-init g c = search (arith, none_below)
 
 pub loop-rank-preserved : goal.loop-rank-preserved
 loop-rank-preserved g c =

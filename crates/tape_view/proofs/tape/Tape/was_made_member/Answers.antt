@@ -1,33 +1,27 @@
-use Rattle.std.proofs.Common.{List, Some, None, false, refl, sym, ◌∙◌}
-use Rattle.irc_support.specs.Tokens.{Token}
+use Rattle.std.proofs.Common.{Some, None, false, refl}
 use Rattle.irc_support.specs.Settings.{key_by}
-use Rattle.net_view.specs.Members.{joins_as, said_of_member, says_member}
+use Rattle.net_view.specs.Members.{says_member}
 use Rattle.tape_view.proofs.LastLine.{asked_of, asked_here, still_on}
 use Rattle.tape_view.proofs.Stays.{silent_anew}
 use Rattle.tape_view.proofs.tape.Tape.was_made_member.Goals as goal
 
 pub returns-in-Some-says_member : goal.returns-in-Some-says_member
 returns-in-Some-says_member g c =
-    sym (c.loop-said.invariant.rest
-    ∙ asked_here c.in-Some.ensures.last (λ s. says_member (key_by s c.args.channel.now)) false
-    c.loop-said.name.now c.in-Some-says_member.answer c.in-Some-says_member.ensures)
+    cc (asked_here c.in-Some.ensures.last (λ s. says_member (key_by s c.args.channel.now)) false
+    c.loop-said.name.now _ c.in-Some-says_member.ensures)
 
 pub returns-in-None : goal.returns-in-None
 returns-in-None g c =
-    sym (c.loop-said.invariant.rest
-    ∙ asked_of c.in-Some.ensures.last (λ s. says_member (key_by s c.args.channel.now)) false
+    cc (asked_of c.in-Some.ensures.last (λ s. says_member (key_by s c.args.channel.now)) false
     c.loop-said.name.now None None c.in_default-says_member.ensures c.in-None.ensures)
 
 pub loop-said-preserved : goal.loop-said-preserved
-loop-said-preserved g c =
-    let says = λ (s : List Token). says_member (key_by s c.args.channel.now) in
-    let n = c.loop-said.name.now in
-    record {
-      on = still_on c.in-Some.ensures.last c.args.channel.now (λ s us t. says s us t (key_by s n))
-          None (λ us t. silent_anew _ us t (joins_as t (key_by c.loop-said.tape.settings n))
-          (said_of_member _ us t (key_by c.loop-said.tape.settings n)))
-          c.in_default-says_member.ensures refl c.loop-said.invariant.on;
-      rest = c.loop-said.invariant.rest
-          ∙ asked_of c.in-Some.ensures.last says false n None (Some c.in-Some-name_before.before)
-          c.in_default-says_member.ensures c.in-Some-name_before.ensures;
-    }
+loop-said-preserved g c = record {
+  on = still_on c.in-Some.ensures.last c.args.channel.now
+      (λ s us t. says_member (key_by s c.args.channel.now) us t (key_by s c.loop-said.name.now)) _
+      (λ us t. silent_anew _ us t _ _) c.in_default-says_member.ensures refl
+      c.loop-said.invariant.on;
+  rest = cc (asked_of c.in-Some.ensures.last (λ s. says_member (key_by s c.args.channel.now)) false
+      c.loop-said.name.now None (Some c.in-Some-name_before.before) c.in_default-says_member.ensures
+      c.in-Some-name_before.ensures);
+}

@@ -1,55 +1,25 @@
-use Rattle.std.proofs.Common.{◌≡◌, ◌∷◌, ◌++◌, [], sym, ap, ◌∙◌, arith}
+use Rattle.std.proofs.Common.{arith}
 use Rattle.std.proofs.lemmas.Bool.Decides.{nat_tests}
-use Rattle.net_view.specs.View.{view_back, view_of}
-use Rattle.net_view.specs.Step.{after}
-use Rattle.net_view.specs.Arrival.{Received, arrival_of}
-use Rattle.tape_view.specs.Kept.{tape_of}
 use Rattle.net_view.proofs.StepLaw.{view_step, view_back_step, view_unchanged}
 use Rattle.tape_view.proofs.TapeTake.{loss_kept, loss_taken, loss_of_nothing}
-use Rattle.std.specs.Prelude.{is_some}
-use Rattle.net_view.specs.StateLines.{is_state_line, may_need_memory}
-use Rattle.net_view.proofs.Tests.{false_true}
 use Rattle.net_view.proofs.Commands.{is_read}
 use Rattle.tape_view.proofs.tape_view.TapeViewNetworkView.take.Goals as goal
 
 pub returns-in_ok-keep-in-Line-clause-taken : goal.returns-in_ok-keep-in-Line-clause-taken
-returns-in_ok-keep-in-Line-clause-taken g c items e =
-    ap view_back c.in_ok-keep-in-Line.ensures.taken
-    ∙ view_back_step (Received c.in-Line.line) c.args.self.now
-    ∙ ap (λ v. after v (Received c.in-Line.line)) e
-    ∙ sym (view_step items (Received c.in-Line.line))
-    ∙ ap (λ x. view_of (items ++ arrival_of x ∷ [])) (sym c.in-Line.is)
+returns-in_ok-keep-in-Line-clause-taken g c items e = grind (arith, view_back_step, view_step)
 
 pub returns-in_default-clause-taken : goal.returns-in_default-clause-taken
-returns-in_default-clause-taken g c items e =
-    let line = c.in-Line.line in
-    e ∙ sym (view_unchanged items (Received line) (sym (is_read line)
-    ∙ ap is_some (sym c.in_default.ensures.value)))
-    ∙ ap (λ x. view_of (items ++ arrival_of x ∷ [])) (sym c.in-Line.is)
+returns-in_default-clause-taken g c items e = grind (arith, view_unchanged, is_read c.in-Line.line)
 
 pub returns-in_err-keep-in-Line-clause-free : goal.returns-in_err-keep-in-Line-clause-free
 returns-in_err-keep-in-Line-clause-free g c e =
-    let line = c.in-Line.line in
-    absurd (false_true (is_state_line line)
-    (ap (λ x. may_need_memory (arrival_of x)) (sym c.in-Line.is) ∙ e) (sym (is_read line)
-    ∙ ap is_some (sym c.in-Some.ensures.value)))
+    grind (arith, is_read c.in-Line.line, c.in-Some.ensures.value, c.in-Line.is)
 
 pub returns-then-not-is_empty-clause-taken : goal.returns-then-not-is_empty-clause-taken
-returns-then-not-is_empty-clause-taken g c items e =
-    let before : view_back (tape_of c.self.inside.kept.items) ≡ view_of items =
-    ap view_back c.self.view_is ∙ e in
-    loss_taken items c.self.inside.kept.items _ c.index_mut.result.now
-    (grind (arith, nat_tests, c.self.inside.kept.ok.0)) c.index_mut.ensures.value before
-    ∙ ap (λ x. view_of (items ++ arrival_of x ∷ [])) (sym c.in-Lost.is)
+returns-then-not-is_empty-clause-taken g c items e = grind (arith, loss_taken, nat_tests)
 
 pub returns-else-not-is_empty-clause-taken : goal.returns-else-not-is_empty-clause-taken
-returns-else-not-is_empty-clause-taken g c items e =
-    let before : view_back (tape_of c.self.inside.kept.items) ≡ view_of items =
-    ap view_back c.self.view_is ∙ e in
-    ap view_back (sym c.self.view_is)
-    ∙ loss_of_nothing items c.self.inside.kept.items
-    (grind (arith, nat_tests, c.self.inside.kept.ok.0)) before
-    ∙ ap (λ x. view_of (items ++ arrival_of x ∷ [])) (sym c.in-Lost.is)
+returns-else-not-is_empty-clause-taken g c items e = grind (arith, loss_of_nothing, nat_tests)
 
 pub invariant_of-self : goal.invariant_of-self
 invariant_of-self g c =
