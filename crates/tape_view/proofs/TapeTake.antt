@@ -2,7 +2,7 @@
 use Rattle.irc_support.specs.Tokens.{Token}
 use Rattle.std.specs.Prelude.{◌≡◌, is_some, ℕ, ◌+◌, ◌<◌, ◌^◌, suc, Bool, true, false, List}
 use Rattle.std.specs.Prelude.{[], ◌∷◌, ◌++◌, length, set, get_or, reverse}
-use Rattle.std.proofs.Common.{Option, Bor, codes, refl, arith, Some}
+use Rattle.std.proofs.Common.{Option, Bor, refl, arith, Some}
 use Rattle.std.proofs.lemmas.List.{reverse-append, reverse-reverse, get_or_default}
 use Rattle.irc_line.specs.Line.{Parts}
 use Rattle.irc_line.specs.Writing.{is_writable}
