@@ -1,56 +1,85 @@
 -- The maps of the view after an item, asked key by key, for any view before it.
-use native.Mathlib.Omega.{arith}
-use Rattle.std.specs.Prelude.{◌≡◌, ℕ, Bool, true, ◌++◌, is_some}
-use Rattle.std.specs.Option.{option_and_then, unwrap_or}
-use Rattle.std.specs.Cmp.{nat_cmp_total}
-use Rattle.std.specs.Cmp.Lexicographic.{nat_list_cmp_total}
+use Rattle.net_view.proofs.Words
+use Words.{◌≡◌, ◌++◌, ◌∙◌, arith, ℕ, Bool, true, is_some, option_and_then, unwrap_or, nat_cmp_total}
+use Words.{nat_list_cmp_total, Option, Text, bytes_cmp, Told, name_before, says_member, channels_in}
+use Words.{table_gets, Channel, Person, old_member, mode_after, member_after, channel_from}
+use Words.{channel_after, channels_after, is_seen, person_after, people_after, says_topic, false}
+use Words.{list_any, same, people_in, nat_cmp, eq_by_cmp, option_map_or, None, letters_in, []}
 use Rattle.std.specs.FinMap as fin
-use Rattle.std.proofs.Common.{Option}
-use Rattle.irc_support.specs.Text.{Text}
-use Rattle.net_view.specs.Names.{bytes_cmp}
-use Rattle.net_view.specs.Told.{Told}
-use Rattle.net_view.specs.LookBack.{name_before}
-use Rattle.net_view.specs.Members.{says_member}
-use Rattle.net_view.specs.Named.{channels_in}
-use Rattle.net_view.specs.Table.{table_gets}
-use Rattle.net_view.specs.View.{Channel, Person}
-use Rattle.net_view.specs.Step.{old_member, mode_after, member_after, channel_from, channel_after}
-use Rattle.net_view.specs.Step.{channels_after, is_seen, everyone, person_after, people_after}
-use Rattle.net_view.proofs.Tests.{absent, is_some_when}
-use Rattle.net_view.proofs.Keys.{bytes_exact, not_kept, met_at, some_key}
-use Rattle.net_view.proofs.ChannelStep.{channel_after_none, mode_after_none, member_after_none}
-use Rattle.net_view.proofs.People.{seen_none}
+use Rattle.net_view.specs.Step.{everyone}
+use Rattle.net_view.proofs.{Tests.absent, Tests.is_some_when, Keys.bytes_exact, Keys.not_kept}
+use Rattle.net_view.proofs.{Keys.met_at, Keys.some_key, People.seen_none, Covers.says_mode_none}
+use Rattle.net_view.proofs.{Covers.name_stays, Covers.says_member_none}
 
-pub get-channels_after : (us : Text → Bool) (t : Told) (cs : fin.FinMap bytes_cmp Channel)
-    (c : Text) → fin.get (channels_after us t cs) c ≡ channel_after us t c (fin.get cs c)
-get-channels_after us t cs =
-    table_gets nat_list_cmp_total bytes_exact (channels_in t
-    ++ fin.keys cs) (λ c. channel_after us t c (fin.get cs c))
-    (λ c h. grind (arith, absent, channel_after_none us t c, not_kept cs c))
+module _ (us : Text → Bool) (t : Told) where
+  -- ---- channels
 
-pub get-modes_after : (us : Text → Bool) (t : Told) (c : Text) (old : Option Channel) (name : Text)
-    (letter : ℕ)
-    → fin.get (channel_from us t c old name).modes letter ≡ mode_after us t c old letter
-get-modes_after us t c old name =
-    table_gets nat_cmp_total fin.nat_cmp-IsAntisymmetric _ _ (mode_after_none us t c old)
+  pub get-channels_after : (cs : fin.FinMap bytes_cmp Channel) (c : Text)
+      → fin.get (channels_after us t cs) c ≡ channel_after us t c (fin.get cs c)
+  get-channels_after cs =
+      table_gets nat_list_cmp_total bytes_exact (channels_in t ++ fin.keys cs) _
+      (λ c h. grind (arith, absent (same c) (channels_in t) _ h, not_kept cs c))
 
-pub get-members_after : (us : Text → Bool) (t : Told) (c : Text) (old : Option Channel)
-    (name n : Text) → fin.get (channel_from us t c old name).members n ≡ member_after us t c old n
-get-members_after us t c old name =
-    table_gets nat_list_cmp_total bytes_exact _ _ (member_after_none us t c old)
+  pub channels_are : (cs new : fin.FinMap bytes_cmp Channel)
+      → ((c : Text) → channel_after us t c (fin.get cs c) ≡ fin.get new c)
+      → channels_after us t cs ≡ new
+  channels_are cs new is =
+      fin.same_map nat_list_cmp_total bytes_exact _ new (λ c. get-channels_after cs c ∙ is c)
 
--- who is a member after the item
-pub contains-members_after : (us : Text → Bool) (t : Told) (c : Text) (old : Option Channel)
-    (name n : Text) → fin.contains_key (channel_from us t c old name).members n
-    ≡ unwrap_or (says_member c us t n)
-    (is_some (option_and_then (old_member old) (name_before us t n)))
-contains-members_after us t c old name n = simp (get-members_after, is_some_when)
+  -- ---- persons
 
-pub get-people_after : (us : Text → Bool) (t : Told) (cs : fin.FinMap bytes_cmp Channel)
-    (old : fin.FinMap bytes_cmp Person) (n : Text)
-    → fin.get (people_after us t cs old) n ≡ person_after us t cs old n
-get-people_after us t cs old =
-    table_gets nat_list_cmp_total bytes_exact (everyone cs) _ (λ n h. simp (seen_none cs _ n h))
+  module _ (cs : fin.FinMap bytes_cmp Channel) (old : fin.FinMap bytes_cmp Person) where
+    pub get-people_after : (n : Text)
+        → fin.get (people_after us t cs old) n ≡ person_after us t cs old n
+    get-people_after =
+        table_gets nat_list_cmp_total bytes_exact (everyone cs) _ (λ n h. simp (seen_none cs _ n h))
+
+    pub people_are : (new : fin.FinMap bytes_cmp Person)
+        → ((n : Text) → person_after us t cs old n ≡ fin.get new n) → people_after us t cs old ≡ new
+    people_are new is =
+        fin.same_map nat_list_cmp_total bytes_exact _ new (λ n. get-people_after n ∙ is n)
+
+  -- ---- a channel
+
+  members_named : (c : Text) (old : Option Channel) (n : Text)
+      → list_any (same n) (people_in t
+      ++ option_map_or (λ (ch : Channel). fin.keys ch.members) old []) ≡ false
+      → member_after us t c old n ≡ None
+  members_named c old n h =
+      let parts = absent (same n) (people_in t) _ h in
+      let gone : is_some (old_member old n) ≡ false = grind (arith, parts, fin.contains_key-keys) in
+      grind (arith, gone, parts, name_stays us t n, says_member_none c us t n)
+
+  module _ (c : Text) (old : Option Channel) where
+    pub get-modes_after : (name : Text) (letter : ℕ)
+        → fin.get (channel_from us t c old name).modes letter ≡ mode_after us t c old letter
+    get-modes_after name =
+        table_gets nat_cmp_total fin.nat_cmp-IsAntisymmetric
+        (letters_in t ++ option_map_or (λ (ch : Channel). fin.keys ch.modes) old []) _ (λ letter h.
+        grind (arith, absent (eq_by_cmp nat_cmp letter) (letters_in t), not_kept, says_mode_none))
+
+    pub get-members_after : (name n : Text)
+        → fin.get (channel_from us t c old name).members n ≡ member_after us t c old n
+    get-members_after name = table_gets nat_list_cmp_total bytes_exact _ _ (members_named c old)
+
+    -- who is a member after the item
+    pub contains-members_after : (name n : Text)
+        → fin.contains_key (channel_from us t c old name).members n
+        ≡ unwrap_or (says_member c us t n)
+        (is_some (option_and_then (old_member old) (name_before us t n)))
+    contains-members_after name n = simp (get-members_after, is_some_when)
+
+    pub channel_is : (is : Channel)
+        → unwrap_or (says_topic c us t) (option_and_then (λ ch. ch.topic) old) ≡ is.topic
+        → ((letter : ℕ) → mode_after us t c old letter ≡ fin.get is.modes letter)
+        → ((n : Text) → member_after us t c old n ≡ fin.get is.members n)
+        → channel_from us t c old is.name ≡ is
+    channel_is is topic modes members =
+        let ms = fin.same_map nat_cmp_total fin.nat_cmp-IsAntisymmetric _ is.modes
+        (λ letter. get-modes_after is.name letter ∙ modes letter) in
+        let ps = fin.same_map nat_list_cmp_total bytes_exact _ is.members
+        (λ n. get-members_after is.name n ∙ members n) in
+        λ i. record { name = is.name; topic = topic i; modes = ms i; members = ps i }
 
 -- a member of a channel is seen
 pub seen_in : (cs : fin.FinMap bytes_cmp Channel) (c n : Text)

@@ -1,24 +1,14 @@
 -- Which state line a line is: a line has one of the commands only.
-use native.Mathlib.Omega.{arith}
-use Rattle.std.specs.Prelude.{◌≡◌, Bool, true, false, cond, List, [], ◌∷◌, is_some}
-use Rattle.std.specs.List.{find, list_any}
-use Rattle.std.specs.Str.{str_eq_ignore_ascii_case}
-use Rattle.std.proofs.Common.{Some, refl, codes}
-use Rattle.std.proofs.lemmas.Slice.Eq.{bytes_eq-Decides}
-use Rattle.irc_line.specs.Line.{Parts, has_command}
-use Rattle.irc_support.specs.Text.{Text}
-use Rattle.irc_support.specs.Tokens.{Token}
-use Rattle.net_view.proofs.Tests.{or_false}
-use Rattle.net_view.specs.Told.{Told, Silent, Settles, Supports}
-use Rattle.net_view.specs.Arrival.{Received}
-use Rattle.net_view.specs.StateCommands.{command_text, state_commands, state_command}
+use Rattle.net_view.proofs.Words.{◌≡◌, ◌∷◌, arith, Bool, true, false, cond, List, [], is_some, find}
+use Rattle.net_view.proofs.Words.{list_any, str_eq_ignore_ascii_case, Some, codes, bytes_eq-Decides}
+use Rattle.net_view.proofs.Words.{Parts, has_command, Text, Token, Told, Silent, Received}
+use Rattle.net_view.proofs.Words.{command_text, state_commands, state_command, StateCommand}
+use Rattle.net_view.proofs.Words.{StateLine, state_lines, told}
 use Rattle.net_view.specs.StateCommands.{is_state_command, other_commands}
-use Rattle.net_view.specs.declared.state_command.StateCommand.{StateCommand}
-use Rattle.net_view.specs.StateLines.{StateLine, state_lines, told_by, is_of, is_state_line, told}
-use Rattle.net_view.specs.StateLines.{told_by_welcome, told_by_join, told_by_part, told_by_kick}
-use Rattle.net_view.specs.StateLines.{told_by_quit, told_by_nick, told_by_mode, told_by_mode_reply}
-use Rattle.net_view.specs.StateLines.{told_by_topic, told_by_topic_reply, told_by_no_topic}
-use Rattle.net_view.specs.StateLines.{told_by_names, told_by_account, told_by_away}
+use Rattle.net_view.specs.StateLines.{is_state_line, told_by_welcome, told_by_join, told_by_part}
+use Rattle.net_view.specs.StateLines.{told_by_mode_reply, told_by_topic_reply, told_by_names}
+use Rattle.net_view.specs.StateLines.{told_by_account, told_by_away, told_by_isupport}
+use Rattle.net_view.specs.StateLines.{told_by_end_of_motd}
 
 -- a line of a command has each other exactly where the two are one but for the case of letters
 pub has_command-named : (line : Parts) (name : Text) → has_command line name ≡ true → (other : Text)
@@ -52,8 +42,7 @@ is_state_by_name line name e = simp (has_command-named line name e)
 not_among : (names : List Text) → list_any is_state_command names ≡ false → (line : Parts)
     → list_any (has_command line) names ≡ true → is_state_line line ≡ false
 not_among [] h line e = cc
-not_among (name ∷ names) h line e =
-    grind (arith, is_state_by_name line name, not_among names, or_false)
+not_among (name ∷ names) h line e = grind (arith, is_state_by_name line, not_among names)
 
 pub no_state_line : (line : Parts) → list_any (has_command line) other_commands ≡ true
     → is_state_line line ≡ false
@@ -62,118 +51,66 @@ no_state_line line e = search (arith, not_among)
 
 -- ---- what the rows of a list tell
 
--- what a line of this command tells
-abbrev told_as : List StateLine → Text → List Token → Parts → Told
-told_as [] name settings line = Silent
-told_as (s ∷ lines) name settings line =
-    cond (str_eq_ignore_ascii_case name s.command) (s.tells settings line)
-    (told_as lines name settings line)
+module _ (settings : List Token) (line : Parts) where
+  -- what a line of this command tells
+  abbrev told_as : List StateLine → Text → Told
+  told_as [] name = Silent
+  told_as (s ∷ lines) name =
+      cond (str_eq_ignore_ascii_case name s.command) (s.tells settings line) (told_as lines name)
 
-told_by-named : (lines : List StateLine) (name : Text) (settings : List Token) (line : Parts)
-    → has_command line name ≡ true → told_by lines settings line ≡ told_as lines name settings line
-told_by-named [] name settings line e = refl
-told_by-named (s ∷ lines) name settings line e =
-    grind (arith, has_command-named, told_by-named lines name settings line e)
+  -- what is no state line tells nothing
+  pub told-unread : is_state_line line ≡ false → told settings (Received line) ≡ Silent
+  unfolding told state_lines
+  told-unread e = grind arith
 
--- what a line of none of these commands tells
-told_by_none : (lines : List StateLine) (settings : List Token) (line : Parts)
-    → is_of lines line ≡ false → told_by lines settings line ≡ Silent
-told_by_none [] settings line e = refl
-told_by_none (s ∷ lines) settings line e = grind (arith, told_by_none lines settings line)
+  -- what a line tells that was read to have this command
+  pub told_read : (it : StateCommand) → state_command line ≡ Some it
+      → told settings (Received line) ≡ told_as state_lines (command_text it)
+  unfolding told state_lines
+  told_read it e = simp (has_command-named line (command_text it) (has_found line it e))
 
--- what is no state line tells nothing
-pub told-unread : (settings : List Token) (line : Parts) → is_state_line line ≡ false
-    → told settings (Received line) ≡ Silent
-unfolding told
-told-unread settings line e = simp told_by_none
+  -- ---- what a line of each command tells
 
--- ---- what a line of each command tells
+  abbrev Tells : Text → (List Token → Parts → Told) → Type 0
+  Tells name tells =
+      has_command line name ≡ true → told settings (Received line) ≡ tells settings line
 
-pub told_of_welcome : (settings : List Token) (line : Parts) → has_command line (codes "001") ≡ true
-    → told settings (Received line) ≡ told_by_welcome settings line
-unfolding told state_lines
-told_of_welcome settings line e = grind arith
+  pub told_of_welcome : Tells (codes "001") told_by_welcome
+  unfolding told state_lines
+  told_of_welcome e = simp (has_command-named line (codes "001") e)
 
-pub told_of_isupport : (settings : List Token) (line : Parts)
-    → has_command line (codes "005") ≡ true → told settings (Received line) ≡ Supports line.params
-unfolding told state_lines
-told_of_isupport settings line e = told_by-named state_lines (codes "005") settings line e
+  pub told_of_isupport : Tells (codes "005") told_by_isupport
+  unfolding told state_lines
+  told_of_isupport e = simp (has_command-named line (codes "005") e)
 
-pub told_of_end_of_motd : (settings : List Token) (line : Parts)
-    → has_command line (codes "376") ≡ true → told settings (Received line) ≡ Settles
-unfolding told state_lines
-told_of_end_of_motd settings line e = told_by-named state_lines (codes "376") settings line e
+  pub told_of_no_motd : Tells (codes "422") told_by_end_of_motd
+  unfolding told state_lines
+  told_of_no_motd e = simp (has_command-named line (codes "422") e)
 
-pub told_of_no_motd : (settings : List Token) (line : Parts) → has_command line (codes "422") ≡ true
-    → told settings (Received line) ≡ Settles
-unfolding told state_lines
-told_of_no_motd settings line e = told_by-named state_lines (codes "422") settings line e
+  pub told_of_join : Tells (codes "JOIN") told_by_join
+  unfolding told state_lines
+  told_of_join e = simp (has_command-named line (codes "JOIN") e)
 
-pub told_of_join : (settings : List Token) (line : Parts) → has_command line (codes "JOIN") ≡ true
-    → told settings (Received line) ≡ told_by_join settings line
-unfolding told state_lines
-told_of_join settings line e = told_by-named state_lines (codes "JOIN") settings line e
+  pub told_of_part : Tells (codes "PART") told_by_part
+  unfolding told state_lines
+  told_of_part e = simp (has_command-named line (codes "PART") e)
 
-pub told_of_part : (settings : List Token) (line : Parts) → has_command line (codes "PART") ≡ true
-    → told settings (Received line) ≡ told_by_part settings line
-unfolding told state_lines
-told_of_part settings line e = told_by-named state_lines (codes "PART") settings line e
+  pub told_of_mode_reply : Tells (codes "324") told_by_mode_reply
+  unfolding told state_lines
+  told_of_mode_reply e = simp (has_command-named line (codes "324") e)
 
-pub told_of_kick : (settings : List Token) (line : Parts) → has_command line (codes "KICK") ≡ true
-    → told settings (Received line) ≡ told_by_kick settings line
-unfolding told state_lines
-told_of_kick settings line e = told_by-named state_lines (codes "KICK") settings line e
+  pub told_of_topic_reply : Tells (codes "332") told_by_topic_reply
+  unfolding told state_lines
+  told_of_topic_reply e = simp (has_command-named line (codes "332") e)
 
-pub told_of_quit : (settings : List Token) (line : Parts) → has_command line (codes "QUIT") ≡ true
-    → told settings (Received line) ≡ told_by_quit settings line
-unfolding told state_lines
-told_of_quit settings line e = told_by-named state_lines (codes "QUIT") settings line e
+  pub told_of_names : Tells (codes "353") told_by_names
+  unfolding told state_lines
+  told_of_names e = simp (has_command-named line (codes "353") e)
 
-pub told_of_nick : (settings : List Token) (line : Parts) → has_command line (codes "NICK") ≡ true
-    → told settings (Received line) ≡ told_by_nick settings line
-unfolding told state_lines
-told_of_nick settings line e = told_by-named state_lines (codes "NICK") settings line e
+  pub told_of_account : Tells (codes "ACCOUNT") told_by_account
+  unfolding told state_lines
+  told_of_account e = simp (has_command-named line (codes "ACCOUNT") e)
 
-pub told_of_mode : (settings : List Token) (line : Parts) → has_command line (codes "MODE") ≡ true
-    → told settings (Received line) ≡ told_by_mode settings line
-unfolding told state_lines
-told_of_mode settings line e = told_by-named state_lines (codes "MODE") settings line e
-
-pub told_of_mode_reply : (settings : List Token) (line : Parts)
-    → has_command line (codes "324") ≡ true
-    → told settings (Received line) ≡ told_by_mode_reply settings line
-unfolding told state_lines
-told_of_mode_reply settings line e = told_by-named state_lines (codes "324") settings line e
-
-pub told_of_topic : (settings : List Token) (line : Parts) → has_command line (codes "TOPIC") ≡ true
-    → told settings (Received line) ≡ told_by_topic settings line
-unfolding told state_lines
-told_of_topic settings line e = told_by-named state_lines (codes "TOPIC") settings line e
-
-pub told_of_topic_reply : (settings : List Token) (line : Parts)
-    → has_command line (codes "332") ≡ true
-    → told settings (Received line) ≡ told_by_topic_reply settings line
-unfolding told state_lines
-told_of_topic_reply settings line e = told_by-named state_lines (codes "332") settings line e
-
-pub told_of_no_topic : (settings : List Token) (line : Parts)
-    → has_command line (codes "331") ≡ true
-    → told settings (Received line) ≡ told_by_no_topic settings line
-unfolding told state_lines
-told_of_no_topic settings line e = told_by-named state_lines (codes "331") settings line e
-
-pub told_of_names : (settings : List Token) (line : Parts) → has_command line (codes "353") ≡ true
-    → told settings (Received line) ≡ told_by_names settings line
-unfolding told state_lines
-told_of_names settings line e = told_by-named state_lines (codes "353") settings line e
-
-pub told_of_account : (settings : List Token) (line : Parts)
-    → has_command line (codes "ACCOUNT") ≡ true
-    → told settings (Received line) ≡ told_by_account settings line
-unfolding told state_lines
-told_of_account settings line e = told_by-named state_lines (codes "ACCOUNT") settings line e
-
-pub told_of_away : (settings : List Token) (line : Parts) → has_command line (codes "AWAY") ≡ true
-    → told settings (Received line) ≡ told_by_away settings line
-unfolding told state_lines
-told_of_away settings line e = told_by-named state_lines (codes "AWAY") settings line e
+  pub told_of_away : Tells (codes "AWAY") told_by_away
+  unfolding told state_lines
+  told_of_away e = simp (has_command-named line (codes "AWAY") e)

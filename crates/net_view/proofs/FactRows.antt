@@ -1,10 +1,8 @@
 -- Modes, topics and what is known of persons: looked back through by computation.
-use Rattle.std.specs.Prelude.{◌≡◌, List, [], ◌∷◌, ◌++◌, map}
-use Rattle.std.proofs.Common.{Option, Some, None, refl, codes}
+use Rattle.net_view.proofs.Words.{◌≡◌, ◌∷◌, ◌++◌, List, [], map, Option, Some, None, refl, codes}
+use Rattle.net_view.proofs.Words.{Text, mode_of}
 use Prim.Native.String.{String}
-use Rattle.irc_support.specs.Text.{Text}
 use Rattle.net_view.specs.Topic.{topic_of}
-use Rattle.net_view.specs.Modes.{mode_of}
 use Rattle.net_view.proofs.Transcripts.{reading, read, member, members, joined, with_bob}
 
 -- the settings of these letters

@@ -1,9 +1,8 @@
 -- Facts of what an option or a list has.
-use native.Mathlib.Omega.{arith}
-use Rattle.std.specs.Prelude.{◌≡◌, Bool, true, cond, IfSome, List, [], ◌∷◌}
-use Rattle.std.specs.Option.{ForSome, option_and_then, unwrap_or}
-use Rattle.std.proofs.Common.{Option, None}
-use Rattle.net_view.specs.LookBack.{last_in}
+use Rattle.net_view.proofs.Words.{◌≡◌, ◌∷◌, arith, Bool, true, cond, IfSome, List, [], ForSome}
+use Rattle.net_view.proofs.Words.{Option, None, Parts, has_command, Token, Told, Silent, StateLine}
+use Rattle.net_view.proofs.Words.{state_lines, told, Received, last_in}
+use Rattle.net_view.specs.StateLines.{told_by}
 use Rattle.net_view.proofs.PartsSound.{Each}
 
 pub for_some : {X : Type 0} (P : X → Type 0) (o : Option X) → IfSome o P → ForSome o P
@@ -11,15 +10,6 @@ for_some P o h x e = grind arith
 
 pub if_some : {X : Type 0} (P : X → Type 0) (o : Option X) → ForSome o P → IfSome o P
 if_some P o h = grind arith
-
--- of a value said, or else of the one of before
-pub of_either : {X : Type 0} (P : X → Type 0) (said : Option (Option X)) (before : Option X)
-    → IfSome said (λ x. IfSome x P) → IfSome before P → IfSome (unwrap_or said before) P
-of_either P said before h k = grind arith
-
-pub of_next : {X Y : Type 0} (P : Y → Type 0) (o : Option X) (f : X → Option Y)
-    → ((x : X) → IfSome (f x) P) → IfSome (option_and_then f o) P
-of_next P o f h = grind arith
 
 pub of_test : {X : Type 0} (P : X → Type 0) (b : Bool) (o : Option X) → (b ≡ true → IfSome o P)
     → IfSome (cond b o None) P
@@ -30,3 +20,17 @@ pub of_last : {A B : Type 0} (P : A → Type 0) (Q : B → Type 0) (says : B →
     → ((b : B) → Q b → IfSome (says b) P) → (bs : List B) → Each Q bs → IfSome (last_in says bs) P
 of_last P Q says h [] e = tt
 of_last P Q says h (b ∷ bs) e = grind (arith, of_last P Q says h bs (e.1))
+
+-- of what a line tells, where it is so of what each state line tells whose command it has
+module _ (P : Told → Type 0) (settings : List Token) (line : Parts) (silent : P Silent) where
+  abbrev AreTold : List StateLine → Type 0
+  AreTold lines =
+      Each (λ (s : StateLine). has_command line s.command ≡ true → P (s.tells settings line)) lines
+
+  of_rows : (lines : List StateLine) → AreTold lines → P (told_by lines settings line)
+  of_rows [] each = silent
+  of_rows (s ∷ lines) each = grind (arith, of_rows lines (each.1))
+
+  pub of_told : AreTold state_lines → P (told settings (Received line))
+  unfolding told
+  of_told each = of_rows state_lines each

@@ -1,13 +1,9 @@
 -- What each of the seventeen state lines tells, under the default settings.
-use Rattle.std.specs.Prelude.{◌≡◌, true, false, [], ◌∷◌}
-use Rattle.std.proofs.Common.{Some, None, refl, codes}
+use Rattle.net_view.proofs.Words.{◌≡◌, ◌∷◌, true, false, [], Some, None, refl, codes, parts_of}
+use Rattle.net_view.proofs.Words.{Name, Told, Silent, Welcomed, Supports, Settles, Renamed, Parted}
+use Rattle.net_view.proofs.Words.{Kicked, Quits, Joined, Changed, Listed, Titled, Present}
+use Rattle.net_view.proofs.Words.{HasAccount, IsAway, Received, told}
 use Prim.Native.String.{String}
-use Rattle.irc_line.specs.Reading.{parts_of}
-use Rattle.net_view.specs.Names.{Name}
-use Rattle.net_view.specs.Told.{Told, Silent, Welcomed, Supports, Settles, Renamed, Parted, Kicked}
-use Rattle.net_view.specs.Told.{Quits, Joined, Changed, Listed, Titled, Present, HasAccount, IsAway}
-use Rattle.net_view.specs.Arrival.{Received}
-use Rattle.net_view.specs.StateLines.{told}
 use Rattle.net_view.proofs.Transcripts.{reading}
 
 abbrev tells : String → Told

@@ -1,13 +1,9 @@
 -- Who is a member and which ranks are held, which channels we are on, our own nick and the
 -- settings: looked back through by computation.
-use Rattle.std.specs.Prelude.{◌≡◌, true, false, List, [], ◌∷◌, ◌++◌, take}
-use Rattle.std.proofs.Common.{Option, Some, None, refl, codes}
+use Rattle.net_view.proofs.Words.{◌≡◌, ◌∷◌, ◌++◌, true, false, List, [], take, Option, Some, None}
+use Rattle.net_view.proofs.Words.{refl, codes, Text, Lost, readings_of, name_traced, name_on}
 use Prim.Native.String.{String}
-use Rattle.irc_support.specs.Text.{Text}
-use Rattle.net_view.specs.Arrival.{Lost}
-use Rattle.net_view.specs.Transcript.{standing, readings_of}
-use Rattle.net_view.specs.LookBack.{name_traced}
-use Rattle.net_view.specs.Presence.{name_on}
+use Rattle.net_view.specs.Transcript.{standing}
 use Rattle.net_view.proofs.Transcripts.{reading, heard, read, member, members, welcome, joined}
 use Rattle.net_view.proofs.Transcripts.{with_bob}
 

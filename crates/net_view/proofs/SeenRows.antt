@@ -1,13 +1,9 @@
 -- Which ranks a client without multi-prefix is shown, that came before the last k lines; and which
 -- accounts are kept.
-use Rattle.std.specs.Prelude.{◌≡◌, ℕ, Bool, true, false, List, [], ◌∷◌, ◌++◌}
-use Rattle.std.proofs.Common.{Option, Some, None, refl, codes}
+use Rattle.net_view.proofs.Words.{◌≡◌, ◌∷◌, ◌++◌, ℕ, Bool, true, false, List, [], Option, Some}
+use Rattle.net_view.proofs.Words.{None, refl, codes, Text, ranks_that, Reading, rank_decided}
+use Rattle.net_view.proofs.Words.{HeldCaps, all_caps, kept_person, thinned_ranks, was_shown}
 use Prim.Native.String.{String}
-use Rattle.irc_support.specs.Text.{Text}
-use Rattle.irc_support.specs.Ranks.{ranks_that}
-use Rattle.net_view.specs.Transcript.{Reading}
-use Rattle.net_view.specs.Members.{rank_decided}
-use Rattle.net_view.specs.Seen.{HeldCaps, all_caps, kept_person, thinned_ranks, was_shown}
 use Rattle.net_view.proofs.Transcripts.{reading, read, joined}
 
 -- whether multi-prefix, extended-join, account-notify and away-notify are held

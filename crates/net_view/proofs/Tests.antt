@@ -1,25 +1,19 @@
 -- Answers that are true or false, and options.
-use native.Mathlib.Omega.{arith}
-use Rattle.std.specs.Prelude.{◌≡◌, Bool, true, false, cond, ◌&&◌, ◌||◌, List, [], ◌∷◌, ◌++◌}
-use Rattle.std.specs.Prelude.{is_some}
-use Rattle.std.specs.List.{list_any}
-use Rattle.std.specs.Option.{option_or, option_map, unwrap_or}
-use Rattle.std.proofs.Common.{Option, Some, None, refl, sym, ◌∙◌}
+use Rattle.net_view.proofs.Words.{◌≡◌, ◌&&◌, ◌||◌, ◌∷◌, ◌++◌, arith, Bool, true, false, cond, List}
+use Rattle.net_view.proofs.Words.{[], is_some, list_any, option_or, option_map, unwrap_or, Option}
+use Rattle.net_view.proofs.Words.{Some, None, refl}
+use Rattle.std.proofs.lemmas.List.Folds.{list_any-append}
 
 pub or_false : (a b : Bool) → (a || b) ≡ false → (a ≡ false) × (b ≡ false)
 or_false a b e = grind arith
 
 pub any_append : {A : Type 0} (p : A → Bool) (xs ys : List A)
     → list_any p (xs ++ ys) ≡ (list_any p xs || list_any p ys)
-any_append p [] ys = refl
-any_append p (x ∷ xs) ys = grind (arith, any_append p xs ys)
+any_append p xs ys = list_any-append p xs ys
 
 pub absent : {A : Type 0} (p : A → Bool) (xs ys : List A) → list_any p (xs ++ ys) ≡ false
     → (list_any p xs ≡ false) × (list_any p ys ≡ false)
 absent p xs ys h = grind (arith, any_append)
-
-pub or_right : (a b : Bool) → b ≡ true → (a || b) ≡ true
-or_right a b e = grind arith
 
 pub no_true : false ≡ true → ⊥
 no_true e = cc
@@ -46,20 +40,14 @@ any_false p (x ∷ xs) h = grind (arith, any_false p xs h)
 pub both_or_neither : (a b : Bool) → (a ≡ true → b ≡ true) → (b ≡ true → a ≡ true) → a ≡ b
 both_or_neither a b f g = grind arith
 
-pub not_false : (b : Bool) → (b ≡ false → ⊥) → b ≡ true
-not_false b h = grind arith
-
 pub false_true : (b : Bool) → b ≡ false → b ≡ true → ⊥
-false_true b f t = no_true (sym f ∙ t)
+false_true b f t = cc
 
 pub is_some_when : {A : Type 0} (b : Bool) (x : A) → is_some (cond b (Some x) None) ≡ b
 is_some_when b x = grind arith
 
 pub is_some_map : {A B : Type 0} (f : A → B) (o : Option A) → is_some (option_map f o) ≡ is_some o
 is_some_map f o = grind arith
-
-pub and_false : (a b : Bool) → b ≡ false → (a && b) ≡ false
-and_false a b e = grind arith
 
 pub and_parts : (a b : Bool) → (a && b) ≡ true → (a ≡ true) × (b ≡ true)
 and_parts a b e = grind arith

@@ -1,20 +1,12 @@
 -- Worked transcripts as text.
-use Rattle.std.specs.Prelude.{ℕ, List, [], ◌∷◌, ◌++◌, map, reverse, if◌then◌else◌}
-use Rattle.std.proofs.Common.{Option, Some, None, codes, filter}
+use Rattle.net_view.proofs.Words.{◌∷◌, ◌++◌, ℕ, List, [], map, reverse, Option, Some, None, codes}
+use Rattle.net_view.proofs.Words.{filter, parts_of, Text, is_word, set_tokens, ranking_of}
+use Rattle.net_view.proofs.Words.{rank_count, ranks_that, kind_of, is_channel, changes, words}
+use Rattle.net_view.proofs.Words.{Arrival, Received, state_lines, told, Reading, readings_of}
+use Rattle.net_view.proofs.Words.{is_member, rank_decided}
 use Prim.Native.String.{String}
-use Rattle.irc_line.specs.Reading.{parts_of}
-use Rattle.irc_support.specs.Text.{Text, is_word}
-use Rattle.irc_support.specs.Tokens.{set_tokens}
-use Rattle.irc_support.specs.Ranking.{spelled_by, ranking_of}
-use Rattle.irc_support.specs.Ranks.{rank_count, ranks_that}
-use Rattle.irc_support.specs.ChanModes.{kind_of}
-use Rattle.irc_support.specs.Settings.{mapping_of, is_channel}
-use Rattle.irc_support.specs.ModeChanges.{changes}
-use Rattle.irc_support.specs.NamesReply.{words}
-use Rattle.net_view.specs.Arrival.{Arrival, Received}
-use Rattle.net_view.specs.StateLines.{state_lines, told}
-use Rattle.net_view.specs.Transcript.{Reading, readings_of}
-use Rattle.net_view.specs.Members.{is_member, rank_decided}
+use Rattle.std.proofs.Common.{if◌then◌else◌}
+use Rattle.irc_support.specs.{Ranking.spelled_by, Settings.mapping_of}
 use Rattle.net_view.specs.Facts.{spelling_of, account_of, away_of}
 
 -- what it takes to compute what transcripts mean

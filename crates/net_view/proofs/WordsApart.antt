@@ -1,13 +1,9 @@
 -- The words of a text that is cut at a space.
-use native.Mathlib.Omega.{arith}
-use Rattle.std.specs.Prelude.{◌≡◌, Bool, true, List, [], ◌∷◌, ◌++◌}
-use Rattle.std.specs.List.{slice_split, onto_first}
-use Rattle.std.proofs.Common.{refl}
+use Rattle.net_view.proofs.Words.{◌≡◌, ◌∷◌, ◌++◌, arith, Bool, true, List, [], slice_split, refl}
+use Rattle.net_view.proofs.Words.{Text, Token, words}
+use Rattle.std.specs.List.{onto_first}
 use Rattle.std.proofs.lemmas.List.{map-append}
 use Rattle.std.proofs.lemmas.List.Elements.{filter-append, filter_map-append}
-use Rattle.irc_support.specs.Text.{Text}
-use Rattle.irc_support.specs.Tokens.{Token}
-use Rattle.irc_support.specs.NamesReply.{words, words_between}
 use Rattle.net_view.specs.StateLines.{listings_of}
 
 onto_split : {X : Type 0} (p : X → Bool) (y : X) (a : List X) (zs : List (List X))
@@ -20,12 +16,9 @@ slice_split-append : {X : Type 0} (p : X → Bool) (a : List X) (x : X) (b : Lis
 slice_split-append p [] x b e = cc
 slice_split-append p (y ∷ a) x b e = grind (arith, onto_split, slice_split-append p a x b e)
 
-words_between-append : (a b : Text)
-    → words_between (a ++ 32 ∷ b) ≡ words_between a ++ words_between b
-words_between-append a b = simp (slice_split-append, filter-append)
-
 -- what a name list of two parts lists
 pub listings-append : (settings : List Token) (a b : Text)
     → listings_of settings (a ++ 32 ∷ b) ≡ listings_of settings a ++ listings_of settings b
 unfolding words
-listings-append settings a b = simp (words_between-append, map-append, filter_map-append)
+listings-append settings a b =
+    simp (slice_split-append, filter-append, map-append, filter_map-append)

@@ -1,46 +1,27 @@
 -- What being ready and what a name is worth.
-use native.Mathlib.Omega.{arith}
-use Rattle.std.specs.Prelude.{◌≡◌, ◌≢◌, true, false, cond, is_some, List, [], ◌∷◌}
-use Rattle.std.specs.Prelude.{◌++◌, reverse}
-use Rattle.std.specs.Option.{option_and_then}
+use Rattle.net_view.proofs.Words.{◌≡◌, ◌≢◌, ◌∷◌, ◌++◌, arith, Bool, true, false, is_some, List, []}
+use Rattle.net_view.proofs.Words.{reverse, Some, Text, key_by, same, Name, bytes_cmp, Welcomed}
+use Rattle.net_view.proofs.Words.{Quits, Renamed, Arrival, told, Standing, is_us, standing_after}
+use Rattle.net_view.proofs.Words.{readings_of, counts, name_traced, says_on, IsSaidLast, Channel}
+use Rattle.net_view.proofs.Words.{view_of, old_member, channels_after, is_seen, after}
 use Rattle.std.specs.FinMap as fin
-use Rattle.std.proofs.Common.{Some, None, refl, sym, ap, ◌∙◌}
-use Rattle.irc_support.specs.Text.{Text}
-use Rattle.irc_support.specs.Settings.{key_by}
-use Rattle.net_view.specs.Names.{same, Name}
-use Rattle.net_view.specs.Told.{Welcomed, Quits, Renamed}
-use Rattle.net_view.specs.Arrival.{Arrival}
-use Rattle.net_view.specs.StateLines.{told}
-use Rattle.net_view.specs.Transcript.{Standing, is_us, standing_after}
-use Rattle.net_view.specs.Transcript.{readings_of}
-use Rattle.net_view.specs.LookBack.{counts, name_traced}
-use Rattle.net_view.specs.Presence.{says_on}
-use Rattle.net_view.specs.Found.{IsSaidLast}
-use Rattle.net_view.specs.View.{Channel, View, welcomed_view, view_of}
-use Rattle.net_view.specs.Step.{standing_of, old_member, channels_after, is_seen, after_told, after}
-use Rattle.net_view.proofs.Tests.{no_true}
-use Rattle.net_view.proofs.Keys.{is_same, same_refl}
-use Rattle.net_view.proofs.Channels.{channels_get}
-use Rattle.net_view.proofs.StepLaw.{view_step}
-use Rattle.net_view.proofs.Emptied.{emptied}
-use Rattle.net_view.proofs.AfterMaps.{get-channels_after, seen_somewhere}
-use Rattle.net_view.proofs.LastWord.{last_found}
-use Rattle.net_view.proofs.MembersSpelled.{in_channel_after}
-use Rattle.net_view.proofs.SoundStep.{view_sound}
+use Rattle.net_view.specs.View.{welcomed_view}
+use Rattle.net_view.proofs.{Keys.is_same, Keys.same_refl, Channels.channels_get, StepLaw.view_step}
+use Rattle.net_view.proofs.{Emptied.emptied, AfterMaps.get-channels_after, AfterMaps.seen_somewhere}
+use Rattle.net_view.proofs.{LastWord.last_found, MembersSpelled.in_channel_after}
+use Rattle.net_view.proofs.{SoundStep.view_sound}
 
 -- ---- once ready
 
-pub settings_stay : (items : List Arrival) (x : Arrival) → (view_of items).ready ≡ true
-    → ((nick : Text) → told (view_of items).settings x ≢ Welcomed nick)
-    → (view_of (items ++ x ∷ [])).settings ≡ (view_of items).settings
-unfolding after
-settings_stay items x r no_welcome = grind (arith, view_step)
+module _ (items : List Arrival) (x : Arrival) (ready : (view_of items).ready ≡ true)
+    (no_welcome : (nick : Text) → told (view_of items).settings x ≢ Welcomed nick) where
+  pub settings_stay : (view_of (items ++ x ∷ [])).settings ≡ (view_of items).settings
+  unfolding after
+  settings_stay = grind (arith, view_step)
 
-pub ready_stays : (items : List Arrival) (x : Arrival) → (view_of items).ready ≡ true
-    → ((nick : Text) → told (view_of items).settings x ≢ Welcomed nick)
-    → (view_of (items ++ x ∷ [])).ready ≡ true
-unfolding after
-ready_stays items x r no_welcome = grind (arith, view_step, view_sound)
+  pub ready_stays : (view_of (items ++ x ∷ [])).ready ≡ true
+  unfolding after
+  ready_stays = grind (arith, view_step, view_sound)
 
 -- ---- a channel is spelled as in our last JOIN
 
@@ -58,26 +39,17 @@ pub after_welcome : (items : List Arrival) (x : Arrival) (nick : Text)
 unfolding after
 after_welcome items x nick e = grind (arith, view_step, emptied)
 
+-- nobody is seen after quitting
+quit_unseen : (us : Text → Bool) (cs : fin.FinMap bytes_cmp Channel) (n c : Text)
+    → is_some (old_member (fin.get (channels_after us (Quits n) cs) c) n) ≡ true → ⊥
+quit_unseen us cs n c h =
+    grind (arith, get-channels_after us (Quits n), in_channel_after us (Quits n), same_refl n)
+
 pub after_quit : (items : List Arrival) (x : Arrival) (n : Text)
     → told (view_of items).settings x ≡ Quits n
     → is_seen (view_of (items ++ x ∷ [])).channels n ≡ false
 unfolding after
-after_quit items x n e =
-    let v = view_of items in
-    let us = is_us (standing_of v) in
-    ap (λ (u : View). is_seen u.channels n) (view_step items x ∙ ap (after_told v) e)
-    ∙ elim (is_seen (channels_after us (Quits n) v.channels) n) as
-    (λ b. is_seen (channels_after us (Quits n) v.channels) n ≡ b → b ≡ false) [
-      | true ↦ λ h. let at = seen_somewhere (channels_after us (Quits n) v.channels) n h in
-          absurd (no_true (
-          sym (ap (λ b. is_some
-          (option_and_then (old_member (fin.get v.channels (at.0))) (cond b None (Some n))))
-          (same_refl n))
-          ∙ in_channel_after us (Quits n) (at.0) (fin.get v.channels (at.0)) n
-          (sym (ap (λ o. is_some (old_member o n))
-          (get-channels_after us (Quits n) v.channels (at.0))) ∙ at.1)))
-      | false ↦ λ h. refl
-    ] refl
+after_quit items x n e = grind (arith, view_step, seen_somewhere, quit_unseen)
 
 not_same : (a b : Text) → a ≢ b → same a b ≡ false
 not_same a b h = grind (arith, is_same)

@@ -1,9 +1,5 @@
-use Rattle.net_view.proofs.NameLists.{lists_add_up}
-use Rattle.net_view.proofs.WordsApart.{listings-append}
 use Rattle.net_view.proofs.facts.name_lists_add_up.Goals as goal
+use Rattle.net_view.proofs.{NameLists.lists_add_up, WordsApart.listings-append}
 
-pub returns-clause-lists : goal.returns-clause-lists
-returns-clause-lists c = lists_add_up
-
-pub returns-clause-words : goal.returns-clause-words
-returns-clause-words c = listings-append
+pub returns : goal.returns
+returns c = assumption (lists_add_up, listings-append)

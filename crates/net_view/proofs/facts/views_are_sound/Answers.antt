@@ -1,17 +1,6 @@
-use Rattle.net_view.proofs.SoundStep.{view_sound}
-use Rattle.net_view.proofs.FormSound.{view_formed}
-use Rattle.net_view.proofs.WrittenViews.{views_are_clean}
-use Rattle.net_view.proofs.Worth.{joined_as}
 use Rattle.net_view.proofs.facts.views_are_sound.Goals as goal
+use Rattle.net_view.proofs.{SoundStep.view_sound, FormSound.view_formed}
+use Rattle.net_view.proofs.{WrittenViews.views_are_clean, Worth.joined_as}
 
-pub returns-clause-sound : goal.returns-clause-sound
-returns-clause-sound c = view_sound
-
-pub returns-clause-joined : goal.returns-clause-joined
-returns-clause-joined c = joined_as
-
-pub returns-clause-formed : goal.returns-clause-formed
-returns-clause-formed c = view_formed
-
-pub returns-clause-clean : goal.returns-clause-clean
-returns-clause-clean c = views_are_clean
+pub returns : goal.returns
+returns c = assumption (view_sound, view_formed, views_are_clean, joined_as)

@@ -1,16 +1,13 @@
-use Rattle.std.proofs.Common.{◌≡◌, List, [], ◌∷◌, ◌++◌, sym, ap, ◌∙◌, append_assoc, append-nil}
-use Rattle.net_view.specs.Arrival.{Arrival}
-use Rattle.net_view.specs.View.{view_of}
-use Rattle.net_view.proofs.StepLaw.{view_is_state}
+use Rattle.net_view.proofs.Words.{◌≡◌, ◌∷◌, ◌++◌, List, [], append_assoc, Arrival, view_of}
 use Rattle.net_view.proofs.laws.a_view_is_a_state.Goals as goal
+use Rattle.std.proofs.Common.{append-nil}
+use Rattle.net_view.proofs.StepLaw.{view_is_state}
 
 stay : (items others more : List Arrival) → view_of items ≡ view_of others
     → view_of (items ++ more) ≡ view_of (others ++ more)
-stay items others [] e = ap view_of (append-nil items) ∙ e ∙ sym (ap view_of (append-nil others))
-stay items others (x ∷ more) e =
-    sym (ap view_of (append_assoc items (x ∷ []) more))
-    ∙ stay (items ++ x ∷ []) (others ++ x ∷ []) more (view_is_state items others x e)
-    ∙ ap view_of (append_assoc others (x ∷ []) more)
+stay items others [] e = simp append-nil e
+stay items others (x ∷ more) e = simp append_assoc at
+    (stay (items ++ x ∷ []) (others ++ x ∷ []) more (view_is_state items others x e))
 
 pub returns : goal.returns
 returns c = stay
