@@ -1,12 +1,15 @@
 -- The set of the ranks that pass a test, gathered rank by rank.
-use Rattle.std.specs.Prelude.{◌≡◌, ℕ, zero, suc, ◌+◌, ◌<◌, Bool, true, false, cond, ◌&&◌, ◌||◌}
-use Rattle.std.specs.Prelude.{◌==◌, nat_lt, []}
-use Rattle.std.specs.List.{range_with_len}
-use Rattle.std.proofs.Common.{refl, arith}
+use Rattle.tape_view.proofs.Words.{◌≡◌, ◌+◌, ◌<◌, ◌&&◌, ◌||◌, ◌==◌, List, ℕ, suc, Bool, true, false}
+use Rattle.tape_view.proofs.Words.{[], refl, arith, nat_tests, Text, Heard, key, rank_decided}
+use Rattle.tape_view.proofs.Words.{rank_count, ranks_that, has_rank}
+use Rattle.std.proofs.Common.{zero, nat_lt}
 use Rattle.std.proofs.lemmas.Bool.{eqb-true}
-use Rattle.std.proofs.lemmas.Bool.Decides.{nat_tests}
-use Rattle.irc_support.specs.Ranks.{rank_count, ranks_that, has_rank}
+use Rattle.std.specs.List.{range_with_len}
 use Rattle.net_view.proofs.RankSets.{is_rank, ranks_alike, has-ranks}
+
+-- the ranks that a member holds
+abbrev pub held : Heard → Text → Text → ℕ → Bool
+held tape channel nick = rank_decided tape.readings (key tape channel) (key tape nick)
 
 -- the ranks below this one that pass
 abbrev pub below : (ℕ → Bool) → ℕ → ℕ → Bool
@@ -18,7 +21,7 @@ in_range a (suc n) r h = grind (arith, eqb-true, in_range (a + 1) n r)
 
 small_rank : (r : ℕ) → is_rank r ≡ true → r < 16
 unfolding rank_count
-small_rank r h = in_range 0 16 r h
+small_rank = in_range 0 16
 
 pub none_below : (test : ℕ → Bool) → ranks_that (below test 0) ≡ []
 unfolding ranks_that rank_count
@@ -27,15 +30,11 @@ none_below test = refl
 pub all_below : (test : ℕ → Bool) → ranks_that (below test 16) ≡ ranks_that test
 all_below test = grind (arith, ranks_alike, small_rank, nat_tests)
 
-pub below_more : (test : ℕ → Bool) (k r : ℕ)
-    → below test (k + 1) r ≡ (cond (r == k) (test r) (below test k r))
-below_more test k r = grind arith
-
 -- one more rank, which passes
-pub rank_put : (test : ℕ → Bool) (k : ℕ) → test k ≡ true
-    → ranks_that (λ r. r == k || has_rank (ranks_that (below test k)) r)
-    ≡ ranks_that (below test (k + 1))
-rank_put test k held = grind (arith, ranks_alike, has-ranks, eqb-true, below_more)
+pub rank_put : (test : ℕ → Bool) (k : ℕ) (ranks : List ℕ) → ranks ≡ ranks_that (below test k)
+    → test k ≡ true
+    → ranks_that (λ r. r == k || has_rank ranks r) ≡ ranks_that (below test (k + 1))
+rank_put test k ranks so_far held = grind (arith, ranks_alike, has-ranks, eqb-true)
 
 -- and one that does not
 pub rank_left : (test : ℕ → Bool) (k : ℕ) → test k ≡ false

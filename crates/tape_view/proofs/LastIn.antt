@@ -1,24 +1,17 @@
 -- What the last of some parts says, found by going through them in order.
-use native.Mathlib.Omega.{arith}
-use Rattle.std.specs.Prelude.{◌≡◌, List, [], ◌∷◌}
-use Rattle.std.specs.List.{filter_map}
-use Rattle.std.specs.Option.{option_or, option_and_then, option_map}
-use Rattle.std.proofs.Common.{Option, None, refl}
-use Rattle.net_view.specs.LookBack.{last_in}
-
-pub or_none : {A : Type 0} (a : Option A) → option_or a None ≡ a
-or_none a = grind arith
+use Rattle.tape_view.proofs.Words.{◌≡◌, ◌∷◌, arith, List, [], filter_map, option_or}
+use Rattle.tape_view.proofs.Words.{option_and_then, option_map, Option, None, refl, last_in}
 
 -- parts that are found in others
 pub last_found : {A X Y : Type 0} (says : X → Option A) (find : Y → Option X) (ys : List Y)
     → last_in says (filter_map find ys) ≡ last_in (λ y. option_and_then says (find y)) ys
 last_found says find [] = refl
-last_found says find (y ∷ ys) = grind (arith, or_none, last_found says find ys)
+last_found says find (y ∷ ys) = grind (arith, last_found says find ys)
 
 -- the answer so far, before the parts that are left
 pub last_begun : {X Y : Type 0} (says : X → Option Y) (all left : List X) → left ≡ all
     → last_in says all ≡ option_or (last_in says left) None
-last_begun says all left e = grind (arith, or_none)
+last_begun says all left e = grind arith
 
 -- one more of them
 pub last_step : {X Y : Type 0} (says : X → Option Y) (whole so_far new : Option Y)

@@ -1,20 +1,11 @@
 -- What the changes of a line set of a letter.
-use native.Mathlib.Omega.{arith}
-use Rattle.std.specs.Prelude.{◌≡◌, ℕ, List}
-use Rattle.std.specs.List.{filter_map}
-use Rattle.std.specs.Option.{option_and_then}
-use Rattle.std.specs.Cmp.{nat_cmp_total}
-use Rattle.std.proofs.Common.{Option, None}
-use Rattle.irc_support.specs.Text.{Text}
-use Rattle.irc_support.specs.Tokens.{Token}
-use Rattle.irc_support.specs.ChanModes.{kind_of}
-use Rattle.irc_support.specs.ModeChanges.{ChangeParts}
-use Rattle.net_view.specs.StateLines.{mode_change, setting_by}
-use Rattle.net_view.specs.LookBack.{last_in}
-use Rattle.net_view.specs.Modes.{setting_of}
-use Rattle.tape_view.proofs.LastIn.{last_found}
+use Rattle.tape_view.proofs.Words.{◌≡◌, arith, ℕ, List, filter_map, option_and_then, nat_cmp_total}
+use Rattle.tape_view.proofs.Words.{Option, None, Text, Token, kind_of, ChangeParts, mode_change}
+use Rattle.tape_view.proofs.Words.{last_in, setting_of}
 use Rattle.std.specs.FinMap as fin
 use Rattle.net_view.proofs.KeyPlaces as places
+use Rattle.net_view.specs.StateLines.{setting_by}
+use Rattle.tape_view.proofs.LastIn.{last_found}
 
 -- what a change sets of a letter
 abbrev pub sets : List Token → ℕ → ChangeParts → Option (Option (Option Text))

@@ -1,3 +1,4 @@
+pub mod Words
 pub mod TapeLast
 pub mod TapeTake
 pub mod LastLine

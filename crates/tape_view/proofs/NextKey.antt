@@ -1,14 +1,10 @@
 -- The least key above another, in any order of keys, found among what items bring up.
-use native.Mathlib.Omega.{arith}
-use Rattle.std.specs.Prelude.{◌≡◌, Bool, true, false, not, ◌||◌, List, [], ◌∷◌}
-use Rattle.std.specs.List.{list_any}
-use Rattle.std.specs.Option.{IfSome, MatchOption}
-use Rattle.std.specs.declared.cmp.Ordering.{Ordering}
-use Rattle.std.specs.Ordering.{eq_by_cmp, is_lt}
-use Rattle.std.specs.Cmp.{IsTotalOrder}
+use Rattle.tape_view.proofs.Words.{◌≡◌, ◌||◌, ◌∷◌, arith, Bool, true, false, not, List, []}
+use Rattle.tape_view.proofs.Words.{list_any, Ordering, eq_by_cmp, IsTotalOrder, Option}
+use Rattle.tape_view.proofs.Words.{considered_by, IsNextBy}
 use Rattle.std.specs.FinMap as fin
-use Rattle.std.proofs.Common.{Option}
-use Rattle.net_view.specs.Least.{above_by, better_by, considered_by, IsNextBy}
+use Rattle.std.specs.{Option.IfSome, Option.MatchOption, Ordering.is_lt}
+use Rattle.net_view.specs.Least.{above_by, better_by}
 
 -- the same of the keys that pass another test
 pub record IsNextOf {K : Type 0} (R : K → K → Ordering) (there seen : K → Bool)
@@ -35,9 +31,11 @@ module _ {K : Type 0} {R : K → K → Ordering} (o : IsTotalOrder R) (exact : f
       || seen c) after (considered_by R there after best names)
   next_keys seen [] after best old = old
   next_keys seen (k ∷ names) after best old =
-      let more : K → Bool = λ c. eq_by_cmp R c k || seen c in
-      let now = next_considered seen after best k old in
-      grind (arith, now, next_keys more names after (better_by R there after best k))
+      grind (
+        arith,
+        next_considered seen after best k old,
+        next_keys (λ c. eq_by_cmp R c k || seen c) names after (better_by R there after best k),
+      )
 
   pub next_named : (now older : K → Bool) (names : List K) (after best : Option K)
       → ((c : K) → now c ≡ true → older c ≡ false → list_any (eq_by_cmp R c) names ≡ true) →

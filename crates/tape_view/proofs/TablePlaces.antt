@@ -1,24 +1,15 @@
 -- The keys of a table, by place.
-use Rattle.std.specs.Prelude.{◌≡◌, ℕ, suc, ◌+◌, ◌<◌, ◌≤◌, List, [], ◌∷◌}
-use Rattle.std.specs.Prelude.{length, is_some}
-use Rattle.std.specs.Cmp.Lexicographic.{nat_list_cmp_total}
+use Rattle.tape_view.proofs.Words.{◌≡◌, ◌+◌, ◌<◌, ◌≤◌, ◌∷◌, ℕ, suc, List, [], length, is_some}
+use Rattle.tape_view.proofs.Words.{nat_list_cmp_total, Option, Some, None, arith, Text, Table}
+use Rattle.tape_view.proofs.Words.{bytes_cmp, Reading, is_member, named, table, channels_of}
+use Rattle.tape_view.proofs.Words.{members_of, names_in, is_there, key_at, table_len, Heard}
 use Rattle.std.specs.FinMap as fin
-use Rattle.std.proofs.Common.{Option, Some, None, arith}
-use Rattle.irc_support.specs.Text.{Text}
-use Rattle.tape_view.specs.declared.places.Table.{Table}
 use Rattle.tape_view.specs.declared.places.Table.TheVariants.{Channels, Members}
-use Rattle.net_view.specs.Names.{bytes_cmp}
-use Rattle.net_view.specs.Transcript.{Reading}
-use Rattle.net_view.specs.Members.{is_member}
-use Rattle.net_view.specs.Named.{named}
-use Rattle.net_view.specs.Table.{table, put_some}
-use Rattle.net_view.specs.View.{channels_of, members_of}
-use Rattle.net_view.specs.Least.{IsNext}
-use Rattle.tape_view.specs.Places.{names_in, is_there, key_at, table_len}
-use Rattle.tape_view.specs.Tape.{Heard, key}
+use Rattle.net_view.specs.{Table.put_some, Least.IsNext}
 use Rattle.net_view.proofs.Channels.{channels_get, members_get}
-use Rattle.net_view.proofs.KeyPlaces as places
+use Rattle.net_view.proofs.KeyPlaces.{place_zero, place_next, place_none, place_end}
 use Rattle.net_view.proofs.Keys.{bytes_exact}
+use Rattle.std.proofs.lemmas.Option.{slice_get_within}
 
 channel_there : (tape : Heard) (c : Text)
     → is_some (fin.get (channels_of tape.readings) c) ≡ is_there tape Channels c
@@ -30,34 +21,32 @@ member_there rs c n = grind (arith, members_get)
 
 pub key_zero : (tape : Heard) (table : Table) (best : Option Text)
     → IsNext (is_there tape table) None best → best ≡ key_at tape table 0
-key_zero tape Channels = places.place_zero nat_list_cmp_total bytes_exact _ _ (channel_there tape)
+key_zero tape Channels = place_zero nat_list_cmp_total bytes_exact _ _ (channel_there tape)
 key_zero tape (Members channel) =
-    places.place_zero nat_list_cmp_total bytes_exact _ _ (member_there tape.readings _)
+    place_zero nat_list_cmp_total bytes_exact _ _ (member_there tape.readings _)
 
 pub key_next : (tape : Heard) (table : Table) (j : ℕ) (k : Text) (best : Option Text)
     → Some k ≡ key_at tape table j → IsNext (is_there tape table) (Some k) best
     → best ≡ key_at tape table (j + 1)
-key_next tape Channels = places.place_next nat_list_cmp_total bytes_exact _ _ (channel_there tape)
+key_next tape Channels = place_next nat_list_cmp_total bytes_exact _ _ (channel_there tape)
 key_next tape (Members channel) =
-    places.place_next nat_list_cmp_total bytes_exact _ _ (member_there tape.readings _)
+    place_next nat_list_cmp_total bytes_exact _ _ (member_there tape.readings _)
 
 pub key_none : (tape : Heard) (table : Table) (j i : ℕ) → None ≡ key_at tape table j → j ≤ i
     → None ≡ key_at tape table i
-key_none tape Channels = places.place_none nat_list_cmp_total bytes_exact _ _ (channel_there tape)
+key_none tape Channels = place_none nat_list_cmp_total bytes_exact _ _ (channel_there tape)
 key_none tape (Members channel) =
-    places.place_none nat_list_cmp_total bytes_exact _ _ (member_there tape.readings _)
+    place_none nat_list_cmp_total bytes_exact _ _ (member_there tape.readings _)
 
 pub key_below : (tape : Heard) (table : Table) (j : ℕ) (k : Text) → Some k ≡ key_at tape table j
     → j < table_len tape table
-key_below tape Channels = places.place_below nat_list_cmp_total bytes_exact _ _ (channel_there tape)
-key_below tape (Members channel) =
-    places.place_below nat_list_cmp_total bytes_exact _ _ (member_there tape.readings _)
+key_below tape table j k at = grind (arith, slice_get_within)
 
 pub key_end : (tape : Heard) (table : Table) (j : ℕ) → None ≡ key_at tape table j
     → j ≤ table_len tape table → j ≡ table_len tape table
-key_end tape Channels = places.place_end nat_list_cmp_total bytes_exact _ _ (channel_there tape)
+key_end tape Channels = place_end nat_list_cmp_total bytes_exact _ _ (channel_there tape)
 key_end tape (Members channel) =
-    places.place_end nat_list_cmp_total bytes_exact _ _ (member_there tape.readings _)
+    place_end nat_list_cmp_total bytes_exact _ _ (member_there tape.readings _)
 
 -- ---- there are at most as many as names are brought up
 
@@ -73,6 +62,5 @@ len_of_table (k ∷ ks) f = grind (arith, put_len, len_of_table ks f)
 
 pub len_few : (tape : Heard) (table : Table)
     → table_len tape table ≤ length (named (names_in table) tape.readings)
-len_few tape Channels = rw (← fin.len-entries (channels_of tape.readings)) (len_of_table _ _)
-len_few tape (Members channel) =
-    rw (← fin.len-entries (members_of tape.readings (key tape channel.now))) (len_of_table _ _)
+len_few tape Channels = rw (← fin.len-entries) (len_of_table _ _)
+len_few tape (Members channel) = rw (← fin.len-entries) (len_of_table _ _)

@@ -1,6 +1,4 @@
-use Rattle.std.proofs.Common.{◌≡◌, length}
-use Rattle.net_view.specs.Transcript.{own_nick}
-use Rattle.tape_view.specs.Kept.{tape_of, IsMarkedTape}
+use Rattle.tape_view.proofs.Words.{◌≡◌, length, own_nick, tape_of, IsMarkedTape}
 use Rattle.tape_view.proofs.kept.own_in.Given as goal
 
 abbrev pub invariant-loop-left : goal.invariant-loop-left

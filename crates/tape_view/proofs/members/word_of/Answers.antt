@@ -1,16 +1,10 @@
-use native.Mathlib.Omega.{arith}
-use Rattle.std.proofs.Common.{◌≡◌, Option, refl}
-use Rattle.std.specs.Option.{option_map}
-use Rattle.irc_support.specs.Line.{words_in}
-use Rattle.irc_support.specs.Ranks.{has_rank}
-use Rattle.irc_support.specs.Settings.{key_by}
-use Rattle.irc_support.specs.MemberShown.{shown_member}
+use Rattle.tape_view.proofs.Words.{◌≡◌, arith, Option, refl, option_map, words_in, has_rank, key_by}
+use Rattle.tape_view.proofs.Words.{shown_member, spelled_in}
 use Rattle.irc_support.specs.NamesReply as parsed
+use Rattle.tape_view.proofs.members.word_of.Goals as goal
 use Rattle.net_view.specs.Members.{rank_in_listing}
-use Rattle.net_view.specs.Facts.{spelled_in}
 use Rattle.tape_view.specs.declared.members.Word.{Word}
 use Rattle.tape_view.proofs.NameWords.{found_in_words, listed_so}
-use Rattle.tape_view.proofs.members.word_of.Goals as goal
 
 mapped : {X : Type 0} (f : parsed.Word → X) (o : Option Word)
     → option_map f (option_map (λ (w : Word). shown_member (w.ranks, w.nick)) o)
@@ -26,12 +20,11 @@ returns g c =
       listed = grind (arith, listed_so s n words);
       rank = λ rank. grind (
         arith,
-        found_in_words s n (rank_in_listing n rank) (λ word. has_rank
-            word.ranks rank) (λ word. refl) words,
+        found_in_words s n (rank_in_listing n rank) (λ word. has_rank word.ranks rank)
+            (λ word. refl) words,
       );
       spelled = grind (
         arith,
-        found_in_words s n (spelled_in n) (λ word. word.nick) (λ word. refl)
-            words,
+        found_in_words s n (spelled_in n) (λ word. word.nick) (λ word. refl) words,
       );
     }

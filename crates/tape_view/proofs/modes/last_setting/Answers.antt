@@ -1,8 +1,8 @@
-use native.Mathlib.Omega.{arith}
+use Rattle.tape_view.proofs.Words.{arith}
+use Rattle.tape_view.proofs.modes.last_setting.Goals as goal
 use Rattle.std.proofs.Common.{option_map}
 use Rattle.tape_view.proofs.LastIn.{last_begun, last_step, or_mapped}
 use Rattle.tape_view.proofs.LetterSettings.{sets, sets_it, sets_none, last_kept}
-use Rattle.tape_view.proofs.modes.last_setting.Goals as goal
 
 pub loop-change-init : goal.loop-change-init
 loop-change-init g c = search (arith, last_begun, sets)

@@ -1,8 +1,6 @@
-use Rattle.std.proofs.Common.{◌≡◌, ◌+◌, ◌<◌}
-use Rattle.std.specs.Prelude.{◌^◌}
-use Rattle.irc_support.specs.Line.{words_in}
-use Rattle.tape_view.proofs.NameWords.{listed_count}
+use Rattle.tape_view.proofs.Words.{◌≡◌, ◌+◌, ◌<◌, ◌^◌, words_in}
 use Rattle.tape_view.proofs.name_count.with_listed.Given as goal
+use Rattle.tape_view.proofs.NameWords.{listed_count}
 
 abbrev pub invariant-loop-ranks : goal.invariant-loop-ranks
 invariant-loop-ranks g l = record {

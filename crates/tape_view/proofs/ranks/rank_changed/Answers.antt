@@ -1,7 +1,7 @@
-use native.Mathlib.Omega.{arith}
+use Rattle.tape_view.proofs.Words.{arith}
+use Rattle.tape_view.proofs.ranks.rank_changed.Goals as goal
 use Rattle.tape_view.proofs.LastIn.{last_begun, last_found, last_step}
 use Rattle.tape_view.proofs.NameWords.{rank_set}
-use Rattle.tape_view.proofs.ranks.rank_changed.Goals as goal
 
 pub loop-change-init : goal.loop-change-init
 loop-change-init g c = search (arith, rank_set, last_begun)

@@ -1,6 +1,6 @@
-use Rattle.std.proofs.Common.{arith}
-use Rattle.tape_view.proofs.TablePlaces.{key_zero, key_next, key_none}
+use Rattle.tape_view.proofs.Words.{arith}
 use Rattle.tape_view.proofs.tape.Tape.at.Goals as goal
+use Rattle.tape_view.proofs.TablePlaces.{key_zero, key_next, key_none}
 
 pub loop-place-init : goal.loop-place-init
 loop-place-init g c = search (arith, key_zero)

@@ -1,7 +1,6 @@
-use Rattle.std.proofs.Common.{◌≡◌, option_map}
-use Rattle.net_view.specs.Least.{key_in}
-use Rattle.tape_view.specs.Places.{key_at}
+use Rattle.tape_view.proofs.Words.{◌≡◌, key_in, key_at}
 use Rattle.tape_view.proofs.tape.Tape.at.Given as goal
+use Rattle.std.proofs.Common.{option_map}
 
 abbrev pub invariant-loop-place : goal.invariant-loop-place
 invariant-loop-place g l =

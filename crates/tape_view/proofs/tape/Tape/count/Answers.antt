@@ -1,6 +1,6 @@
-use Rattle.std.proofs.Common.{arith}
-use Rattle.tape_view.proofs.TablePlaces.{key_zero, key_next, key_below, key_end, len_few}
+use Rattle.tape_view.proofs.Words.{arith}
 use Rattle.tape_view.proofs.tape.Tape.count.Goals as goal
+use Rattle.tape_view.proofs.TablePlaces.{key_zero, key_next, key_below, key_end, len_few}
 
 pub loop-at-init : goal.loop-at-init
 loop-at-init g c = search (arith, key_zero)

@@ -1,7 +1,4 @@
-use Rattle.std.proofs.Common.{◌≡◌, ◌≤◌, ◌-◌}
-use Rattle.std.specs.Option.{option_map}
-use Rattle.net_view.specs.Least.{key_in}
-use Rattle.tape_view.specs.Places.{key_at, table_len}
+use Rattle.tape_view.proofs.Words.{◌≡◌, ◌≤◌, ◌-◌, option_map, key_in, key_at, table_len}
 use Rattle.tape_view.proofs.tape.Tape.count.Given as goal
 
 abbrev pub invariant-loop-at : goal.invariant-loop-at

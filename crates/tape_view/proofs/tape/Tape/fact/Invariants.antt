@@ -1,7 +1,4 @@
-use Rattle.std.proofs.Common.{◌≡◌, true, length}
-use Rattle.net_view.specs.Facts.{in_sight, known}
-use Rattle.tape_view.specs.Tape.{key}
-use Rattle.tape_view.specs.FactKinds.{says_of}
+use Rattle.tape_view.proofs.Words.{◌≡◌, true, length, in_sight, known, key, says_of}
 use Rattle.tape_view.proofs.tape.Tape.fact.Given as goal
 
 abbrev pub invariant-loop-said : goal.invariant-loop-said

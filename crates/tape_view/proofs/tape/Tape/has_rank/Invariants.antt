@@ -1,7 +1,4 @@
-use Rattle.std.proofs.Common.{◌≡◌, true, length}
-use Rattle.net_view.specs.Presence.{is_on}
-use Rattle.net_view.specs.Members.{rank_decided}
-use Rattle.tape_view.specs.Tape.{key}
+use Rattle.tape_view.proofs.Words.{◌≡◌, true, length, is_on, rank_decided, key}
 use Rattle.tape_view.proofs.tape.Tape.has_rank.Given as goal
 
 abbrev pub invariant-loop-said : goal.invariant-loop-said

@@ -1,7 +1,6 @@
-use Rattle.std.proofs.Common.{◌≡◌, length}
-use Rattle.tape_view.specs.Tape.{key}
-use Rattle.tape_view.proofs.SightLine.{AreOn}
+use Rattle.tape_view.proofs.Words.{◌≡◌, length, key}
 use Rattle.tape_view.proofs.tape.Tape.is_in_sight.Given as goal
+use Rattle.tape_view.proofs.SightLine.{AreOn}
 
 abbrev pub invariant-loop-said : goal.invariant-loop-said
 invariant-loop-said g l = record {

@@ -1,6 +1,6 @@
-use Rattle.std.proofs.Common.{arith}
-use Rattle.tape_view.proofs.LetterLine.{letter_zero, letter_next, letter_none}
+use Rattle.tape_view.proofs.Words.{arith}
 use Rattle.tape_view.proofs.tape.Tape.letter_at.Goals as goal
+use Rattle.tape_view.proofs.LetterLine.{letter_zero, letter_next, letter_none}
 
 pub loop-place-init : goal.loop-place-init
 loop-place-init g c = search (arith, letter_zero)

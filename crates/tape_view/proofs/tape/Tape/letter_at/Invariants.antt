@@ -1,6 +1,4 @@
-use Rattle.std.proofs.Common.{◌≡◌}
-use Rattle.tape_view.specs.Tape.{key}
-use Rattle.tape_view.specs.Letters.{letter_shown}
+use Rattle.tape_view.proofs.Words.{◌≡◌, key, letter_shown}
 use Rattle.tape_view.proofs.tape.Tape.letter_at.Given as goal
 
 abbrev pub invariant-loop-place : goal.invariant-loop-place

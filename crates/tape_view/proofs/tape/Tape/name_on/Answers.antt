@@ -1,8 +1,6 @@
-use Rattle.std.proofs.Common.{None}
-use Rattle.irc_support.specs.Settings.{key_by}
-use Rattle.net_view.specs.Presence.{says_on}
-use Rattle.tape_view.proofs.LastLine.{asked}
+use Rattle.tape_view.proofs.Words.{None, key_by, says_on}
 use Rattle.tape_view.proofs.tape.Tape.name_on.Goals as goal
+use Rattle.tape_view.proofs.LastLine.{asked}
 
 pub returns-in-Some-says_on : goal.returns-in-Some-says_on
 returns-in-Some-says_on g c =

@@ -1,6 +1,4 @@
-use Rattle.std.proofs.Common.{◌≡◌, length}
-use Rattle.net_view.specs.Presence.{name_on}
-use Rattle.tape_view.specs.Tape.{key}
+use Rattle.tape_view.proofs.Words.{◌≡◌, length, name_on, key}
 use Rattle.tape_view.proofs.tape.Tape.name_on.Given as goal
 
 abbrev pub invariant-loop-said : goal.invariant-loop-said

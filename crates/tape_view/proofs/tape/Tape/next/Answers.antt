@@ -1,8 +1,6 @@
-use native.Mathlib.Omega.{arith}
-use Rattle.std.proofs.Common.{◌∙◌}
-use Rattle.tape_view.proofs.NextKey.{next_all}
-use Rattle.tape_view.proofs.TableLine.{gone, next_line}
+use Rattle.tape_view.proofs.Words.{◌∙◌, arith}
 use Rattle.tape_view.proofs.tape.Tape.next.Goals as goal
+use Rattle.tape_view.proofs.{NextKey.next_all, TableLine.gone, TableLine.next_line}
 
 pub loop-said-preserved : goal.loop-said-preserved
 loop-said-preserved g c =

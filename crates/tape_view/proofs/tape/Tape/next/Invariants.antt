@@ -1,9 +1,7 @@
-use Rattle.std.proofs.Common.{◌≡◌, not, option_map, length}
-use Rattle.net_view.specs.Names.{bytes_cmp}
-use Rattle.net_view.specs.Least.{key_in}
-use Rattle.tape_view.specs.Places.{is_there}
-use Rattle.tape_view.proofs.NextKey.{IsNextOf}
+use Rattle.tape_view.proofs.Words.{◌≡◌, not, length, bytes_cmp, key_in, is_there}
 use Rattle.tape_view.proofs.tape.Tape.next.Given as goal
+use Rattle.std.proofs.Common.{option_map}
+use Rattle.tape_view.proofs.NextKey.{IsNextOf}
 
 abbrev pub invariant-loop-said : goal.invariant-loop-said
 invariant-loop-said g l = record {

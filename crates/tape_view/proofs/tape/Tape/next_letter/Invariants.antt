@@ -1,10 +1,6 @@
-use Rattle.std.proofs.Common.{◌≡◌, true, not, length}
-use Rattle.std.specs.Ordering.{nat_cmp}
-use Rattle.net_view.specs.Presence.{is_on}
-use Rattle.tape_view.specs.Tape.{key}
-use Rattle.tape_view.specs.Letters.{is_set}
-use Rattle.tape_view.proofs.NextKey.{IsNextOf}
+use Rattle.tape_view.proofs.Words.{◌≡◌, true, not, length, nat_cmp, is_on, key, is_set}
 use Rattle.tape_view.proofs.tape.Tape.next_letter.Given as goal
+use Rattle.tape_view.proofs.NextKey.{IsNextOf}
 
 abbrev pub invariant-loop-said : goal.invariant-loop-said
 invariant-loop-said g l = record {

@@ -1,4 +1,4 @@
-use native.Mathlib.Omega.{arith}
+use Rattle.tape_view.proofs.Words.{arith}
 use Rattle.tape_view.proofs.tape.Tape.says_fact.Goals as goal
 
 pub returns-in-Account : goal.returns-in-Account

@@ -1,4 +1,4 @@
-use native.Mathlib.Omega.{arith}
+use Rattle.tape_view.proofs.Words.{arith}
 use Rattle.tape_view.proofs.tape.Tape.spelled.Goals as goal
 
 pub returns-then-not-is_on : goal.returns-then-not-is_on

@@ -1,10 +1,10 @@
-use native.Mathlib.Omega.{arith}
-use Rattle.tape_view.proofs.TapeLast.{command_last, off_none, off_after, readable_older, is_last}
-use Rattle.tape_view.proofs.TapeLast.{last_shorter, no_lines}
+use Rattle.tape_view.proofs.Words.{arith}
 use Rattle.tape_view.proofs.tape.Tape.split_last.Goals as goal
+use Rattle.tape_view.proofs.TapeLast.{command_last, tape_none, off_after, readable_older, is_last}
+use Rattle.tape_view.proofs.TapeLast.{no_lines}
 
 pub returns-in_default-clause-none : goal.returns-in_default-clause-none
-returns-in_default-clause-none g c = search (arith, no_lines, off_none)
+returns-in_default-clause-none g c = grind (arith, no_lines, tape_none)
 
 pub returns-then-last-clause-none : goal.returns-then-last-clause-none
 returns-then-last-clause-none g c = search (arith, off_after)
@@ -19,4 +19,4 @@ pub returns-clause-last : goal.returns-clause-last
 returns-clause-last g c = search (arith, is_last)
 
 pub returns-clause-shorter : goal.returns-clause-shorter
-returns-clause-shorter g c = last_shorter _ _ _ (returns-clause-last g c)
+returns-clause-shorter g c = search (arith, returns-clause-last g c)

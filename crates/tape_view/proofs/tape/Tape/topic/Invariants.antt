@@ -1,8 +1,6 @@
-use Rattle.std.proofs.Common.{◌≡◌, true, length}
-use Rattle.net_view.specs.Presence.{is_on}
-use Rattle.net_view.specs.Topic.{topic_of}
-use Rattle.tape_view.specs.Tape.{key}
+use Rattle.tape_view.proofs.Words.{◌≡◌, true, length, is_on, key}
 use Rattle.tape_view.proofs.tape.Tape.topic.Given as goal
+use Rattle.net_view.specs.Topic.{topic_of}
 
 abbrev pub invariant-loop-said : goal.invariant-loop-said
 invariant-loop-said g l = record {

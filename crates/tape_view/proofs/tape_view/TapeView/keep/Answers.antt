@@ -1,7 +1,6 @@
-use native.Mathlib.Omega.{arith}
-use Rattle.tape_view.proofs.Counted.{counted_so}
-use Rattle.tape_view.proofs.TapeTake.{line_kept, pushed_tape}
+use Rattle.tape_view.proofs.Words.{arith}
 use Rattle.tape_view.proofs.tape_view.TapeView.keep.Goals as goal
+use Rattle.tape_view.proofs.{Counted.counted_so, TapeLast.tape_push, TapeTake.line_kept}
 
 pub invariant_of-self-3 : goal.invariant_of-self-3
 invariant_of-self-3 g c =
@@ -14,12 +13,4 @@ invariant_of-self-3 g c =
     )
 
 pub returns-clause-taken : goal.returns-clause-taken
-returns-clause-taken g c =
-    grind (
-      arith,
-      pushed_tape,
-      c.push_reserved.ensures.items,
-      c.reserve.ensures.items,
-      c.in_ok-kept.ensures.line,
-      c.self.view_is,
-    )
+returns-clause-taken g c = search (arith, tape_push)

@@ -1,12 +1,9 @@
-use native.Mathlib.Omega.{arith}
-use Rattle.std.proofs.Common.{ap, ◌∙◌}
-use Rattle.tape_view.specs.Kept.{tape_of}
-use Rattle.tape_view.proofs.Counted.{none_counted}
-use Rattle.tape_view.proofs.TapeTake.{tape_none, none_marked, no_settings_yet}
+use Rattle.tape_view.proofs.Words.{arith}
 use Rattle.tape_view.proofs.tape_view.TapeView.new.Goals as goal
+use Rattle.tape_view.proofs.{TapeLast.tape_none, TapeTake.none_whole}
 
 pub returns : goal.returns
-returns g c = ap tape_of c.new-2.ensures.items ∙ tape_none _
+returns g c = grind (arith, tape_none)
 
 pub invariant_of-result : goal.invariant_of-result
-invariant_of-result g c = search (arith, none_marked, no_settings_yet, none_counted, tape_none)
+invariant_of-result g c = none_whole _ _ c.new-2.ensures.items (cc c.in_ok-support.ensures)

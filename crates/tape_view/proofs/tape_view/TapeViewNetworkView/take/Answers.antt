@@ -1,9 +1,8 @@
-use Rattle.std.proofs.Common.{arith}
-use Rattle.std.proofs.lemmas.Bool.Decides.{nat_tests}
-use Rattle.net_view.proofs.StepLaw.{view_step, view_back_step, view_unchanged}
-use Rattle.tape_view.proofs.TapeTake.{loss_kept, loss_taken, loss_of_nothing}
-use Rattle.net_view.proofs.Commands.{is_read}
+use Rattle.tape_view.proofs.Words.{arith, nat_tests}
 use Rattle.tape_view.proofs.tape_view.TapeViewNetworkView.take.Goals as goal
+use Rattle.net_view.proofs.StepLaw.{view_step, view_back_step, view_unchanged}
+use Rattle.net_view.proofs.Commands.{is_read}
+use Rattle.tape_view.proofs.TapeTake.{loss_kept, loss_taken, loss_of_nothing}
 
 pub returns-in_ok-keep-in-Line-clause-taken : goal.returns-in_ok-keep-in-Line-clause-taken
 returns-in_ok-keep-in-Line-clause-taken g c items e = grind (arith, view_back_step, view_step)
@@ -12,8 +11,7 @@ pub returns-in_default-clause-taken : goal.returns-in_default-clause-taken
 returns-in_default-clause-taken g c items e = grind (arith, view_unchanged, is_read c.in-Line.line)
 
 pub returns-in_err-keep-in-Line-clause-free : goal.returns-in_err-keep-in-Line-clause-free
-returns-in_err-keep-in-Line-clause-free g c e =
-    grind (arith, is_read c.in-Line.line, c.in-Some.ensures.value, c.in-Line.is)
+returns-in_err-keep-in-Line-clause-free g c e = grind (arith, is_read c.in-Line.line)
 
 pub returns-then-not-is_empty-clause-taken : goal.returns-then-not-is_empty-clause-taken
 returns-then-not-is_empty-clause-taken g c items e = grind (arith, loss_taken, nat_tests)
@@ -23,6 +21,5 @@ returns-else-not-is_empty-clause-taken g c items e = grind (arith, loss_of_nothi
 
 pub invariant_of-self : goal.invariant_of-self
 invariant_of-self g c =
-    loss_kept c.self.inside.kept.items _ c.index_mut.result.now c.self.inside.support
-    c.self.inside.names (grind (arith, nat_tests, c.self.inside.kept.ok.0))
-    c.index_mut.ensures.value c.self.invariant
+    loss_kept _ _ _ (grind (arith, nat_tests, c.self.inside.kept.ok.0))
+    c.index_mut.ensures.value _ _ c.self.invariant
