@@ -8,9 +8,11 @@ use Words.{Arrival, Channel, Person, View, view_of, channel_after, channels_afte
 use Words.{had_rank, is_seen, old_member, person_from, told_person, true, is_us, standing_of}
 use Words.{after_told, person_after}
 use Rattle.std.specs.FinMap as fin
-use Rattle.net_view.proofs.{Keys.bytes_exact, Keys.is_same, Keys.same_refl, FormSound.view_ranked}
-use Rattle.net_view.proofs.{SoundStep.view_sound, AfterMaps.seen_in, AfterMaps.seen_somewhere}
-use Rattle.net_view.proofs.{AfterMaps.people_are, AfterMaps.channels_are, AfterMaps.channel_is}
+use Rattle.net_view.proofs.{FormSound.view_ranked, SoundStep.view_sound}
+use Rattle.net_view.proofs.Keys.{bytes_exact, same_by_keys}
+use Rattle.net_view.proofs.AfterMaps.{channels_are, people_are, seen_somewhere}
+pub use Rattle.net_view.proofs.AfterMaps.{channel_is, seen_in}
+pub use Rattle.net_view.proofs.Keys.{is_same, same_refl}
 
 -- each member's ranks are a set
 abbrev pub AreSets : Channel → Type 0
@@ -30,11 +32,6 @@ member_stays ch sets n =
     elim (fin.get ch.members n) as (λ o. ForSome o (λ ranks. ranks_that (has_rank ranks) ≡ ranks)
     → cond (is_some o) (Some (ranks_that (λ rank. had_rank rank o))) None ≡ o)
     [ None ↦ λ s. refl | Some ranks ↦ λ s. ap Some (s ranks refl) ] (sets n)
-
--- a person of whom nothing is said
-pub person_stays : (b : Bool) (old : Option Person) → is_some old ≡ b
-    → cond b (Some (told_person None None None old)) None ≡ old
-person_stays b old e = grind arith
 
 -- ---- what the laws of the step ask of a view
 
@@ -58,10 +55,12 @@ view_knowing items = (view_sound items).known
 
 -- the view after an item, from its channels and persons
 pub view_after : (v : View) (t : Told) (cs : fin.FinMap bytes_cmp Channel)
-    (ps : fin.FinMap bytes_cmp Person) → channels_after (us_of v) t v.channels ≡ cs
+    (ps : fin.FinMap bytes_cmp Person)
+    → ((c : Text) → channel_after (us_of v) t c (fin.get v.channels c) ≡ fin.get cs c)
     → ((n : Text) → person_after (us_of v) t cs v.people n ≡ fin.get ps n)
     → after_told v t ≡ record (after_told v t) { channels = cs; people = ps }
-view_after v t cs ps are is = simp (are, people_are (us_of v) t cs v.people ps is)
+view_after v t cs ps are is =
+    simp (channels_are (us_of v) t v.channels cs are, people_are (us_of v) t cs v.people ps is)
 
 -- ---- what is asked of a map in which something was put, or of which something was taken out
 
@@ -75,19 +74,21 @@ get_out = fin.get-remove nat_list_cmp_total
 
 pub get_kept : {X : Type 0} (m : fin.FinMap bytes_cmp X) (keeps : Text → Bool) (q : Text)
     → fin.get (fin.retain_keys m keeps) q ≡ cond (keeps q) (fin.get m q) None
-get_kept m keeps q = fin.get-retain_keys m keeps q (λ x e. ap keeps (sym (bytes_exact q x e)))
+get_kept m keeps q = fin.get-retain_keys m keeps q (λ x e. cc (bytes_exact q x e))
+
+-- look-ups in maps
+pub ruleset look_ups =
+    (arith, is_same, same_refl, get_put, get_out, get_kept, seen_in, seen_somewhere)
 
 -- ---- to take out what is not there, and to put in what is, changes nothing
 
 pub removed_none : {X : Type 0} (m : fin.FinMap bytes_cmp X) (n : Text) → fin.get m n ≡ None
     → fin.remove m n ≡ m
-removed_none m n e =
-    fin.same_map nat_list_cmp_total bytes_exact _ m (λ q. grind (arith, is_same, get_out))
+removed_none m n e = same_by_keys (λ q. grind look_ups)
 
 pub put_again : {X : Type 0} (m : fin.FinMap bytes_cmp X) (n : Text) (x : X) → fin.get m n ≡ Some x
     → fin.insert m n x ≡ m
-put_again m n x e =
-    fin.same_map nat_list_cmp_total bytes_exact _ m (λ q. grind (arith, is_same, get_put))
+put_again m n x e = same_by_keys (λ q. grind look_ups)
 
 -- ---- channels that an item does not speak of
 
@@ -113,43 +114,42 @@ pub all_channels_stay : (us : Text → Bool) (t : Told) (cs : fin.FinMap bytes_c
     → channels_after us t cs ≡ cs
 all_channels_stay us t cs sets quiet = grind (arith, channels_are, quiet_channel)
 
--- the item speaks of no other channel
-abbrev pub IsAbout : View → Told → Text → Type 0
-IsAbout v t c = (d : Text) → same d c ≡ false → IsQuiet (us_of v) t d
-
-module _ (v : View) (t : Told) (sets : HasSets v) (c : Text) (quiet : IsAbout v t c) where
-  -- one is put in its place, whatever was there
-  pub put_channel : (is : Channel) → channel_after (us_of v) t c (fin.get v.channels c) ≡ Some is
-      → channels_after (us_of v) t v.channels ≡ fin.insert v.channels c is
-  put_channel is new =
-      channels_are (us_of v) t v.channels _ (λ d.
-      grind (arith, quiet_channel (us_of v) t d, sets d, quiet d, is_same d c, get_put))
-
-  -- one that we are not on stays so
-  pub no_channel : fin.get v.channels c ≡ None → channel_after (us_of v) t c None ≡ None
-      → channels_after (us_of v) t v.channels ≡ v.channels
-  no_channel none off =
-      channels_are (us_of v) t v.channels v.channels (λ d.
-      grind (arith, quiet_channel (us_of v) t d, sets d, quiet d, is_same d c))
-
 -- who is seen, where a member of the same channels as another was
 pub seen_alike : (cs ds : fin.FinMap bytes_cmp Channel) (n m : Text)
     → ((c : Text) → is_some (old_member (fin.get ds c) n) ≡ is_some (old_member (fin.get cs c) m))
     → is_seen ds n ≡ is_seen cs m
-seen_alike cs ds n m alike = grind (arith, seen_somewhere, seen_in)
+seen_alike cs ds n m alike = grind look_ups
 
--- who is seen, where somebody is put into a channel
-pub seen_put : (cs : fin.FinMap bytes_cmp Channel) (c : Text) (ch is : Channel) (who : Text)
-    → fin.get cs c ≡ Some ch
-    → ((n : Text) → is_some (fin.get is.members n) ≡ (same n who || is_some (fin.get ch.members n)))
-    → (n : Text) → is_seen (fin.insert cs c is) n ≡ (same n who || is_seen cs n)
-seen_put cs c ch is who there more n =
-    let new = fin.insert cs c is in
-    let others : same n who ≡ false → is_seen new n ≡ is_seen cs n =
-    λ e. seen_alike cs new n n (λ d. grind (arith, is_same, get_put, more)) in
-    let here : same n who ≡ true → is_seen new n ≡ true =
-    λ e. seen_in new c n (grind (arith, same_refl, get_put, more)) in
-    grind (arith, others, here)
+-- and where a channel is put that has the members of before, and this one too, if there is one more
+pub seen_put : (cs : fin.FinMap bytes_cmp Channel) (c : Text) (is : Channel) (n : Text) (new : Bool)
+    → is_some (fin.get is.members n) ≡ (new || is_some (old_member (fin.get cs c) n))
+    → is_seen (fin.insert cs c is) n ≡ (new || is_seen cs n)
+seen_put cs c is n true here = seen_in _ c n (grind look_ups)
+seen_put cs c is n false here = seen_alike cs _ n n (λ d. grind look_ups)
+
+-- the view after an item that speaks of one channel: with what the item makes of that channel
+module _ (v : View) (sets : HasSets v) (t : Told) (c : Text)
+    (quiet : (d : Text) → same d c ≡ false → IsQuiet (us_of v) t d) where
+  pub view_put : (is : Channel) (ps : fin.FinMap bytes_cmp Person)
+      → channel_after (us_of v) t c (fin.get v.channels c) ≡ Some is
+      → ((n : Text)
+      → person_after (us_of v) t (fin.insert v.channels c is) v.people n ≡ fin.get ps n)
+      → after_told v t
+      ≡ record (after_told v t) { channels = fin.insert v.channels c is; people = ps }
+  view_put is ps made =
+      view_after v t _ ps (λ d.
+      grind (arith, quiet_channel (us_of v) t d, sets d, quiet d, is_same d c, made, get_put))
+
+  -- or where it stays as it was, and all persons do
+  pub view_stays : IsKnowing v
+      → channel_after (us_of v) t c (fin.get v.channels c) ≡ fin.get v.channels c
+      → ((n : Text) → person_from (us_of v) t v.channels v.people n
+      ≡ told_person None None None (fin.get v.people n))
+      → after_told v t ≡ record (after_told v t) { channels = v.channels; people = v.people }
+  view_stays known stays tells =
+      view_after v t _ _
+      (λ d. grind (arith, quiet_channel (us_of v) t d, sets d, quiet d, is_same d c, stays))
+      (λ n. grind (arith, known n, tells n))
 
 -- all stay, where the item tells nothing of them
 pub all_persons_stay : (us : Text → Bool) (t : Told) (cs : fin.FinMap bytes_cmp Channel)

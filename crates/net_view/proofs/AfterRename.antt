@@ -1,22 +1,19 @@
 -- The view after a NICK: the person is under the new key in all channels, with what was known.
-use Rattle.net_view.proofs.Words.{◌≡◌, arith, ℕ, List, true, false, cond, option_map, Some, None}
-use Rattle.net_view.proofs.Words.{refl, Text, Name, same, bytes_cmp, Told, Renamed, is_us, counts}
+use Rattle.net_view.proofs.Words.{◌≡◌, ℕ, List, true, false, cond, option_map, Some, None, refl}
+use Rattle.net_view.proofs.Words.{Text, Name, same, bytes_cmp, Told, Renamed, is_us, counts}
 use Rattle.net_view.proofs.Words.{Channel, View, standing_of, after_told, is_seen}
 use Rattle.std.specs.FinMap as fin
+use Rattle.net_view.proofs.AfterAlike.{HasSets, IsKnowing, us_of, look_ups, member_stays, is_same}
+use Rattle.net_view.proofs.AfterAlike.{get_put, channel_is, seen_alike, all_channels_stay}
+use Rattle.net_view.proofs.AfterAlike.{all_persons_stay, view_after}
 use Rattle.net_view.specs.Changes.{renamed_in, renamed_channel, spelled_as}
-use Rattle.net_view.proofs.Keys.{is_same}
-use Rattle.net_view.proofs.AfterMaps.{seen_somewhere, channel_is, channels_are}
-use Rattle.net_view.proofs.AfterAlike.{HasSets, IsKnowing, member_stays, all_channels_stay}
-use Rattle.net_view.proofs.AfterAlike.{all_persons_stay, get_out, get_put, seen_alike, us_of}
-use Rattle.net_view.proofs.AfterAlike.{view_after}
 
 -- what stands under a key after a NICK
 renamed_at : {X : Type 0} (change : X → X) (old new : Text) (m : fin.FinMap bytes_cmp X) (n : Text)
     → fin.get (renamed_in change old new m) n
     ≡ cond (same n new) (option_map change (fin.get m old)) (cond (same n old) None (fin.get m n))
 renamed_at {X} change old new m n =
-    let put = λ (x : X). get_put (fin.remove m old) new (change x) n in
-    grind (arith, get_out m new n, is_same n old, put, get_out m old n)
+    grind (look_ups, is_same n old, λ (x : X). get_put (fin.remove m old) new (change x) n)
 
 module _ (v : View) (sets : HasSets v) (known : IsKnowing v) (old : Text) (new : Name) where
   abbrev t : Told
@@ -25,12 +22,10 @@ module _ (v : View) (sets : HasSets v) (known : IsKnowing v) (old : Text) (new :
   -- one that does not count: another takes our own nick
   pub after_no_rename : counts (is_us (standing_of v)) old new.key ≡ false → after_told v t ≡ v
   after_no_rename not_ours =
-      let own : cond (us_of v old) (Some new.spelled) v.own ≡ v.own = grind arith in
-      let cs = all_channels_stay (us_of v) t v.channels sets (λ c. grind arith) in
+      let own : cond (us_of v old) (Some new.spelled) v.own ≡ v.own = grind look_ups in
+      let cs = all_channels_stay (us_of v) t v.channels sets (λ c. grind look_ups) in
       let ps = all_persons_stay (us_of v) t v.channels v.people known (λ n. simp not_ours) in
       simp (own, cs, ps)
-
-  -- one that counts
 
   module _ (ours : counts (is_us (standing_of v)) old new.key ≡ true)
       (is : fin.FinMap bytes_cmp Channel) (is_new : (c : Text)
@@ -46,14 +41,12 @@ module _ (v : View) (sets : HasSets v) (known : IsKnowing v) (old : Text) (new :
         let left = λ (c : Text) (ch : Channel) (e : fin.get v.channels c ≡ Some ch).
         let stays = member_stays ch (sets c ch e) in
         channel_is (us_of v) t c (Some ch) (renamed_channel old new.key ch)
-        refl (λ letter. refl) (λ n. grind (arith, at_new ch.members n, stays n, stays old)) in
-        let cs = channels_are (us_of v) t v.channels is (λ c. grind (arith, left c, is_new c)) in
-        view_after v t is _ cs (λ n.
-        let told = renamed_at (spelled_as new.spelled) old new.key v.people n in
+        refl (λ letter. refl) (λ n. grind (look_ups, at_new ch.members n, stays n, stays old)) in
+        view_after v t is _ (λ c. grind (look_ups, left c, is_new c)) (λ n.
         let as_old : same n new.key ≡ true → is_seen is n ≡ is_seen v.channels old =
-        λ e. seen_alike v.channels is n old (λ c. grind (arith, is_new c, at_new)) in
+        λ e. seen_alike v.channels is n old (λ c. grind (look_ups, is_new c, at_new)) in
         let stays : same n new.key ≡ false → same n old ≡ false
         → is_seen is n ≡ is_seen v.channels n =
-        λ d e. seen_alike v.channels is n n (λ c. grind (arith, is_new c, at_new)) in
-        let gone = seen_somewhere is n in
-        grind (arith, told, ours, known n, known old, as_old, stays, gone, is_new, at_new))
+        λ d e. seen_alike v.channels is n n (λ c. grind (look_ups, is_new c, at_new)) in
+        let told = renamed_at (spelled_as new.spelled) old new.key v.people n in
+        grind (look_ups, told, ours, known n, known old, as_old, stays, is_new, at_new))

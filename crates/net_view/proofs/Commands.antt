@@ -1,30 +1,27 @@
 -- Which state line a line is: a line has one of the commands only.
-use Rattle.net_view.proofs.Words.{◌≡◌, ◌∷◌, arith, Bool, true, false, cond, List, [], is_some, find}
-use Rattle.net_view.proofs.Words.{list_any, str_eq_ignore_ascii_case, Some, codes, bytes_eq-Decides}
-use Rattle.net_view.proofs.Words.{Parts, has_command, Text, Token, Told, Silent, Received}
-use Rattle.net_view.proofs.Words.{command_text, state_commands, state_command, StateCommand}
-use Rattle.net_view.proofs.Words.{StateLine, state_lines, told}
+use Rattle.net_view.proofs.Words.{IfSome, ◌≡◌, ◌∷◌, arith, true, false, cond, List, []}
+use Rattle.net_view.proofs.Words.{is_some, list_any, str_eq_ignore_ascii_case, Some, codes}
+use Rattle.net_view.proofs.Words.{bytes_eq-Decides, Parts, has_command, Text, Token, Told, Silent}
+use Rattle.net_view.proofs.Words.{Received, command_text, state_commands, state_command}
+use Rattle.net_view.proofs.Words.{StateCommand, StateLine, state_lines, told, ℕ}
 use Rattle.net_view.specs.StateCommands.{is_state_command, other_commands}
 use Rattle.net_view.specs.StateLines.{is_state_line, told_by_welcome, told_by_join, told_by_part}
 use Rattle.net_view.specs.StateLines.{told_by_mode_reply, told_by_topic_reply, told_by_names}
 use Rattle.net_view.specs.StateLines.{told_by_account, told_by_away, told_by_isupport}
 use Rattle.net_view.specs.StateLines.{told_by_end_of_motd}
+use Rattle.std.proofs.{Common.get_or, Math.ListN.get_or-map}
+use Rattle.std.specs.{Char.to_ascii_lowercase, Str.str_to_ascii_lowercase}
 
 -- a line of a command has each other exactly where the two are one but for the case of letters
 pub has_command-named : (line : Parts) (name : Text) → has_command line name ≡ true → (other : Text)
     → has_command line other ≡ str_eq_ignore_ascii_case name other
 has_command-named line name e other = grind (arith, bytes_eq-Decides)
 
--- ---- the command that a line was read to have
-
-found_meets : {X : Type 0} (p : X → Bool) (it : X) (xs : List X) → find p xs ≡ Some it → p it ≡ true
-found_meets p it [] e = cc
-found_meets p it (x ∷ xs) e = grind (arith, found_meets p it xs)
-
 -- a line has the command that it was read to have
-pub has_found : (line : Parts) (it : StateCommand) → state_command line ≡ Some it
-    → has_command line (command_text it) ≡ true
-has_found line it e = grind (arith, found_meets)
+pub has_found : (line : Parts)
+    → IfSome (state_command line) (λ it. has_command line (command_text it) ≡ true)
+unfolding state_commands
+has_found line = grind arith
 
 -- a state line is one that has such a command
 pub is_read : (line : Parts) → is_some (state_command line) ≡ is_state_line line
@@ -49,8 +46,6 @@ pub no_state_line : (line : Parts) → list_any (has_command line) other_command
 unfolding state_commands
 no_state_line line e = search (arith, not_among)
 
--- ---- what the rows of a list tell
-
 module _ (settings : List Token) (line : Parts) where
   -- what a line of this command tells
   abbrev told_as : List StateLine → Text → Told
@@ -67,10 +62,9 @@ module _ (settings : List Token) (line : Parts) where
   pub told_read : (it : StateCommand) → state_command line ≡ Some it
       → told settings (Received line) ≡ told_as state_lines (command_text it)
   unfolding told state_lines
-  told_read it e = simp (has_command-named line (command_text it) (has_found line it e))
+  told_read it e = simp (has_command-named line (command_text it) (grind (arith, has_found line)))
 
-  -- ---- what a line of each command tells
-
+  -- what a line of each command tells
   abbrev Tells : Text → (List Token → Parts → Told) → Type 0
   Tells name tells =
       has_command line name ≡ true → told settings (Received line) ≡ tells settings line
@@ -114,3 +108,16 @@ module _ (settings : List Token) (line : Parts) where
   pub told_of_away : Tells (codes "AWAY") told_by_away
   unfolding told state_lines
   told_of_away e = simp (has_command-named line (codes "AWAY") e)
+
+-- ---- a command is known by its length, its first byte and its last one
+
+pub same_byte : (a b : Text) → str_eq_ignore_ascii_case a b ≡ true → (i byte : ℕ)
+    → byte ≡ get_or a i byte
+    → to_ascii_lowercase byte ≡ get_or (str_to_ascii_lowercase b) i (to_ascii_lowercase byte)
+same_byte a b e i byte h = grind (arith, get_or-map to_ascii_lowercase a i byte, bytes_eq-Decides)
+
+-- a line that has one of them is read to have one
+pub is_there : (line : Parts) (it : StateCommand) → has_command line (command_text it) ≡ true
+    → is_some (state_command line) ≡ true
+unfolding state_commands
+is_there line it h = grind arith

@@ -9,10 +9,7 @@ use Rattle.std.proofs.lemmas.List.{nil_from_length}
 use Rattle.net_view.proofs.{StepLaw.view_step, AfterMaps.channels_are}
 
 pub no_keys : fin.keys (fin.empty {X = Channel} {R = bytes_cmp}) ≡ []
-no_keys =
-    let none : fin.FinMap bytes_cmp Channel = fin.empty in
-    let len = fin.len-empty bytes_cmp Channel in
-    simp (nil_from_length (fin.entries none) (cc (fin.len-entries none, len)))
+no_keys = grind (arith, fin.len-empty bytes_cmp Channel, fin.len-entries, nil_from_length)
 
 -- where there is no channel nobody is known
 pub no_people : (us : Text → Bool) (t : Told) (old : fin.FinMap bytes_cmp Person)
@@ -27,8 +24,8 @@ alone s = record empty_view { own = s.own; ready = s.ready; settings = s.setting
 pub emptied : (v : View) (t : Told) → ((c : Text) → ends (is_us (standing_of v)) t c ≡ true)
     → after_told v t ≡ alone (standing_after t (standing_of v))
 emptied v t off =
-    let cs = channels_are (is_us (standing_of v)) t v.channels fin.empty (λ c.
-    grind (arith, off c, fin.get-empty)) in
+    let cs = channels_are (is_us (standing_of v)) t v.channels fin.empty
+    (λ c. grind (arith, off c, fin.get-empty)) in
     simp (cs, no_people)
 
 pub view_lost : (items : List Arrival) → view_of (items ++ Lost ∷ []) ≡ lost_view (view_of items)

@@ -9,8 +9,7 @@ use Rattle.std.specs.FinMap as fin
 use Rattle.irc_support.specs.Written.{AreTokens, is_sign}
 use Rattle.irc_support.proofs.{ModesRead.changes_unsigned, TokensRead.tokens_set}
 use Rattle.irc_support.proofs.{RankSets.ranks_that-has_rank}
-use Rattle.net_view.specs.Sound.{IsWellFormed}
-use Rattle.net_view.proofs.{Tests.any_append, PartsSound.Each, Holds.of_told, Covers.covers_mode}
+use Rattle.net_view.proofs.{Tests.any_append, PartsSound.Each, Holds.of_told, Channels.covers_mode}
 use Rattle.net_view.proofs.{Channels.modes_get, Channels.members_get, Channels.channels_get}
 
 -- ---- letters of modes are no signs
@@ -26,18 +25,14 @@ module _ (q : ℕ) (sign : is_sign q ≡ true) where
   kept_unsigned settings (c ∷ cs) each = grind (arith, kept_unsigned settings cs)
 
   -- no item decides a sign
-  told_unsigned : (settings : List Token) (x : Arrival) → Lacks (letters_in (told settings x))
-  unfolding told state_lines
-  told_unsigned settings (Received line) =
-      of_told (λ t. Lacks (letters_in t)) settings line refl
-      (search (arith, kept_unsigned, changes_unsigned))
-  told_unsigned settings Lost = refl
-
   named_unsigned : (items : List Arrival) → Lacks (named letters_in (readings_of items))
+  unfolding told state_lines
   named_unsigned [] = refl
-  named_unsigned (x ∷ older) = simp (any_append, told_unsigned, named_unsigned older)
-
--- ---- tokens in force
+  named_unsigned (Lost ∷ older) = named_unsigned older
+  named_unsigned (Received line ∷ older) =
+      let said = of_told (λ t. Lacks (letters_in t)) (settings_of older) line refl
+      (search (arith, kept_unsigned, changes_unsigned)) in
+      simp (any_append, said, named_unsigned older)
 
 -- the tokens in force are of their form, after any items
 pub tokens_formed : (items : List Arrival) → AreTokens (settings_of items)
@@ -63,10 +58,3 @@ module _ (items : List Arrival) (c : Text) (ch : Channel)
   view_ranked n ranks h =
       let rs = readings_of (reverse items) in
       grind (arith, ranks_that-has_rank (rank_decided rs c n), members_get rs c, channels_get rs c)
-
--- ---- the whole
-
--- what is written of a view is read back
-pub view_formed : (items : List Arrival) → IsWellFormed (view_of items)
-unfolding view_of
-view_formed items = grind (arith, tokens_formed, letters_unsigned, view_ranked)

@@ -1,7 +1,7 @@
 -- Facts of what an option or a list has.
 use Rattle.net_view.proofs.Words.{◌≡◌, ◌∷◌, arith, Bool, true, cond, IfSome, List, [], ForSome}
-use Rattle.net_view.proofs.Words.{Option, None, Parts, has_command, Token, Told, Silent, StateLine}
-use Rattle.net_view.proofs.Words.{state_lines, told, Received, last_in}
+use Rattle.net_view.proofs.Words.{Option, Some, None, option_map, Parts, has_command, Token, Told}
+use Rattle.net_view.proofs.Words.{Silent, StateLine, state_lines, told, Received, last_in}
 use Rattle.net_view.specs.StateLines.{told_by}
 use Rattle.net_view.proofs.PartsSound.{Each}
 
@@ -14,6 +14,11 @@ if_some P o h = grind arith
 pub of_test : {X : Type 0} (P : X → Type 0) (b : Bool) (o : Option X) → (b ≡ true → IfSome o P)
     → IfSome (cond b o None) P
 of_test P b o h = grind arith
+
+-- what an option was that is mapped to something
+pub mapped : {X Y : Type 0} (f : X → Y) (o : Option X) (y : Y) → option_map f o ≡ Some y
+    → (x : X) × (o ≡ Some x) × (f x ≡ y)
+mapped f o y h = grind arith
 
 -- of what the last of a list says
 pub of_last : {A B : Type 0} (P : A → Type 0) (Q : B → Type 0) (says : B → Option A)
@@ -33,4 +38,4 @@ module _ (P : Told → Type 0) (settings : List Token) (line : Parts) (silent : 
 
   pub of_told : AreTold state_lines → P (told settings (Received line))
   unfolding told
-  of_told each = of_rows state_lines each
+  of_told = of_rows state_lines

@@ -4,7 +4,6 @@ use Rattle.net_view.proofs.Words.{eq_by_cmp, nat_list_cmp_total, None, ap, Text,
 use Rattle.std.specs.FinMap as fin
 use Rattle.std.specs.{Ordering.is_eq, Cmp.tied_itself}
 use Rattle.net_view.specs.Table.{is_equal}
-use Rattle.net_view.proofs.Tests.{none_of_is_some}
 
 pub bytes_exact : fin.IsAntisymmetric bytes_cmp
 bytes_exact = fin.slice_cmp-IsAntisymmetric fin.nat_cmp-IsAntisymmetric
@@ -24,7 +23,7 @@ met_at p k (y ∷ ys) e h = grind (arith, is_same k y, met_at p k ys e)
 
 pub not_kept : {K X : Type 0} {R : K → K → Ordering} (m : fin.FinMap R X) (q : K)
     → list_any (eq_by_cmp R q) (fin.keys m) ≡ false → fin.get m q ≡ None
-not_kept m q h = search (arith, none_of_is_some, fin.contains_key-keys)
+not_kept m q h = grind (arith, fin.contains_key-keys m q)
 
 pub same_refl : (a : Text) → same a a ≡ true
 same_refl a = ap is_eq (tied_itself nat_list_cmp_total a)

@@ -17,32 +17,27 @@ traced_on (y ∷ front) x n k h = grind (arith, traced_on front)
 -- ---- of a matter
 
 module _ {A : Type 0} (says : (Text → Bool) → Told → Option A) where
-  said_here : (x : Reading) (older : List Reading) (answer : A)
-      → says (ours x) x.told ≡ Some answer → IsSaidLast says (x ∷ older) answer
-  said_here x older answer e = record {
-    newer = [];
-    at = x;
-    older = older;
-    items_are = refl;
-    said = e;
-    silent = λ front y rest s. grind (arith, cases front);
-  }
-
-  said_before : (x : Reading) (older : List Reading) (answer : A) → says (ours x) x.told ≡ None
-      → IsSaidLast says older answer → IsSaidLast says (x ∷ older) answer
-  said_before x older answer e r = record {
-    newer = x ∷ r.newer;
-    at = r.at;
-    older = r.older;
-    items_are = cc;
-    said = r.said;
-    silent = λ front y rest s. grind (arith, cases front, r.silent);
-  }
+  -- an answer, from where it stands
+  said_at : (items newer older : List Reading) (at : Reading) (answer : A)
+      → items ≡ newer ++ at ∷ older → says (ours at) at.told ≡ Some answer
+      → ((front : List Reading) (x : Reading) (rest : List Reading) → newer ≡ front ++ x ∷ rest
+      → says (ours x) x.told ≡ None) → IsSaidLast says items answer
+  said_at items newer older at answer is e silent =
+      record { newer = newer; at = at; older = older; items_are = is; said = e; silent = silent }
 
   pub last_found : (items : List Reading) (answer : A) → last says items ≡ Some answer
       → IsSaidLast says items answer
   last_found [] answer h = cc
-  last_found (x ∷ older) answer h = grind (arith, said_here, said_before, last_found older answer)
+  last_found (x ∷ older) answer h = by (says (ours x) x.told) refl (last_found older answer) where
+    by : (o : Option A) → says (ours x) x.told ≡ o
+        → (last says older ≡ Some answer → IsSaidLast says older answer)
+        → IsSaidLast says (x ∷ older) answer
+    by (Some a) e found =
+        said_at _ [] older x answer refl (cc) (λ front y rest s. grind (arith, cases front))
+    by None e found =
+        let r = found (cc) in
+        said_at _ (x ∷ r.newer) r.older r.at answer (cc) r.said (λ front y rest s.
+        grind (arith, cases front, r.silent))
 
   pub found_last : (items : List Reading) (answer : A) → IsSaidLast says items answer
       → last says items ≡ Some answer

@@ -2,22 +2,17 @@ pub mod Words
 pub mod Tests
 pub mod Keys
 pub mod RankSets
-pub mod Covers
 pub mod Channels
-pub mod ChannelStep
 pub mod People
-pub mod PeopleStep
 pub mod StepLaw
 pub mod Emptied
 pub mod AfterMaps
 pub mod PartsSound
 pub mod ToldSound
 pub mod Holds
-pub mod ChannelSound
-pub mod OwnSound
 pub mod PeopleSound
 pub mod MembersSpelled
-pub mod OnSound
+pub mod ChannelSound
 pub mod SoundStep
 pub mod Accounts
 pub mod AfterAlike
@@ -34,13 +29,9 @@ pub mod TokensWritten
 pub mod WrittenViews
 pub mod FormSound
 pub mod LastWord
-pub mod Worth
 pub mod NameLists
-pub mod WordsApart
 pub mod Thinned
-pub mod SeenWhole
 pub mod SeenStep
-mod LikelyCommand
 pub mod Commands
 mod Transcripts
 mod MemberRows

@@ -1,46 +1,24 @@
 -- Each person in sight is spelled after one more item.
 use Rattle.net_view.proofs.Words.{◌≡◌, ◌<◌, arith, ℕ, Bool, true, IfSome, IsSomeAnd, is_some}
-use Rattle.net_view.proofs.Words.{option_and_then, option_map, unwrap_or, Option, Some, None, Text}
-use Rattle.net_view.proofs.Words.{kind_of, Told, told, is_us, name_before, says_member}
-use Rattle.net_view.proofs.Words.{says_spelling, Channel, View, known_at, standing_of, old_mode}
-use Rattle.net_view.proofs.Words.{old_member, had_rank, channel_after, channels_after, is_seen}
-use Rattle.net_view.proofs.Words.{rank_limit, IsSpelling, IsFilled, IsKept, IsSoundChannel, IsSound}
+use Rattle.net_view.proofs.Words.{option_and_then, unwrap_or, Option, Some, None, Text, kind_of}
+use Rattle.net_view.proofs.Words.{Told, told, is_us, name_before, says_member, says_spelling}
+use Rattle.net_view.proofs.Words.{Channel, View, standing_of, old_mode, old_member, had_rank}
+use Rattle.net_view.proofs.Words.{channel_after, channels_after, is_seen, rank_limit, IsSpelling}
+use Rattle.net_view.proofs.Words.{IsKept, IsSoundChannel, IsSound}
 use Rattle.std.specs.FinMap as fin
 use Rattle.net_view.specs.Step.{known_after}
 use Rattle.net_view.proofs.AfterMaps.{get-channels_after, contains-members_after, seen_somewhere}
-use Rattle.net_view.proofs.PartsSound.{IsSoundTold}
-use Rattle.net_view.proofs.Holds.{if_some}
 use Rattle.net_view.proofs.PeopleSound.{said_spelling, new_member_is_spelled, unspelled_keeps_name}
+use Rattle.net_view.proofs.{PartsSound.IsSoundTold, Holds.if_some}
 
--- ---- what was
-
-pub record Mapped {X Y : Type 0} (f : X → Y) (o : Option X) (y : Y) : Type 0 where
-  pub value : X
-  pub was : o ≡ Some value
-  pub maps : f value ≡ y
-
-pub mapped : {X Y : Type 0} (f : X → Y) (o : Option X) (y : Y) → option_map f o ≡ Some y
-    → Mapped f o y
-mapped f o y h = grind arith
-
--- ---- the channel of before
-
+-- the channel of before
 module _ (v : View) (c : Text) (o : Option Channel) (h : IfSome o (IsSoundChannel v c)) where
-  pub old_topic : IfSome (option_and_then (λ (ch : Channel). ch.topic) o) IsFilled
-  old_topic = grind arith
-
   pub old_modes : (letter : ℕ) → IfSome (old_mode o letter) (IsKept (kind_of v.settings letter))
   old_modes letter = grind arith
 
   pub old_ranks : (nb : Option Text) (rank : ℕ)
       → had_rank rank (option_and_then (old_member o) nb) ≡ true → rank < rank_limit v.settings
   old_ranks nb rank e = grind arith
-
-  was_spelled : (n : Text) → is_some (old_member o n) ≡ true
-      → IsSomeAnd (known_at (λ p. p.spelled) v n) (IsSpelling v.settings n)
-  was_spelled n e = grind arith
-
--- ---- each person in sight is spelled
 
 -- a member of a channel after the item
 pub in_channel_after : (us : Text → Bool) (t : Told) (c : Text) (old : Option Channel) (n : Text)
@@ -64,9 +42,9 @@ seen_is_spelled v t sound told n h =
     let at = seen_somewhere cs n h in
     let c = at.0 in
     let old = fin.get v.channels c in
-    let was = was_spelled v c old (if_some _ _ (sound.channels c)) n in
+    let was = if_some (IsSoundChannel v c) old (sound.channels c) in
     said_or_before (says_spelling us on t n) _ _ (said_spelling v.settings us on t n told) (λ e.
     let told = new_member_is_spelled c us on t n in
     let member = in_channel_after us t c old n (cc (get-channels_after us t v.channels c, at.1)) in
     let nb : name_before us t n ≡ Some n = grind (arith, at.1, unspelled_keeps_name us on t n) in
-    simp nb (was (grind (arith, at.1))))
+    simp nb (grind (arith, was, at.1)))

@@ -1,16 +1,16 @@
 -- What the parts of a line give is well formed.
 use Rattle.net_view.proofs.Words
-use Words.{◌≡◌, ◌<◌, ◌∷◌, arith, ℕ, Bool, true, cond, IfSome, List, [], ⊤, filter_map}
-use Words.{option_and_then, Option, Some, None, position-Some, Parts, is_nameable, Text, Token}
-use Words.{ranking_of, ranks_that, has_rank, kind_of, key_by, is_channel, word_of, Name, Told}
+use Words.{◌≡◌, ◌<◌, ◌∷◌, arith, ℕ, Bool, true, cond, IfSome, ForSome, unwrap_or, List, [], ⊤}
+use Words.{filter_map, option_and_then, Option, Some, None, position-Some, Parts, is_nameable, Text}
+use Words.{Token, ranking_of, has_rank, kind_of, key_by, is_channel, word_of, Name, Told}
 use Words.{LetterChange, ModeChange, Listing, Welcomed, Joined, Renamed, Changed, Listed, Titled}
-use Words.{Present, HasAccount, IsAway, Supports, listing, rank_limit, IsFilled, IsAccount, IsKept}
-use Rattle.std.specs.List.{AllByRecursion}
-use Rattle.std.proofs.lemmas.Bool.{eqb-true}
-use Rattle.irc_support.specs.NamesReply.{shows_rank}
+use Words.{Present, HasAccount, IsAway, listing, rank_limit, IsFilled, IsAccount, IsKept}
+use Rattle.std.specs.{List.AllByRecursion}
+use Rattle.std.proofs.lemmas.{Bool.eqb-true}
+use Rattle.irc_support.specs.{NamesReply.shows_rank}
 use Rattle.irc_support.proofs.{RankPlaces.ranking_of-is, Spelling.paired}
-use Rattle.net_view.specs.StateLines.{actor_nick}
-use Rattle.net_view.proofs.RankSets.{has_of_filter}
+use Rattle.net_view.specs.{StateLines.actor_nick}
+use Rattle.net_view.proofs.{RankSets.has_of_set}
 
 pub record IsSoundName (settings : List Token) (x : Name) : Type 0 where
   pub nameable : is_nameable x.spelled ≡ true
@@ -19,13 +19,6 @@ pub record IsSoundName (settings : List Token) (x : Name) : Type 0 where
 pub record IsSoundListing (settings : List Token) (l : Listing) : Type 0 where
   pub person : IsSoundName settings l.person
   pub ranks : (rank : ℕ) → has_rank l.ranks rank ≡ true → rank < rank_limit settings
-
-pub record IsSoundJoin (settings : List Token) (channel : Name) (valid : Bool) (who : Name)
-    (account : Option (Option Text)) : Type 0 where
-  pub keyed : channel.key ≡ key_by settings channel.spelled
-  pub named : valid ≡ is_channel settings channel.spelled
-  pub person : IsSoundName settings who
-  pub told : IfSome account (λ a. IfSome a IsAccount)
 
 -- each of a list
 abbrev pub Each : {X : Type 0} → (X → Type 0) → List X → Type 0
@@ -37,7 +30,10 @@ IsSoundMode settings m = IfSome m.setting (IsKept (kind_of settings m.letter))
 abbrev pub IsSoundTold : List Token → Told → Type 0
 IsSoundTold settings (Welcomed nick) = is_nameable nick ≡ true
 IsSoundTold settings (Joined channel valid who account) =
-    IsSoundJoin settings channel valid who account
+    (channel.key ≡ key_by settings channel.spelled)
+    × (valid ≡ is_channel settings channel.spelled)
+    × IsSoundName settings who
+    × IfSome account (λ a. IfSome a IsAccount)
 IsSoundTold settings (Renamed old new) = IsSoundName settings new
 IsSoundTold settings (Changed c letters modes) =
     Each (λ (l : LetterChange). l.rank < rank_limit settings) letters
@@ -49,11 +45,6 @@ IsSoundTold settings (HasAccount n account) = IfSome account IsAccount
 IsSoundTold settings (IsAway n text) = IfSome text IsFilled
 IsSoundTold settings _ = ⊤
 
--- well formed, and more settings are told only where they may be
-abbrev pub IsToldBy : Bool → List Token → Told → Type 0
-IsToldBy more settings (Supports params) = more ≡ true
-IsToldBy more settings t = IsSoundTold settings t
-
 -- ---- parts
 
 pub each_found : {X Y : Type 0} (P : Y → Type 0) (f : X → Option Y) → ((x : X) → IfSome (f x) P)
@@ -64,6 +55,11 @@ each_found P f h (x ∷ xs) = grind (arith, each_found P f h xs)
 pub then_sound : {X Y : Type 0} (P : Y → Type 0) (o : Option X) (f : X → Option Y)
     → ((x : X) → IfSome (f x) P) → IfSome (option_and_then f o) P
 then_sound P o f h = grind arith
+
+-- what is said, or else what was
+pub said_sound : {X : Type 0} (P : X → Type 0) (said : Option (Option X)) (before : Option X)
+    → IfSome said (λ x. IfSome x P) → IfSome before P → ForSome (unwrap_or said before) P
+said_sound P said before h b x e = grind arith
 
 pub when_sound : {X : Type 0} (P : X → Type 0) (b : Bool) (x : X) → (b ≡ true → P x)
     → IfSome (cond b (Some x) None) P
@@ -83,5 +79,4 @@ shown_rank settings (b ∷ symbols) rank h =
 
 pub listing_sound : (settings : List Token) (text : Text)
     → IfSome (listing settings (word_of settings text)) (IsSoundListing settings)
-unfolding ranks_that
-listing_sound settings text = grind (arith, shown_rank, has_of_filter)
+listing_sound settings text = grind (arith, shown_rank, has_of_set)

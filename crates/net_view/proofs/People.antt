@@ -5,9 +5,10 @@ use Words.{nat_list_cmp_total, None, refl, Text, same, bytes_cmp, Reading, is_on
 use Words.{channels_in, Says, in_sight, known, says_spelling, says_account, says_away}
 use Words.{table_gets, Channel, Person, channels_of, people_of, old_member, is_seen}
 use Rattle.std.specs.FinMap as fin
+use Rattle.std.proofs.Math.Path.{fun_ext}
 use Rattle.net_view.specs.{View.person_of, Step.members_at}
 use Rattle.net_view.proofs.{Tests.any_append, Tests.any_false, Tests.is_some_map, Keys.bytes_exact}
-use Rattle.net_view.proofs.{Keys.met_at, Keys.some_key, Covers.covers_on, Covers.covers_member}
+use Rattle.net_view.proofs.{Keys.met_at, Keys.some_key, Channels.covers_on, Channels.covers_member}
 use Rattle.net_view.proofs.{Channels.members_get, Channels.channels_get}
 
 pub unseen_none : (says : Says) (items : List Reading) (n : Text) → in_sight items n ≡ false
@@ -19,12 +20,12 @@ pub seen_none : (cs : fin.FinMap bytes_cmp Channel) (keys : List Text) (n : Text
     → list_any (same n) (members_at cs keys) ≡ false
     → list_any (λ c. is_some (old_member (fin.get cs c) n)) keys ≡ false
 seen_none cs [] n h = refl
-seen_none cs (c ∷ keys) n h = grind (arith, any_append, fin.contains_key-keys, seen_none cs keys n)
+seen_none cs (c ∷ keys) n h = grind (arith, any_append, fin.contains_key-keys, seen_none cs keys)
 
 module _ (items : List Reading) where
   -- the channels that we are on are those of the view
-  pub contains-channels : (c : Text) → fin.contains_key (channels_of items) c ≡ is_on items c
-  contains-channels c = simp (channels_get, is_some_map)
+  pub on_channels : fin.contains_key (channels_of items) ≡ is_on items
+  on_channels = fun_ext (λ c. simp (channels_get, is_some_map))
 
   -- whether the view has the person as a member of the channel
   pub member_found : (c n : Text)
@@ -41,9 +42,6 @@ module _ (items : List Reading) where
 
   pub sight_seen : (n : Text) → in_sight items n ≡ is_seen (channels_of items) n
   sight_seen n = grind (arith, some_key, met_at, in_keys, in_named, member_found)
-
-  pub person_none : (n : Text) → in_sight items n ≡ false → person_of items n ≡ None
-  person_none n h = cc
 
   pub people_get : (n : Text) → fin.get (people_of items) n ≡ person_of items n
   people_get = search (arith, table_gets, nat_list_cmp_total, bytes_exact, any_false, covers_member)

@@ -1,29 +1,19 @@
--- What is known of a person is sound after one more item, and each member is spelled.
+-- How an item spells persons.
 use Rattle.net_view.proofs.Words
 use Words.{◌≡◌, ◌∷◌, arith, Bool, true, false, IfSome, IsSomeAnd, is_some, List, [], unwrap_or}
 use Words.{Some, None, Text, Token, Told, Listing, last_in, name_before, lists, says_member}
-use Words.{spelled_in, says_spelling, says_account, says_away, IsSpelling, IsAccount, IsFilled}
+use Words.{spelled_in, says_spelling, IsSpelling}
 use Rattle.net_view.proofs.{Keys.is_same, PartsSound.IsSoundTold, PartsSound.IsSoundListing}
 use Rattle.net_view.proofs.{Holds.of_last}
 
--- ---- what is said is sound
-
-module _ (settings : List Token) (us on : Text → Bool) (t : Told) (n : Text)
-    (sound : IsSoundTold settings t) where
-  pub said_spelling : IfSome (says_spelling us on t n) (λ x. IsSomeAnd x (IsSpelling settings n))
-  said_spelling =
-      let listed =
-      of_last (IsSpelling settings n) (IsSoundListing settings) (spelled_in n)
-      (λ l s. grind (arith, is_same n l.person.key)) in
-      grind (arith, is_same n, listed)
-
-  pub said_account : IfSome (says_account us on t n) (λ x. IfSome x IsAccount)
-  said_account = grind arith
-
-  pub said_away : IfSome (says_away us on t n) (λ x. IfSome x IsFilled)
-  said_away = grind arith
-
--- ---- who becomes a member is spelled
+-- what is said is sound
+pub said_spelling : (settings : List Token) (us on : Text → Bool) (t : Told) (n : Text)
+    → IsSoundTold settings t
+    → IfSome (says_spelling us on t n) (λ x. IsSomeAnd x (IsSpelling settings n))
+said_spelling settings us on t n sound =
+    let listed = of_last (IsSpelling settings n) (IsSoundListing settings) (spelled_in n)
+    (λ l s. grind (arith, is_same n l.person.key)) in
+    grind (arith, is_same n, listed)
 
 listed_is_spelled : (n : Text) (ls : List Listing) → lists n ls ≡ true
     → is_some (last_in (spelled_in n) ls) ≡ true

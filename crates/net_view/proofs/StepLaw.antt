@@ -1,9 +1,59 @@
 -- The view of a transcript with one more item is the step of its view.
-use Rattle.net_view.proofs.Words.{◌≡◌, ◌∷◌, ◌++◌, arith, false, List, [], refl, reverse-append}
-use Rattle.net_view.proofs.Words.{Silent, Arrival, Standing, Reading, table, channels_of, people_of}
-use Rattle.net_view.proofs.Words.{view_back, view_of, empty_view, after}
-use Rattle.net_view.specs.StateLines.{is_state_item}
-use Rattle.net_view.proofs.{Commands.told-unread, ChannelStep.channels_step, PeopleStep.people_step}
+use Rattle.net_view.proofs.Words
+use Words.{◌≡◌, ◌∷◌, arith, ℕ, Bool, true, false, cond, List, [], is_some, unwrap_or, Some, None}
+use Words.{Text, ranks_that, Told, Listing, Reading, ours, last_in, begins, name_on, lists}
+use Words.{says_member, says_rank, member_of, channel_named, channel_of, channels_of, old_member}
+use Words.{channel_from, channels_after, sym, refl, people_of, people_after, ◌++◌, reverse-append}
+use Words.{Silent, Arrival, Standing, table, view_back, view_of, empty_view, after}
+use Rattle.net_view.specs.{Members.rank_in_listing, StateLines.is_state_item}
+use Rattle.net_view.proofs.AfterMaps.{people_are, channels_are, channel_is}
+use Rattle.net_view.proofs.Channels.{members_get, modes_get, channels_get}
+use Rattle.net_view.proofs.People.{on_channels, sight_seen, people_get, spelling_field}
+use Rattle.net_view.proofs.People.{account_field, away_field}
+use Rattle.net_view.proofs.RankSets.{ranks_alike, has-ranks, is_rank}
+use Rattle.net_view.proofs.{Tests.when, Commands.told-unread}
+
+-- who becomes a member by an item other than our own JOIN has each rank decided by it
+pub last_listed : (n : Text) (rank : ℕ) (ls : List Listing)
+    → is_some (last_in (rank_in_listing n rank) ls) ≡ lists n ls
+last_listed n rank [] = refl
+last_listed n rank (l ∷ ls) = grind (arith, last_listed n rank ls)
+
+said_rank_some : (c : Text) (rank : ℕ) (us : Text → Bool) (t : Told) (n : Text)
+    → unwrap_or (says_member c us t n) false ≡ true → is_some (says_rank c rank us t n) ≡ true
+said_rank_some c rank us t n h = grind (arith, last_listed)
+
+-- two sets of ranks that are there at once, by tests that agree on the ranks
+pub alike_when : (b d : Bool) (f g : ℕ → Bool) → b ≡ d
+    → (d ≡ true → (rank : ℕ) → is_rank rank ≡ true → f rank ≡ g rank)
+    → cond b (Some (ranks_that f)) None ≡ cond d (Some (ranks_that g)) None
+alike_when b d f g e alike = grind (arith, ranks_alike f g)
+
+named_step : (x : Reading) (older : List Reading) (c name : Text)
+    → name_on (x ∷ older) c ≡ Some name → channel_named (x ∷ older) c name
+    ≡ channel_from (ours x) x.told c (channel_of older c) name
+named_step x older c name here =
+    let were : (n : Text) → begins (ours x) x.told c ≡ None
+    → old_member (channel_of older c) n ≡ member_of older c n =
+    λ n w. grind (arith, members_get older c n) in
+    sym (channel_is (ours x) x.told c (channel_of older c) (channel_named (x ∷ older) c name)
+    (grind arith) (λ letter. simp modes_get (grind (arith, modes_get older c letter)))
+    (λ n. simp (members_get, here) (alike_when _ _ _ _ (grind (arith, were))
+    (λ h rank is. grind (arith, h, said_rank_some c rank, were, is, has-ranks)))))
+
+pub channels_step : (x : Reading) (older : List Reading)
+    → channels_of (x ∷ older) ≡ channels_after (ours x) x.told (channels_of older)
+channels_step x older =
+    sym (channels_are (ours x) x.told _ _ (λ c.
+    grind (arith, channels_get older c, channels_get (x ∷ older) c, named_step x older c)))
+
+pub people_step : (x : Reading) (older : List Reading)
+    → people_of (x ∷ older)
+    ≡ people_after (ours x) x.told (channels_of (x ∷ older)) (people_of older)
+people_step x older =
+    sym (people_are (ours x) x.told _ _ _ (λ n.
+    simp (on_channels, people_get, ← spelling_field, ← account_field, ← away_field, ← sight_seen)
+    (when _ _ _ (λ h. simp h))))
 
 pub view_back_step : (x : Arrival) (older : List Arrival)
     → view_back (x ∷ older) ≡ after (view_back older) x
@@ -14,11 +64,6 @@ pub view_step : (items : List Arrival) (x : Arrival)
     → view_of (items ++ x ∷ []) ≡ after (view_of items) x
 unfolding view_of
 view_step items x = simp (reverse-append, view_back_step)
-
--- views that are equal stay so
-pub view_is_state : (items others : List Arrival) (x : Arrival) → view_of items ≡ view_of others
-    → view_of (items ++ x ∷ []) ≡ view_of (others ++ x ∷ [])
-view_is_state items others x e = grind (arith, view_step)
 
 -- what a silent item leaves
 quiet : (s : Standing) (older : List Reading)

@@ -1,15 +1,10 @@
 -- Answers that are true or false, and options.
 use Rattle.net_view.proofs.Words.{◌≡◌, ◌&&◌, ◌||◌, ◌∷◌, ◌++◌, arith, Bool, true, false, cond, List}
-use Rattle.net_view.proofs.Words.{[], is_some, list_any, option_or, option_map, unwrap_or, Option}
-use Rattle.net_view.proofs.Words.{Some, None, refl}
-use Rattle.std.proofs.lemmas.List.Folds.{list_any-append}
+use Rattle.net_view.proofs.Words.{[], is_some, list_any, option_map, Option, Some, None, refl}
+pub use Rattle.std.proofs.lemmas.List.Folds.{list_any-append as any_append}
 
 pub or_false : (a b : Bool) → (a || b) ≡ false → (a ≡ false) × (b ≡ false)
 or_false a b e = grind arith
-
-pub any_append : {A : Type 0} (p : A → Bool) (xs ys : List A)
-    → list_any p (xs ++ ys) ≡ (list_any p xs || list_any p ys)
-any_append p xs ys = list_any-append p xs ys
 
 pub absent : {A : Type 0} (p : A → Bool) (xs ys : List A) → list_any p (xs ++ ys) ≡ false
     → (list_any p xs ≡ false) × (list_any p ys ≡ false)
@@ -20,10 +15,6 @@ no_true e = cc
 
 pub cond_and_false : {A : Type 0} (a b : Bool) (x y : A) → b ≡ false → cond (a && b) x y ≡ y
 cond_and_false a b x y e = grind arith
-
-pub unwrap_or_or : {A : Type 0} (a b : Option A) (d : A)
-    → unwrap_or (option_or a b) d ≡ unwrap_or a (unwrap_or b d)
-unwrap_or_or a b d = grind arith
 
 pub none_of_is_some : {A : Type 0} (x : Option A) → is_some x ≡ false → x ≡ None
 none_of_is_some x e = grind arith

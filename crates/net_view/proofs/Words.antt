@@ -2,17 +2,17 @@
 pub use Rattle.std.proofs.lemmas.{List.reverse-append, Option.same_Some}
 pub use Rattle.std.proofs.lemmas.List.{Quantifiers.position-Some}
 pub use Rattle.std.proofs.lemmas.Slice.{Eq.bytes_eq-Decides}
-pub use Rattle.std.proofs.Common.{◌&&◌, ◌++◌, ◌+◌, ◌-◌, ◌<◌, ◌==◌, ◌||◌, ◌∙◌, ◌∷◌, ◌≡◌, ◌≢◌, ◌⊎◌}
+pub use Rattle.std.proofs.Common.{◌&&◌, ◌++◌, ◌+◌, ◌-◌, ◌<◌, ◌==◌, ◌||◌, ◌∙◌, ◌∷◌, ◌≡◌, ◌⊎◌}
 pub use Rattle.std.proofs.Common.{Bool, IfSome, IsSomeAnd, List, None, Option, Some, [], ap}
-pub use Rattle.std.proofs.Common.{append_assoc, arith, codes, cond, eq-eqb, false, filter, inl, inr}
+pub use Rattle.std.proofs.Common.{append_assoc, arith, codes, cond, eq-eqb, false, filter}
 pub use Rattle.std.proofs.Common.{is_some, length, map, refl, reverse, slice_get, suc, sym, take}
 pub use Rattle.std.proofs.Common.{true, ℕ}
 pub use Rattle.std.specs.{Cmp.nat_cmp_total, Ordering.eq_by_cmp, Ordering.nat_cmp, Prelude.⊤}
 pub use Rattle.std.specs.{Str.str_eq_ignore_ascii_case}
 pub use Rattle.std.specs.Cmp.{Lexicographic.nat_list_cmp_total}
 pub use Rattle.std.specs.declared.cmp.{Ordering.Ordering}
-pub use Rattle.std.specs.List.{filter_map, find, list_any, slice_split}
-pub use Rattle.std.specs.Option.{ForSome, option_and_then, option_map, option_map_or, option_or}
+pub use Rattle.std.specs.List.{filter_map, list_any, slice_split}
+pub use Rattle.std.specs.Option.{ForSome, option_and_then, option_map, option_or}
 pub use Rattle.std.specs.Option.{unwrap_or}
 pub use Rattle.irc_line.specs.{Line.Parts, Line.has_command, Reading.parts_of, Writing.are_params}
 pub use Rattle.irc_line.specs.{Writing.is_clean}

@@ -1,5 +1,10 @@
+use Rattle.net_view.proofs.Words.{arith, after}
 use Rattle.net_view.proofs.facts.settings_stay.Goals as goal
-use Rattle.net_view.proofs.Worth.{settings_stay, ready_stays}
+use Rattle.net_view.proofs.{SoundStep.view_sound, StepLaw.view_step}
 
 pub returns : goal.returns
-returns c = assumption (ready_stays, settings_stay)
+unfolding after
+returns c = record {
+  ready = λ items x ready none. grind (arith, view_step, view_sound);
+  same = λ items x ready none. grind (arith, view_step);
+}

@@ -1,6 +1,14 @@
+use Rattle.net_view.proofs.Words.{arith, view_of}
 use Rattle.net_view.proofs.facts.views_are_sound.Goals as goal
-use Rattle.net_view.proofs.{SoundStep.view_sound, FormSound.view_formed}
-use Rattle.net_view.proofs.{WrittenViews.views_are_clean, Worth.joined_as}
+use Rattle.net_view.proofs.{Channels.channels_get, LastWord.last_found, SoundStep.view_sound}
+use Rattle.net_view.proofs.FormSound.{tokens_formed, letters_unsigned, view_ranked}
+use Rattle.net_view.proofs.WrittenViews.{views_are_clean}
 
 pub returns : goal.returns
-returns c = assumption (view_sound, view_formed, views_are_clean, joined_as)
+unfolding view_of
+returns c = record {
+  sound = view_sound;
+  formed = λ items. grind (arith, tokens_formed, letters_unsigned, view_ranked);
+  clean = views_are_clean;
+  joined = λ items c ch h. grind (arith, channels_get, last_found);
+}

@@ -1,13 +1,13 @@
-use Rattle.net_view.proofs.Words.{◌≡◌, ◌∷◌, ◌++◌, List, [], append_assoc, Arrival, view_of}
+use Rattle.net_view.proofs.Words.{◌≡◌, ◌∷◌, ◌++◌, List, [], arith, append_assoc, Arrival, view_of}
 use Rattle.net_view.proofs.laws.a_view_is_a_state.Goals as goal
 use Rattle.std.proofs.Common.{append-nil}
-use Rattle.net_view.proofs.StepLaw.{view_is_state}
+use Rattle.net_view.proofs.StepLaw.{view_step}
 
 stay : (items others more : List Arrival) → view_of items ≡ view_of others
     → view_of (items ++ more) ≡ view_of (others ++ more)
 stay items others [] e = simp append-nil e
 stay items others (x ∷ more) e = simp append_assoc at
-    (stay (items ++ x ∷ []) (others ++ x ∷ []) more (view_is_state items others x e))
+    (stay (items ++ x ∷ []) (others ++ x ∷ []) more (grind (arith, view_step)))
 
 pub returns : goal.returns
 returns c = stay

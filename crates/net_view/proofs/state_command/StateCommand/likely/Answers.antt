@@ -1,9 +1,12 @@
-use Rattle.net_view.proofs.Words.{arith}
+use Rattle.net_view.proofs.Words.{arith, bytes_eq-Decides}
 use Rattle.net_view.proofs.state_command.StateCommand.likely.Goals as goal
-use Rattle.net_view.proofs.LikelyCommand.{not_numeric, not_in_the_threes}
+use Rattle.std.proofs.lemmas.List.{length-map}
+use Rattle.net_view.proofs.Commands.{same_byte}
 
 pub returns-in_default-2 : goal.returns-in_default-2
-returns-in_default-2 c it e = search (arith, not_in_the_threes)
+returns-in_default-2 c it e =
+    grind (arith, same_byte c.args.command.now _ e, length-map, bytes_eq-Decides)
 
 pub returns-in_default-3 : goal.returns-in_default-3
-returns-in_default-3 c it e = search (arith, not_numeric)
+returns-in_default-3 c it e =
+    grind (arith, same_byte c.args.command.now _ e, length-map, bytes_eq-Decides)

@@ -1,12 +1,13 @@
 use Rattle.net_view.proofs.Words.{arith}
 use Rattle.net_view.proofs.state_command.StateCommand.of.Goals as goal
-use Rattle.net_view.proofs.LikelyCommand.{is_none, is_one}
+use Rattle.net_view.proofs.Commands.{has_found, is_there}
 
 pub returns-in_err-likely-clause-value : goal.returns-in_err-likely-clause-value
-returns-in_err-likely-clause-value g c = search (arith, is_none)
+returns-in_err-likely-clause-value g c = grind (arith, has_found c.args.line.now)
 
 pub returns-then-is-clause-value : goal.returns-then-is-clause-value
-returns-then-is-clause-value g c = search (arith, is_one)
+returns-then-is-clause-value g c =
+    grind (arith, has_found c.args.line.now, is_there c.args.line.now)
 
 pub returns-else-is-clause-value : goal.returns-else-is-clause-value
-returns-else-is-clause-value g c = search (arith, is_none)
+returns-else-is-clause-value g c = grind (arith, has_found c.args.line.now)
