@@ -1,10 +1,9 @@
 -- The set of the ranks that pass a test, gathered rank by rank.
-use Rattle.tape_view.proofs.Words.{◌≡◌, ◌+◌, ◌<◌, ◌&&◌, ◌||◌, ◌==◌, List, ℕ, suc, Bool, true, false}
+use Rattle.tape_view.proofs.Words.{◌≡◌, ◌+◌, ◌<◌, ◌&&◌, ◌||◌, ◌==◌, List, ℕ, Bool, true, false}
 use Rattle.tape_view.proofs.Words.{[], refl, arith, nat_tests, Text, Heard, key, rank_decided}
 use Rattle.tape_view.proofs.Words.{rank_count, ranks_that, has_rank}
-use Rattle.std.proofs.Common.{zero, nat_lt}
+use Rattle.std.proofs.Common.{nat_lt}
 use Rattle.std.proofs.lemmas.Bool.{eqb-true}
-use Rattle.std.specs.List.{range_with_len}
 use Rattle.net_view.proofs.RankSets.{is_rank, ranks_alike, has-ranks}
 
 -- the ranks that a member holds
@@ -15,13 +14,9 @@ held tape channel nick = rank_decided tape.readings (key tape channel) (key tape
 abbrev pub below : (ℕ → Bool) → ℕ → ℕ → Bool
 below test k r = nat_lt r k && test r
 
-in_range : (a n r : ℕ) → has_rank (range_with_len a n) r ≡ true → r < a + n
-in_range a zero r h = grind arith
-in_range a (suc n) r h = grind (arith, eqb-true, in_range (a + 1) n r)
-
 small_rank : (r : ℕ) → is_rank r ≡ true → r < 16
 unfolding rank_count
-small_rank = in_range 0 16
+small_rank r h = grind (arith, eqb-true)
 
 pub none_below : (test : ℕ → Bool) → ranks_that (below test 0) ≡ []
 unfolding ranks_that rank_count

@@ -3,6 +3,7 @@ use Rattle.tape_view.proofs.Words
 use Words.{◌≡◌, arith, Bool, true, false, List, option_and_then, option_map, unwrap_or, Option}
 use Words.{Some, None, Bor, Text, Token, Told, Reading, ours, last, last_of, name_before, begins}
 use Words.{is_on, says_member, Said, Heard, key, key_there, meaning, meaning_in, IsLast, IsMarked}
+use Rattle.net_view.specs.Presence.{anew_or}
 
 -- what was said last of a person's being a member
 abbrev pub was_made : List Reading → Text → Text → Bool
@@ -13,11 +14,21 @@ abbrev pub IsRead : {A X : Type 0} (said : Said A) (t : Told) → X → ((Text �
     → Type 0
 IsRead said t answer says = (us : Text → Bool) → IsMarked us t said.marks → answer ≡ says us t
 
+-- what says nothing of a matter that our own JOIN begins anew is no such JOIN
+pub silent_anew : {A : Type 0} (c : Text) (us : Text → Bool) (t : Told) (fresh : A)
+    (said : Option A) → anew_or c us t fresh said ≡ None → begins us t c ≡ None
+silent_anew c us t fresh said e = grind arith
+
 -- this is the name that a person had before the line
 abbrev pub IsNamed : {A : Type 0} → Said A → Text → Option (Bor Text) → Type 0
 IsNamed said nick name =
     IsRead said (meaning said) (option_map (λ n. key_there said n.now) name)
     (λ us t. name_before us t (key_there said nick))
+
+-- we are on the channel after what is left of a tape, which answers as the whole does
+pub record IsLeft {X : Type 0} (left : Heard) (channel : Text) (whole rest : X) : Type 0 where
+  pub on : is_on left.readings (key left channel) ≡ true
+  pub same : whole ≡ rest
 
 module _ {A : Type 0} {tape older : Heard} {said : Said A} (line : IsLast tape said older) where
   -- what is read off the line is what its reading says
@@ -40,13 +51,14 @@ module _ {A : Type 0} {tape older : Heard} {said : Said A} (line : IsLast tape s
         ≡ unwrap_or answer (unwrap_or (last (says older.settings) older.readings) none)
     asked none answer read = grind arith
 
-    -- where the line says nothing of a matter that our own JOIN begins anew, we were on before it
-    pub still_on : (c : Text)
+    -- where the line says nothing of a matter that our own JOIN begins anew
+    pub unsaid : (none : X) (c : Text) {whole : X}
         → ((us : Text → Bool) (t : Told) → says tape.settings us t ≡ None
         → begins us t (key tape c) ≡ None)
         → IsRead said (meaning said) None (says said.support.now)
-        → is_on tape.readings (key tape c) ≡ true → is_on older.readings (key older c) ≡ true
-    still_on c begun read on = grind arith
+        → IsLeft tape c whole (unwrap_or (last (says tape.settings) tape.readings) none)
+        → IsLeft older c whole (unwrap_or (last (says older.settings) older.readings) none)
+    unsaid none c begun read left = grind arith
 
   module _ {X : Type 0} (says : List Token → (Text → Bool) → Told → Text → Option X) (none : X)
       (nick : Text) where
@@ -70,3 +82,14 @@ module _ {A : Type 0} {tape older : Heard} {said : Said A} (line : IsLast tape s
     pub asked_here : (answer : X) → IsRead said (meaning said) (Some answer) of_nick
         → unwrap_or (last_of (says tape.settings) tape.readings (key tape nick)) none ≡ answer
     asked_here answer read = grind arith
+
+    -- where it says nothing of a matter that our own JOIN begins anew
+    pub unsaid_of : (c : Text) {whole : X} (name : Bor Text)
+        → ((us : Text → Bool) (t : Told) → says tape.settings us t (key tape nick) ≡ None
+        → begins us t (key tape c) ≡ None)
+        → IsRead said (meaning said) None of_nick → IsNamed said nick (Some name)
+        → IsLeft tape c whole
+        (unwrap_or (last_of (says tape.settings) tape.readings (key tape nick)) none)
+        → IsLeft older c whole
+        (unwrap_or (last_of (says older.settings) older.readings (key older name.now)) none)
+    unsaid_of c name begun read named left = grind (arith, asked_of None (Some name) read named)

@@ -3,14 +3,8 @@ pub mod TapeLast
 pub mod TapeTake
 pub mod LastLine
 pub mod NextKey
-pub mod TableLine
-pub mod TablePlaces
-pub mod Stays
+pub mod PlacedKeys
 pub mod SightLine
-pub mod LastIn
-pub mod NameWords
-pub mod LetterSettings
-pub mod LetterLine
+pub mod LineParts
 pub mod GatheredRanks
-pub mod Counted
 pub mod Readers

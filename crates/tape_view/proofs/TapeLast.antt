@@ -59,11 +59,8 @@ module _ {A : Type 0} (ks : List (Kept A)) (k : Kept A) (some : 1 ≤ length ks)
   pushed : tape_of ks ≡ with_lost k.lost (Received k.line ∷ tape_of older)
   pushed = grind (arith, ends, tape_push older k)
 
-  marked_last : IsMarkedTape ks → IsMarkedLine (tape_of older) k × IsMarkedTape older
+  pub marked_last : IsMarkedTape ks → IsMarkedLine (tape_of older) k × IsMarkedTape older
   marked_last m = grind (arith, ends, marked_split older k)
-
-  pub marked_older : IsMarkedTape ks → IsMarkedTape older
-  marked_older m = (marked_last m).1
 
   pub command_last : IsMarkedTape ks → state_command k.line ≡ Some k.command
   command_last m = (marked_last m).0.command
@@ -77,7 +74,7 @@ module _ {A : Type 0} (ks : List (Kept A)) (k : Kept A) (some : 1 ≤ length ks)
   pub own_last : (r : Telling A) (own : Option Text) → IsTold r k.line → IsMarkedTape ks
       → ((s : List Token) (us : Text → Bool) → IsMarked us (meant s r) k.marks
       → own ≡ own_said us (meant s r))
-      → own_nick (tape_of ks) ≡ option_or own (own_nick (tape_of older))
+      → (own_nick (tape_of ks) ≡ option_or own (own_nick (tape_of older))) × IsMarkedTape older
   own_last r own tells m read = grind (arith, stands, marked_last)
 
   pub ready_last : IsMarkedTape ks → is_ready (tape_of ks) ≡ k.fixed
@@ -88,9 +85,9 @@ module _ {A : Type 0} (ks : List (Kept A)) (k : Kept A) (some : 1 ≤ length ks)
   unfolding told
   off_after m either c = grind (arith, pushed, ready_last, ready_on)
 
-  module _ (settings : List Token) (h : IsReadable settings ks) (fixed : k.fixed ≡ true) where
-    pub readable_older : IsReadable settings older
-    readable_older = grind (arith, marked_last, ready_last, stands)
+  pub readable_older : (settings : List Token) → IsReadable settings ks → k.fixed ≡ true
+      → IsReadable settings older
+  readable_older settings h fixed = grind (arith, marked_last, ready_last, stands)
 
   pub is_last : (s : Bor (List Token)) (r : Telling A) (t : Heard)
       → read_by s.now (tape_of ks) ≡ t → IsReadable s.now ks → k.lost ≡ false → k.fixed ≡ true

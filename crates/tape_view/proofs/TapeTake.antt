@@ -1,23 +1,41 @@
 -- A tape after one more item.
-use Rattle.tape_view.proofs.Words.{◌≡◌, ◌+◌, ◌<◌, ◌^◌, ◌∷◌, ◌++◌, Token, is_some, ℕ, suc, Bool}
-use Rattle.tape_view.proofs.Words.{true, false, List, [], length, set, get_or, reverse, take, Bor}
-use Rattle.tape_view.proofs.Words.{arith, reverse-append, Parts, Kept, Arrival, Lost, view_back}
-use Rattle.tape_view.proofs.Words.{view_of, after, Telling, Standing, standing, settings_of}
-use Rattle.tape_view.proofs.Words.{settings_after, meant, with_lost, tape_of, IsMarkedLine}
-use Rattle.tape_view.proofs.Words.{IsMarkedTape, table, told, name_count, IsCounted}
+use Rattle.tape_view.proofs.Words
+use Words.{◌≡◌, ◌+◌, ◌^◌, ◌<◌, ◌≤◌, ◌∷◌, ◌++◌, ℕ, List, [], length, arith, Table, Kept}
+use Words.{Told, Received, told, settings_of, tape_of, names_in, name_count, IsCounted, Token}
+use Words.{is_some, suc, Bool, true, false, set, get_or, reverse, take, Bor, reverse-append, Parts}
+use Words.{Arrival, Lost, view_back, view_of, after, Telling, Standing, standing, settings_after}
+use Words.{meant, with_lost, IsMarkedLine, IsMarkedTape, table}
+use Rattle.std.proofs.Common.{length-append}
+use Rattle.std.proofs.lemmas.List.{length-map, reverse-reverse}
 use Rattle.net_view.specs.declared.state_line.Telling.TheVariants as telling
 use Rattle.irc_support.specs.Line as line
-use Rattle.std.proofs.lemmas.List.{reverse-reverse}
 use Rattle.irc_line.specs.Writing.{is_writable}
 use Rattle.net_view.specs.{Written.AreWritten, View.lost_view}
 use Rattle.net_view.proofs.{Commands.told_of_isupport, ToldSound.supports_said}
 use Rattle.net_view.proofs.{StepLaw.view_back_step, Emptied.view_lost, Emptied.emptied}
-use Rattle.tape_view.proofs.Counted.{counted_push}
-use Rattle.tape_view.proofs.TapeLast.{IsTold, no_lines, set_last, ends_with, tape_push}
-use Rattle.tape_view.proofs.TapeLast.{marked_split}
+use Rattle.tape_view.proofs.TapeLast
+use TapeLast.{IsTold, no_lines, set_last, ends_with, tape_push, marked_split}
 use Rattle.tape_view.specs.Whole.{IsWhole}
 
--- a loss, looking back
+-- ---- how many names kept lines bring up
+
+names_few : (table : Table) (t : Told) → length (names_in table t) ≤ name_count t
+names_few table t = grind (arith, length-map)
+
+-- one more line
+pub counted_push : {A : Type 0} (ks ls : List (Kept A)) (k : Kept A) (t : Told) (count sum : ℕ)
+    → ls ≡ ks ++ k ∷ [] → t ≡ told (settings_of (tape_of ks)) (Received k.line) → IsCounted ks count
+    → (sum ≡ count + name_count t) × (sum < 2 ^ 64) → IsCounted ls sum
+unfolding told
+counted_push ks ls k t count sum pushed tell counted more =
+    record {
+      small = more.1;
+      enough = λ table.
+          grind (arith, names_few table t, counted.enough table, tape_push ks k, length-append);
+    }
+
+-- ---- a loss, looking back
+
 back_lost : (older : List Arrival) → view_back (Lost ∷ older) ≡ lost_view (view_back older)
 unfolding after told
 back_lost older = simp (view_back_step, emptied)
@@ -60,18 +78,8 @@ pub line_kept : {A B : Type 0} (settings new : List Token) (ks ls : List (Kept A
     → AreWritten (tape_of ks) → is_writable l ≡ true → IsWhole ls new sum
 unfolding told
 line_kept settings new ks ls k r l count sum pushed line marked tells in_force is before counted
-    more written writable = record {
-      marked = grind (arith, marked_push);
-      in_force = grind (arith, tape_push);
-      counted = counted_push ks ls k (meant settings r) count sum pushed
-          (grind (arith, line.0, tells (settings_of (tape_of ks)))) counted more;
-      written = grind (arith, tape_push);
-    }
-
-pub none_whole : {A : Type 0} (ks : List (Kept A)) (settings : List Token) → ks ≡ []
-    → settings ≡ [] → IsWhole ks settings 0
-unfolding tape_of IsMarkedTape
-none_whole ks settings none unset = grind arith
+    more written writable =
+    grind (arith, marked_push, tape_push, counted_push ks ls k (meant settings r) count sum pushed)
 
 -- ---- lines that can be written
 
@@ -84,12 +92,7 @@ written_end (y ∷ items) x h k = grind (arith, written_end items x)
 pub written_reversed : (items : List Arrival) → AreWritten items → AreWritten (reverse items)
 written_reversed [] h = tt
 written_reversed (x ∷ items) h =
-    grind (
-      arith,
-      reverse-append (x ∷ []) items,
-      written_end (reverse items) x,
-      written_reversed items,
-    )
+    grind (arith, reverse-append (x ∷ []), written_end (reverse items) x, written_reversed items)
 
 -- a tape's view comes from its items
 pub from_lines : (tape : List Arrival) → AreWritten tape

@@ -1,17 +1,17 @@
 -- The words that most proofs speak with, passed on.
 pub use Rattle.net_view.proofs.Words.{◌&&◌, ◌++◌, ◌+◌, ◌-◌, ◌<◌, ◌==◌, ◌||◌, ◌∙◌, ◌∷◌, ◌≡◌, ◌⊎◌}
-pub use Rattle.net_view.proofs.Words.{Arrival, Bool, ChangeParts, Channel, List, Listing, Lost}
+pub use Rattle.net_view.proofs.Words.{Arrival, Bool, ChangeParts, List, Listing, Lost}
 pub use Rattle.net_view.proofs.Words.{None, Option, Ordering, Parts, Reading, Received, Says, Some}
-pub use Rattle.net_view.proofs.Words.{Standing, Text, Token, Told, [], ap, arith, begins, bytes_cmp}
+pub use Rattle.net_view.proofs.Words.{Standing, Text, Token, Told, [], arith, begins, bytes_cmp}
 pub use Rattle.net_view.proofs.Words.{channel_named, channels_in, channels_of, cond, eq_by_cmp}
 pub use Rattle.net_view.proofs.Words.{false, filter_map, has_rank, in_sight, is_member, is_nameable}
-pub use Rattle.net_view.proofs.Words.{is_on, is_some, key_by, kind_of, known, known_at, last}
-pub use Rattle.net_view.proofs.Words.{last_in, last_of, length, letters_in, list_any, listing}
-pub use Rattle.net_view.proofs.Words.{lists, map, mode_change, mode_of, name_before, name_on, named}
-pub use Rattle.net_view.proofs.Words.{nat_cmp, nat_cmp_total, nat_list_cmp_total, option_and_then}
+pub use Rattle.net_view.proofs.Words.{is_on, is_some, key_by, kind_of, known, last}
+pub use Rattle.net_view.proofs.Words.{last_in, last_of, length, list_any, listing, lists, map}
+pub use Rattle.net_view.proofs.Words.{mode_change, mode_of, name_before, name_on, named, nat_cmp}
+pub use Rattle.net_view.proofs.Words.{nat_cmp_total, nat_list_cmp_total, option_and_then}
 pub use Rattle.net_view.proofs.Words.{option_map, option_or, ours, people_in, rank_decided}
 pub use Rattle.net_view.proofs.Words.{rank_in_change, readings_of, refl, reverse, reverse-append}
-pub use Rattle.net_view.proofs.Words.{same, same_Some, says_member, says_mode, says_on, says_rank}
+pub use Rattle.net_view.proofs.Words.{same, says_member, says_mode, says_on, says_rank}
 pub use Rattle.net_view.proofs.Words.{says_spelling, says_topic, setting_of, settings_after}
 pub use Rattle.net_view.proofs.Words.{settings_of, slice_get, spelled_in, standing_after}
 pub use Rattle.net_view.proofs.Words.{state_command, suc, sym, take, true, unwrap_or, view_back, ℕ}

@@ -1,6 +1,6 @@
 use Rattle.tape_view.proofs.Words.{arith}
 use Rattle.tape_view.proofs.kept.own_in.Goals as goal
-use Rattle.tape_view.proofs.TapeLast.{marked_older, command_last, own_last, tape_none, no_lines}
+use Rattle.tape_view.proofs.TapeLast.{command_last, own_last, tape_none, no_lines}
 
 pub told_as-requires : goal.told_as-requires
 told_as-requires g c = search (arith, command_last)
@@ -8,17 +8,13 @@ told_as-requires g c = search (arith, command_last)
 pub returns-in-Some : goal.returns-in-Some
 returns-in-Some g c =
     cc (own_last _ _ c.in-len1-up.len_at_least c.last-item.is _ _ c.told_as.ensures
-    c.loop-left.invariant.marked c.in-Some.ensures)
+    c.loop-left.invariant.marked c.in-Some.ensures).0
 
 pub loop-left-preserved : goal.loop-left-preserved
 loop-left-preserved g c =
-    let i = c.loop-left.invariant in
-    grind (
-      arith,
-      marked_older _ _ c.in-len1-up.len_at_least c.last-item.is i.marked,
-      own_last _ _ c.in-len1-up.len_at_least c.last-item.is _ _ c.told_as.ensures i.marked
-          c.in_default-own_told.ensures,
-    )
+    let last = own_last _ _ c.in-len1-up.len_at_least c.last-item.is _ _ c.told_as.ensures
+    c.loop-left.invariant.marked c.in_default-own_told.ensures in
+    grind (arith, last)
 
 pub returns : goal.returns
 returns g c = grind (arith, no_lines, tape_none)

@@ -1,7 +1,7 @@
 use Rattle.tape_view.proofs.Words.{◌≡◌, option_or, changes_in, last_in}
 use Rattle.tape_view.proofs.modes.last_setting.Given as goal
 use Rattle.std.proofs.Common.{option_map}
-use Rattle.tape_view.proofs.LetterSettings.{sets}
+use Rattle.tape_view.proofs.LineParts.{sets}
 
 abbrev pub invariant-loop-change : goal.invariant-loop-change
 invariant-loop-change g l =

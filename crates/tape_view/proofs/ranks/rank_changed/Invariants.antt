@@ -1,6 +1,6 @@
 use Rattle.tape_view.proofs.Words.{◌≡◌, option_or, changes_in, key_by, last_in}
 use Rattle.tape_view.proofs.ranks.rank_changed.Given as goal
-use Rattle.tape_view.proofs.NameWords.{rank_set}
+use Rattle.tape_view.proofs.LineParts.{rank_set}
 
 abbrev pub invariant-loop-change : goal.invariant-loop-change
 invariant-loop-change g l =

@@ -1,4 +1,4 @@
-use Rattle.tape_view.proofs.Words.{◌∙◌, arith, Some, None, says_of, key}
+use Rattle.tape_view.proofs.Words.{◌∙◌, arith, Some, None, says_of}
 use Rattle.tape_view.proofs.tape.Tape.fact.Goals as goal
 use Rattle.net_view.proofs.People.{unseen_none}
 use Rattle.tape_view.proofs.SightLine.{all_on, none_seen, known_line, seen_before}
@@ -32,9 +32,6 @@ loop-said-preserved g c =
 
 pub returns : goal.returns
 returns g c =
-    let tape = c.loop-said.tape in
-    grind (
-      arith,
-      none_seen _ _ (key tape c.loop-said.name.now) (all_on tape.readings _),
-      c.in_default.ensures.none,
-    )
+    let gone = none_seen _ _ _ (all_on c.loop-said.tape c.loop-said.name.now)
+    c.in_default.ensures.none in
+    grind (arith, gone)

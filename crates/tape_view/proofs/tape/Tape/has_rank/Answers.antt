@@ -1,7 +1,6 @@
-use Rattle.tape_view.proofs.Words.{Token, List, Some, None, false, key_by, says_rank}
+use Rattle.tape_view.proofs.Words.{None, false, key_by, says_rank}
 use Rattle.tape_view.proofs.tape.Tape.has_rank.Goals as goal
-use Rattle.tape_view.proofs.LastLine.{asked_of, asked_here, still_on}
-use Rattle.tape_view.proofs.Stays.{silent_anew}
+use Rattle.tape_view.proofs.LastLine.{asked_of, asked_here, unsaid_of, silent_anew}
 
 pub returns-in-Some-says_rank : goal.returns-in-Some-says_rank
 returns-in-Some-says_rank g c =
@@ -15,13 +14,6 @@ returns-in-None g c =
 
 pub loop-said-preserved : goal.loop-said-preserved
 loop-said-preserved g c =
-    let last = c.in-Some.ensures.last in
-    let says = λ (s : List Token). says_rank (key_by s c.args.channel.now) c.args.rank in
-    let read = c.in_default-says_rank.ensures in
-    let nick = c.loop-said.name.now in
-    record {
-      on = still_on last (λ s us t. says s us t (key_by s nick)) c.args.channel.now
-          (λ us t. silent_anew _ us t _ _) read c.loop-said.invariant.on;
-      rest = cc (asked_of last says false nick None (Some c.in-Some-name_before.before) read
-          c.in-Some-name_before.ensures);
-    }
+    unsaid_of c.in-Some.ensures.last (λ s. says_rank (key_by s c.args.channel.now) c.args.rank)
+    false c.loop-said.name.now _ c.in-Some-name_before.before (λ us t. silent_anew _ us t _ _)
+    c.in_default-says_rank.ensures c.in-Some-name_before.ensures c.loop-said.invariant

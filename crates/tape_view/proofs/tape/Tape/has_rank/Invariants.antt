@@ -1,12 +1,12 @@
-use Rattle.tape_view.proofs.Words.{◌≡◌, true, length, is_on, rank_decided, key}
+use Rattle.tape_view.proofs.Words.{length, rank_decided, key}
 use Rattle.tape_view.proofs.tape.Tape.has_rank.Given as goal
+use Rattle.tape_view.proofs.LastLine.{IsLeft}
 
 abbrev pub invariant-loop-said : goal.invariant-loop-said
-invariant-loop-said g l = record {
-  on : is_on l.tape.readings (key l.tape l.channel) ≡ true;
-  rest : rank_decided l.self.readings (key l.self l.channel) (key l.self l.nick) l.rank
-      ≡ rank_decided l.tape.readings (key l.tape l.channel) (key l.tape l.name) l.rank;
-}
+invariant-loop-said g l =
+    IsLeft l.tape l.channel
+    (rank_decided l.self.readings (key l.self l.channel) (key l.self l.nick) l.rank)
+    (rank_decided l.tape.readings (key l.tape l.channel) (key l.tape l.name) l.rank)
 
 abbrev pub decreases-loop-said : goal.decreases-loop-said
 decreases-loop-said g l = length l.tape.readings

@@ -1,12 +1,12 @@
 use Rattle.tape_view.proofs.Words.{arith}
 use Rattle.tape_view.proofs.tape.Tape.letter_at.Goals as goal
-use Rattle.tape_view.proofs.LetterLine.{letter_zero, letter_next, letter_none}
+use Rattle.tape_view.proofs.PlacedKeys.{letter_places}
 
 pub loop-place-init : goal.loop-place-init
-loop-place-init g c = search (arith, letter_zero)
+loop-place-init g c = search (arith, (letter_places c.args.self.now c.args.channel.now).zero)
 
 pub returns-in_err-letter : goal.returns-in_err-letter
-returns-in_err-letter g c = search (arith, letter_none)
+returns-in_err-letter g c = search (arith, (letter_places c.args.self.now c.args.channel.now).none)
 
 pub loop-place-preserved : goal.loop-place-preserved
-loop-place-preserved g c = search (arith, letter_next)
+loop-place-preserved g c = search (arith, (letter_places c.args.self.now c.args.channel.now).next)

@@ -1,12 +1,11 @@
-use Rattle.tape_view.proofs.Words.{◌≡◌, true, length, is_on, mode_of, key}
+use Rattle.tape_view.proofs.Words.{length, mode_of, key}
 use Rattle.tape_view.proofs.tape.Tape.mode.Given as goal
+use Rattle.tape_view.proofs.LastLine.{IsLeft}
 
 abbrev pub invariant-loop-said : goal.invariant-loop-said
-invariant-loop-said g l = record {
-  on : is_on l.tape.readings (key l.tape l.channel) ≡ true;
-  rest : mode_of l.self.readings (key l.self l.channel) l.letter
-      ≡ mode_of l.tape.readings (key l.tape l.channel) l.letter;
-}
+invariant-loop-said g l =
+    IsLeft l.tape l.channel (mode_of l.self.readings (key l.self l.channel) l.letter)
+    (mode_of l.tape.readings (key l.tape l.channel) l.letter)
 
 abbrev pub decreases-loop-said : goal.decreases-loop-said
 decreases-loop-said g l = length l.tape.readings

@@ -1,19 +1,16 @@
-use Rattle.tape_view.proofs.Words.{◌∙◌, arith}
+use Rattle.tape_view.proofs.Words.{nat_list_cmp_total, names_in, is_there, meant}
 use Rattle.tape_view.proofs.tape.Tape.next.Goals as goal
-use Rattle.tape_view.proofs.{NextKey.next_all, TableLine.gone, TableLine.next_line}
+use Rattle.net_view.proofs.Keys.{bytes_exact}
+use Rattle.tape_view.proofs.{NextKey.next_all, NextKey.next_line}
+use Rattle.tape_view.proofs.PlacedKeys.{gone, brought_up}
 
 pub loop-said-preserved : goal.loop-said-preserved
 loop-said-preserved g c =
-    record {
-      same_settings = c.in-Some.ensures.last.same_settings ∙ c.loop-said.invariant.same_settings;
-      so_far = search (
-        arith,
-        next_line c.in-Some.ensures.last,
-        c.loop-said.invariant.same_settings,
-        c.best_told-best.ensures,
-        c.loop-said.invariant.so_far,
-      );
-    }
+    next_line nat_list_cmp_total bytes_exact c.in-Some.ensures.last _
+    (λ s. names_in c.args.table (meant s c.in-Some.said.telling)) _ _ _
+    (brought_up c.in-Some.ensures.last c.args.table) c.best_told-best.ensures c.loop-said.invariant
 
 pub returns : goal.returns
-returns g c = search (arith, next_all, gone)
+returns g c =
+    next_all (λ tape. is_there tape c.args.table) _ _ _ _
+    (gone c.loop-said.tape c.args.table c.in_default.ensures.none) c.loop-said.invariant

@@ -8,11 +8,10 @@ loop-rank-init g c = search (arith, none_below)
 
 pub loop-rank-preserved : goal.loop-rank-preserved
 loop-rank-preserved g c =
-    let l = c.loop-rank in
     let test = held c.args.self.now c.args.channel.now c.args.nick.now in
     elim c.if-has_rank.branch [
-      | then-has_rank w ↦ cc (rank_put test l.rank l.ranks l.invariant (cc c.has_rank.ensures))
-      | else-has_rank w ↦ cc (rank_left test l.rank (cc c.has_rank.ensures))
+      | then-has_rank w ↦ cc (rank_put test _ _ c.loop-rank.invariant (cc c.has_rank.ensures))
+      | else-has_rank w ↦ cc (rank_left test c.loop-rank.rank (cc c.has_rank.ensures))
     ]
 
 pub returns : goal.returns

@@ -7,11 +7,4 @@ returns-then-not-is_on g c us marked =
 
 pub returns-then-is_same : goal.returns-then-is_same
 returns-then-is_same g c us marked =
-    grind (
-      arith,
-      c.in-Joined.is,
-      c.is_on.ensures,
-      c.if-not-is_on.false,
-      c.is_same.ensures,
-      c.if-is_same.true,
-    )
+    grind (arith, c.in-Joined.is, c.is_on.ensures, c.is_same.ensures, c.if-is_same.true)

@@ -1,13 +1,12 @@
-use Rattle.tape_view.proofs.Words.{◌≡◌, true, length, is_on, key}
+use Rattle.tape_view.proofs.Words.{length, key}
 use Rattle.tape_view.proofs.tape.Tape.topic.Given as goal
+use Rattle.tape_view.proofs.LastLine.{IsLeft}
 use Rattle.net_view.specs.Topic.{topic_of}
 
 abbrev pub invariant-loop-said : goal.invariant-loop-said
-invariant-loop-said g l = record {
-  on : is_on l.tape.readings (key l.tape l.channel) ≡ true;
-  rest : topic_of l.self.readings (key l.self l.channel)
-      ≡ topic_of l.tape.readings (key l.tape l.channel);
-}
+invariant-loop-said g l =
+    IsLeft l.tape l.channel (topic_of l.self.readings (key l.self l.channel))
+    (topic_of l.tape.readings (key l.tape l.channel))
 
 abbrev pub decreases-loop-said : goal.decreases-loop-said
 decreases-loop-said g l = length l.tape.readings

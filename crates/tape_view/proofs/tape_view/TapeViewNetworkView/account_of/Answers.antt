@@ -1,7 +1,6 @@
 use Rattle.tape_view.proofs.Words.{arith}
 use Rattle.tape_view.proofs.tape_view.TapeViewNetworkView.account_of.Goals as goal
-use Rattle.net_view.proofs.Accounts.{account_named}
-use Rattle.tape_view.proofs.Readers.{account_known}
+use Rattle.net_view.proofs.{Accounts.account_named, People.people_get, People.account_field}
 
 pub returns : goal.returns
-returns g c = search (arith, account_known, account_named)
+returns g c = grind (arith, people_get, account_field, account_named)

@@ -3,13 +3,12 @@ use Rattle.tape_view.proofs.tape_view.TapeViewNetworkView.channel_at.Goals as go
 use Rattle.tape_view.proofs.Readers.{shown, shown_on}
 
 pub topic-topic-requires : goal.topic-topic-requires
-topic-topic-requires g c = search (arith, shown, shown_on)
+topic-topic-requires g c = search (arith, shown_on)
 
 pub returns-in_err-name : goal.returns-in_err-name
 returns-in_err-name g c =
-    let here = shown c.args.self.now c.tape-tape.ensures.value c.in_ok-channel.ensures in
-    cc (here.on, c.in_err-name.ensures)
+    grind (arith, shown c.args.self.now c.args.i c.tape-tape.ensures.value c.in_ok-channel.ensures)
 
 pub returns : goal.returns
 returns g c =
-    grind (arith, shown c.args.self.now c.tape-tape.ensures.value c.in_ok-channel.ensures)
+    grind (arith, shown c.args.self.now c.args.i c.tape-tape.ensures.value c.in_ok-channel.ensures)
