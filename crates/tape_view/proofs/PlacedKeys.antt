@@ -1,11 +1,10 @@
 -- Keys of a table and letters of a channel, by place and as the lines of a tape bring them up.
 use Rattle.tape_view.proofs.Words
-use Words.{◌≡◌, ◌≤◌, ◌∷◌, ℕ, suc, Bool, List, [], length, is_some}
-use Words.{nat_cmp, nat_cmp_total, nat_list_cmp_total, Option}
-use Words.{arith, Text, Table, bytes_cmp, named, table, modes_of, names_in, is_set}
-use Words.{letter_shown, is_there, key, key_at, table_len, Heard, true, false, list_any, same}
-use Words.{Reading, is_on, is_member, people_in, Said, IsLast, meaning_in, map, filter_map}
-use Words.{eq_by_cmp, Token, says_on, key_there, meaning, ChangeParts, mode_change}
+use Words.{◌≡◌, ◌≤◌, ◌∷◌, ℕ, suc, Bool, List, [], length, is_some, nat_cmp, nat_cmp_total}
+use Words.{nat_list_cmp_total, Option, arith, Text, Table, bytes_cmp, named, table, modes_of}
+use Words.{names_in, is_set, letter_shown, is_there, key, key_at, table_len, Heard, true, false}
+use Words.{list_any, same, Reading, is_on, is_member, people_in, Said, IsLast, meaning_in, map}
+use Words.{filter_map, eq_by_cmp, Token, says_on, key_there, meaning, ChangeParts, mode_change}
 use Rattle.std.specs.FinMap as fin
 use Rattle.tape_view.specs.declared.places.Table.TheVariants.{Channels, Members}
 use Rattle.net_view.specs.Table.{put_some}
