@@ -2,13 +2,14 @@
 -- back.
 use Rattle.net_view.proofs.Words
 use Words.{◌≡◌, ◌∷◌, ◌⊎◌, arith, ℕ, Bool, false, List, [], map, list_any, unwrap_or, nat_cmp}
-use Words.{eq_by_cmp, Some, None, refl, Text, same, Told, ModeChange, Listing, Reading, last_in}
+use Words.{eq_by_cmp, Option, option_or, option_and_then, Some, None, refl, Text, same, Told}
+use Words.{ModeChange, Listing, Reading, ours, last_in}
 use Words.{last_of, name_before, name_on, setting_of, says_mode, mode_of, lists, says_member, named}
 use Words.{letters_in, people_in, channels_in, is_some, nat_cmp_total, nat_list_cmp_total}
 use Words.{table_gets, member_of, channel_of, channels_of}
 use Rattle.std.specs.FinMap as fin
 use Rattle.net_view.specs.View.{modes_of, members_of}
-use Rattle.net_view.proofs.{Tests.any_append, Tests.cond_and_false, Keys.bytes_exact}
+use Rattle.net_view.proofs.{Tests.any_append, Tests.absent, Tests.cond_and_false, Keys.bytes_exact}
 
 pub covers_on : (items : List Reading) (c : Text)
     → list_any (same c) (named channels_in items) ≡ false → name_on items c ≡ None
@@ -45,12 +46,22 @@ pub name_stays : (us : Text → Bool) (t : Told) (n : Text) → list_any (same n
     → (name_before us t n ≡ None) ⊎ (name_before us t n ≡ Some n)
 name_stays us t n h = grind arith
 
+-- nothing is said of a person by an item, nor before it
+unsaid : (said : Option Bool) (before : Option Text) (f : Text → Option Bool) (n : Text)
+    → unwrap_or said false ≡ false → (before ≡ None) ⊎ (before ≡ Some n)
+    → unwrap_or (f n) false ≡ false
+    → unwrap_or (option_or said (option_and_then f before)) false ≡ false
+unsaid said before f n none stays older = grind arith
+
 pub covers_member : (items : List Reading) (c n : Text)
     → list_any (same n) (named people_in items) ≡ false
     → unwrap_or (last_of (says_member c) items n) false ≡ false
 covers_member [] c n h = refl
 covers_member (x ∷ older) c n h =
-    grind (arith, any_append, name_stays, says_member_none, covers_member older c n)
+    let (here, before) = absent (same n) (people_in x.told) (named people_in older) h in
+    unsaid (says_member c (ours x) x.told n) _ (last_of (says_member c) older) n
+    (says_member_none c (ours x) x.told n here) (name_stays (ours x) x.told n here)
+    (covers_member older c n before)
 
 -- ---- the channels
 

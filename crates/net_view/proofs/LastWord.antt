@@ -1,6 +1,7 @@
 -- What is found by looking back is what the last item that speaks says.
-use Rattle.net_view.proofs.Words.{◌≡◌, ◌⊎◌, ◌∷◌, ◌++◌, arith, Bool, true, List, [], Option, Some}
-use Rattle.net_view.proofs.Words.{None, refl, append_assoc, same_Some, Text, Told, Reading, ours}
+use Rattle.net_view.proofs.Words.{◌≡◌, ◌⊎◌, ◌∷◌, ◌++◌, ◌∙◌, arith, Bool, true, List, [], Option}
+use Rattle.net_view.proofs.Words.{Some, None, refl, sym, cond, append_assoc, same_Some, unwrap_or}
+use Rattle.net_view.proofs.Words.{option_or, option_and_then, Text, Told, Reading, ours}
 use Rattle.net_view.proofs.Words.{last, last_of, name_before, name_traced, is_on, Says, in_sight}
 use Rattle.net_view.proofs.Words.{known, IsSaidLast}
 use Rattle.net_view.specs.Found.{IsSaidLastOf, IsKnown}
@@ -13,6 +14,22 @@ traced_on : (front : List Reading) (x : Reading) (n k : Text) → name_traced fr
     → name_traced (front ++ x ∷ []) n ≡ name_before (ours x) x.told k
 traced_on [] x n k h = grind arith
 traced_on (y ∷ front) x n k h = grind (arith, traced_on front)
+
+-- an item says nothing of a person, and who it is followed back to has the answer
+said_before : {A : Type 0} (said : Option A) (before : Option Text) (f : Text → Option A)
+    (g : Text → Option Text) (name : Text) (answer : A) → said ≡ None
+    → option_and_then g before ≡ Some name
+    → ((j : Text) → before ≡ Some j → g j ≡ Some name → f j ≡ Some answer)
+    → option_or said (option_and_then f before) ≡ Some answer
+said_before said before f g name answer none traced found = grind arith
+
+-- the same, where the person is in sight
+known_still : (sight : Bool) (said : Option (Option Text)) (before : Option Text)
+    (f g : Text → Option Text) (name answer : Text) → sight ≡ true → said ≡ None
+    → option_and_then g before ≡ Some name
+    → ((j : Text) → before ≡ Some j → g j ≡ Some name → f j ≡ Some answer)
+    → cond sight (unwrap_or said (option_and_then f before)) None ≡ Some answer
+known_still sight said before f g name answer seen none traced found = grind arith
 
 -- ---- of a matter
 
@@ -93,8 +110,9 @@ module _ {A : Type 0} (says : (Text → Bool) → Told → Text → Option A) wh
         → last_of says (newer ++ r.at ∷ r.older) k ≡ Some answer
     from front [] k s t w = cc
     from front (x ∷ newer) k s t w =
-        let on = from (front ++ x ∷ []) newer in
-        grind (arith, r.silent front, traced_on front, append_assoc {A = Reading})
+        said_before _ _ (last_of says (newer ++ r.at ∷ r.older)) (name_traced newer) r.name answer
+        (r.silent front x newer k s t) w (λ j b v. from (front ++ x ∷ []) newer j
+        (s ∙ sym (append_assoc front (x ∷ []) newer)) (traced_on front x n k t ∙ b) v)
 
 -- ---- what is known of a person
 
@@ -147,6 +165,7 @@ module _ (says : Says) where
         → known says (newer ++ r.at ∷ r.older) k ≡ Some answer
     from front [] k s t w = grind (arith, r.seen front [])
     from front (x ∷ newer) k s t w =
-        let here = r.seen front (x ∷ newer) k s t in
-        let on = from (front ++ x ∷ []) newer in
-        grind (arith, r.silent front, traced_on front, append_assoc {A = Reading})
+        known_still _ _ _ (known says (newer ++ r.at ∷ r.older)) (name_traced newer) r.name answer
+        (r.seen front (x ∷ newer) k s t) (r.silent front x newer k s t) w (λ j b v.
+        from (front ++ x ∷ []) newer j (s ∙ sym (append_assoc front (x ∷ []) newer))
+        (traced_on front x n k t ∙ b) v)

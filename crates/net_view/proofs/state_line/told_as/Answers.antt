@@ -1,6 +1,12 @@
-use Rattle.net_view.proofs.Words.{arith, state_lines}
+use Rattle.net_view.proofs.Words
+use Words.{◌≡◌, ◌∙◌, arith, ap, refl, List, Option, Some, option_map, unwrap_or, Token, Told}
+use Words.{StateCommand, state_lines}
 use Rattle.net_view.proofs.state_line.told_as.Goals as goal
 use Rattle.net_view.proofs.Commands.{has_found, told_read}
+use Rattle.net_view.specs.{StateLines.or_silent, Tells.meant}
+use Rattle.net_view.specs.declared.state_command.StateCommand.TheVariants as command
+use Rattle.net_view.specs.declared.state_line.Telling.{Telling}
+use Rattle.net_view.specs.declared.state_line.Telling.TheVariants.{Silent}
 
 pub returns-in-Join : goal.returns-in-Join
 unfolding state_lines
@@ -15,24 +21,48 @@ told_by_mode_reply-telling-requires g c = grind (arith, has_found c.args.line.no
 pub told_by_names-telling-requires : goal.told_by_names-telling-requires
 told_by_names-telling-requires g c = grind (arith, has_found c.args.line.now)
 
+-- what is meant is what is told, where an answer that may be none means that
+meant_told : {A : Type 0} (s : List Token) {result : Telling A}
+    {telling answer : Option (Telling A)} {told tells : Told} → result ≡ unwrap_or telling Silent
+    → telling ≡ answer → told ≡ tells → or_silent (option_map (meant s) answer) ≡ tells
+    → meant s result ≡ told
+meant_told s is from read means = grind arith
+
 pub returns : goal.returns
 unfolding state_lines
 returns g c s =
-    let told = told_read s c.args.line.now c.args.command c.requires in
+    let read = λ (it : StateCommand) (is : c.args.command ≡ it).
+    told_read s c.args.line.now it (c.requires ∙ ap Some is) in
+    let is = c.unwrap_or-2.ensures in
     elim c.match-command.branch [
-      | goal.in-Welcome w ↦ search (arith, told, w.told_by_welcome-telling.ensures s)
-      | goal.in-Isupport w ↦ search (arith, told)
-      | goal.in-EndOfMotd w ↦ search (arith, told)
-      | goal.in-Part w ↦ search (arith, told, w.told_by_part-telling.ensures s)
-      | goal.in-Kick w ↦ search (arith, told, w.told_by_kick-telling.ensures s)
-      | goal.in-Quit w ↦ search (arith, told, w.told_by_quit-telling.ensures s)
-      | goal.in-Nick w ↦ search (arith, told, w.told_by_nick-telling.ensures s)
-      | goal.in-Mode w ↦ search (arith, told)
-      | goal.in-ModeReply w ↦ search (arith, told)
-      | goal.in-Topic w ↦ search (arith, told)
-      | goal.in-TopicReply w ↦ search (arith, told)
-      | goal.in-NoTopic w ↦ search (arith, told)
-      | goal.in-Names w ↦ search (arith, told)
-      | goal.in-Account w ↦ search (arith, told)
-      | goal.in-Away w ↦ search (arith, told)
+      | goal.in-Welcome w ↦ meant_told s is w.telling-is
+          (read command.Welcome w.in-Welcome.is) (w.told_by_welcome-telling.ensures s)
+      | goal.in-Isupport w ↦ meant_told s is w.telling-is
+          (read command.Isupport w.in-Isupport.is) refl
+      | goal.in-EndOfMotd w ↦ search (arith, told_read s c.args.line.now c.args.command c.requires)
+      | goal.in-Part w ↦ meant_told s is w.telling-is
+          (read command.Part w.in-Part.is) (w.told_by_part-telling.ensures s)
+      | goal.in-Kick w ↦ meant_told s is w.telling-is
+          (read command.Kick w.in-Kick.is) (w.told_by_kick-telling.ensures s)
+      | goal.in-Quit w ↦ meant_told s is w.telling-is
+          (read command.Quit w.in-Quit.is) (w.told_by_quit-telling.ensures s)
+      | goal.in-Nick w ↦ meant_told s is w.telling-is
+          (read command.Nick w.in-Nick.is) (w.told_by_nick-telling.ensures s)
+      | goal.in-Mode w ↦ meant_told s is w.telling-is
+          (read command.Mode w.in-Mode.is) (w.told_by_mode-telling.ensures s)
+      | goal.in-ModeReply w ↦ meant_told s is w.telling-is
+          (read command.ModeReply w.in-ModeReply.is) (w.told_by_mode_reply-telling.ensures s)
+      | goal.in-Topic w ↦ meant_told s is w.telling-is
+          (read command.Topic w.in-Topic.is) (w.told_by_topic_at-telling.ensures s)
+      | goal.in-TopicReply w ↦ meant_told s is w.telling-is
+          (read command.TopicReply w.in-TopicReply.is)
+          (w.told_by_topic_at-telling-in-TopicReply.ensures s)
+      | goal.in-NoTopic w ↦ meant_told s is w.telling-is
+          (read command.NoTopic w.in-NoTopic.is) (w.told_by_no_topic-telling.ensures s)
+      | goal.in-Names w ↦ meant_told s is w.telling-is
+          (read command.Names w.in-Names.is) (w.told_by_names-telling.ensures s)
+      | goal.in-Account w ↦ meant_told s is w.telling-is
+          (read command.Account w.in-Account.is) (w.told_by_account-telling.ensures s)
+      | goal.in-Away w ↦ meant_told s is w.telling-is
+          (read command.Away w.in-Away.is) (w.told_by_away-telling.ensures s)
     ]
