@@ -2,8 +2,8 @@
 use Rattle.tape_view.proofs.Words.{◌≡◌, arith, ℕ, true, List, slice_get, option_map, unwrap_or, []}
 use Rattle.tape_view.proofs.Words.{Ordering, IsTotalOrder, nat_cmp_total, nat_list_cmp_total}
 use Rattle.tape_view.proofs.Words.{Option, Some, None, ranks_that, Text, Arrival, Reading, is_on}
-use Rattle.tape_view.proofs.Words.{name_on, rank_decided, mode_of, channel_named, channels_of}
-use Rattle.tape_view.proofs.Words.{members_of, modes_of, sym, view_back, letter_shown, key_at, Heard}
+use Rattle.tape_view.proofs.Words.{name_on, rank_decided, mode_of, channel_named, channels_of, sym}
+use Rattle.tape_view.proofs.Words.{members_of, modes_of, view_back, letter_shown, key_at, Heard}
 use Rattle.std.specs.FinMap as fin
 use Rattle.net_view.specs.Facts.{spelling_of, account_of, away_of}
 use Rattle.net_view.specs.Readers.{channel_shown, member_shown, mode_shown}

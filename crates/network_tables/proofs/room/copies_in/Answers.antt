@@ -1,5 +1,5 @@
-use Rattle.std.proofs.Common.{ℕ, Bool, true, false, List, [], ◌∷◌, ◌++◌, ◌≡◌, ◌<◌, ◌+◌, cond, length, map}
-use Rattle.std.proofs.Common.{take, get_or, Some, None, Bor, refl, sym, ap, subst, ◌∙◌}
+use Rattle.std.proofs.Common.{ℕ, Bool, true, false, List, [], ◌∷◌, ◌++◌, ◌≡◌, ◌<◌, ◌+◌, cond}
+use Rattle.std.proofs.Common.{length, map, take, get_or, Some, None, Bor, refl, sym, ap, subst, ◌∙◌}
 use Rattle.std.specs.Bool.{then_some}
 use Rattle.std.specs.Option.{option_map}
 use Rattle.std.specs.FinMap as fin

@@ -2,8 +2,6 @@ use Rattle.tape_view.proofs.Words.{◌∙◌, arith, Some, None, says_of}
 use Rattle.tape_view.proofs.tape.Tape.fact.Goals as goal
 use Rattle.net_view.proofs.People.{unseen_none}
 use Rattle.tape_view.proofs.SightLine.{all_on, none_seen, known_line, seen_before}
-use Rattle.tape_view.proofs.tape.Tape.fact.Goals.{else-is_some-via-then-is_some+else-not-is_in_sight-2}
-use Rattle.tape_view.proofs.tape.Tape.fact.Goals.{else-is_some-via-else-is_some}
 
 pub returns-then-not-is_in_sight : goal.returns-then-not-is_in_sight
 returns-then-not-is_in_sight g c = grind (arith, unseen_none)
@@ -21,8 +19,8 @@ loop-said-preserved g c =
     let name = c.in_ok-name.name in
     record {
       seen = elim c.else-is_some.branch [
-        | else-is_some-via-then-is_some+else-not-is_in_sight-2 w ↦ cc
-        | else-is_some-via-else-is_some w ↦ seen_before last _ i.seen name
+        | goal.else-is_some-via-then-is_some+else-not-is_in_sight-2 w ↦ cc
+        | goal.else-is_some-via-else-is_some w ↦ seen_before last _ i.seen name
             (λ us m. grind (arith, c.spelled-spelled.ensures us m)) c.in_ok-name.ensures
       ];
       rest = i.rest
