@@ -15,9 +15,9 @@ pub struct Watch {
     /// After how many silent seconds the peer is tested (TCP_KEEPIDLE): 1 to 32767.
     pub idle: u16,
     /// After how many milliseconds without an answer to what was sent the connection is ended
-    /// (TCP_USER_TIMEOUT; RFC 5482). Where nothing was sent since the first test, it is ended at the
-    /// first further test past that time: the system tests every 75 seconds, if its own setting was
-    /// not changed (TCP_KEEPINTVL).
+    /// (TCP_USER_TIMEOUT; RFC 5482). Where nothing was sent since the first test, it is ended at
+    /// the first further test past that time: the system tests every 75 seconds, if its own setting
+    /// was not changed (TCP_KEEPINTVL).
     pub limit: u32,
 }
 

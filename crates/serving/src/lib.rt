@@ -1,5 +1,5 @@
-//! The outer shell of `bnc serve`: connections, threads, time limits, and the log of what happens to
-//! networks and sessions. What the threads do stands in the crates below.
+//! The outer shell of `bnc serve`: connections, threads, time limits, and the log of what happens
+//! to networks and sessions. What the threads do stands in the crates below.
 #![tactic(auto)]
 
 mod accepting;

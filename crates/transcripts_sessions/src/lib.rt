@@ -1,7 +1,8 @@
 //! Tests alone: handshakes with clients and networks, scripts of events over a hub, and clients
-//! over streams in memory; hubs between threads, with readers and writers that fail and workers that
-//! are held; and the bouncer over the loopback range, with a small network and clients of the tests'
-//! own. Each of these ends by itself: every wait has a limit, and all that is served is counted.
+//! over streams in memory; hubs between threads, with readers and writers that fail and workers
+//! that are held; and the bouncer over the loopback range, with a small network and clients of the
+//! tests' own. Each of these ends by itself: every wait has a limit, and all that is served is
+//! counted.
 #![tactic(auto)]
 
 #[cfg(test)]
