@@ -8,6 +8,9 @@ pub mod TokenTable
 pub mod PreparedEdits
 pub mod Tests
 pub mod TokensRead
+pub mod KindTable
+pub mod Compacting
+pub mod PendingTokens
 pub mod ModesRead
 pub mod SpelledWords
 pub mod HighestWords

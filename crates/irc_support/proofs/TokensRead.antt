@@ -20,15 +20,15 @@ use Rattle.irc_support.proofs.Tests.{of_not, and_parts}
 abbrev is_equals : ℕ → Bool
 is_equals c = c == 61
 
-abbrev is_named : Text → Token → Bool
+abbrev pub is_named : Text → Token → Bool
 is_named name t = bytes_eq name t.0
 
 -- ---- names
 
-same_name : (a b : Text) → bytes_eq a b ≡ true → a ≡ b
+pub same_name : (a b : Text) → bytes_eq a b ≡ true → a ≡ b
 same_name a b e = (bytes_eq-Decides a b).0 e
 
-other_way : (a b : Text) → bytes_eq a b ≡ false → bytes_eq b a ≡ false
+pub other_way : (a b : Text) → bytes_eq a b ≡ false → bytes_eq b a ≡ false
 other_way a b e = elim (bytes_eq b a) as (λ v. bytes_eq b a ≡ v → v ≡ false) [
   | true ↦ λ t.
       sym t ∙ ap (λ x. bytes_eq b x) (sym (same_name b a t))
@@ -38,7 +38,7 @@ other_way a b e = elim (bytes_eq b a) as (λ v. bytes_eq b a ≡ v → v ≡ fal
 
 -- ---- a token more or less
 
-kept_apart : (n : Text) (settings : List Token) (token : Token) →
+pub kept_apart : (n : Text) (settings : List Token) (token : Token) →
     list_any (is_named n) settings ≡ false → bytes_eq n token.0 ≡ false →
     list_any (is_named n) (with_token settings token) ≡ false
 kept_apart n [] token h e = ap (λ b. b || false) e
@@ -68,7 +68,7 @@ with_one (t ∷ settings) token n all =
       )
     ] refl
 
-less_apart : (n : Text) (settings : List Token) (name : Text) →
+pub less_apart : (n : Text) (settings : List Token) (name : Text) →
     list_any (is_named n) settings ≡ false → list_any (is_named n) (without settings name) ≡ false
 less_apart n [] name h = refl
 less_apart n (t ∷ settings) name h =

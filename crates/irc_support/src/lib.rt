@@ -9,6 +9,7 @@ pub mod laws;
 mod mode_changes;
 mod name_list;
 mod names_reply;
+mod pending;
 mod prefix;
 mod ranks;
 mod support;

@@ -1,6 +1,7 @@
 //! The settings of a network.
 
-ghost use Rattle.std.specs.Prelude.{◌≡◌, ◌<◌, ◌==◌, List, [], false, IfSome, IsNone, IsOk, IsOkAnd};
+ghost use Rattle.std.specs.Prelude.{◌≡◌, ◌<◌, ◌==◌, ℕ, List, [], false, IfSome, IsNone, IsOk};
+ghost use Rattle.std.specs.Prelude.{IsOkAnd, slice_index_or};
 ghost use Rattle.std.specs.Prelude.{OnErr, OnOk, codes, length, option_map, slice_get};
 ghost use Rattle.std.specs.List.{list_any};
 ghost use Rattle.irc_line.specs.Line.{has_command};
@@ -8,7 +9,8 @@ ghost use Rattle.irc_support.specs.Text.{has_byte};
 ghost use Rattle.irc_support.specs.Tokens.{Token};
 ghost use Rattle.irc_support.specs.Edits.{tokens_in};
 ghost use Rattle.irc_support.specs.Ranking.{ranking_of, rank_of_letter, rank_of_symbol, symbol_of};
-ghost use Rattle.irc_support.specs.ChanModes.{kind_of};
+ghost use Rattle.irc_support.specs.ChanModes.{kind_of, kind_in, mode_lists};
+ghost use Rattle.irc_support.specs.declared.kind.Kind.TheVariants.{Prefix as FirstKind};
 ghost use Rattle.irc_support.specs.Settings.{mapping_named, mapping_of, is_channel};
 ghost use Rattle.irc_support.specs.Settings.{is_outside_channel};
 ghost use Rattle.irc_support.specs.Ranks.{ranks_that};
@@ -16,10 +18,11 @@ ghost use Rattle.irc_support.specs.NamesReply.{shows_rank, symbols_before, after
 ghost use Rattle.irc_support.specs.Line.{settings_after};
 ghost use Rattle.irc_support.specs.Shown.{shown_token};
 
-use crate::chan_modes::kind_by_lists;
+use crate::chan_modes::{LETTERS, kinds_by_lists};
 use crate::cuts::has;
+use crate::pending::Pending;
 use crate::prefix::Prefix;
-use crate::tokens::{Table, apply_all, edits, value_or};
+use crate::tokens::{Table, edits, value_or};
 use crate::{Kind, OutOfMemory, Ranks};
 use indexmap::IndexMap;
 use irc_line::Line;
@@ -33,9 +36,10 @@ use std::marker::Model;
 /// A name that is set again keeps its place; one that is set again after it was removed goes last.
 pub struct Support<A: Allocator = Global> {
     tokens: Table<A>,
-    // what PREFIX and CASEMAPPING mean
+    // what PREFIX and CASEMAPPING mean, and the kind that CHANMODES gives each letter
     prefix: Prefix,
     mapping: CaseMapping,
+    kinds: [Kind; LETTERS],
 }
 
 // By hand, so that whoever owns settings proves one call where they go, and not the way of each
@@ -46,15 +50,18 @@ impl<A: Allocator> Drop for Support<A> {
             tokens: _tokens,
             prefix: _prefix,
             mapping: _,
+            kinds: _,
         } = self;
     }
 }
 
 impl<A: Allocator> Model for Support<A> {
-    ghost use Rattle.std.specs.Prelude.{◌≡◌, List};
+    ghost use Rattle.std.specs.Prelude.{◌≡◌, ◌<◌, ℕ, List, slice_index_or};
     ghost use Rattle.irc_support.specs.Tokens.{Token};
-    ghost use Rattle.irc_support.specs.Edits.{tokens_in};
+    ghost use Rattle.irc_support.specs.Edits.{tokens_in, AreApart};
     ghost use Rattle.irc_support.specs.Ranking.{ranking_of};
+    ghost use Rattle.irc_support.specs.ChanModes.{kind_in, mode_lists};
+    ghost use Rattle.irc_support.specs.declared.kind.Kind.TheVariants.{Prefix as FirstKind};
     ghost use Rattle.irc_support.specs.Settings.{mapping_of};
 
     ghost Value = { List Token };
@@ -63,7 +70,10 @@ impl<A: Allocator> Model for Support<A> {
 
     ghost invariant = { λ s.
         (s.prefix ≡ ranking_of (tokens_in s.tokens.entries)) ×
-        (s.mapping ≡ mapping_of (tokens_in s.tokens.entries)) };
+        (s.mapping ≡ mapping_of (tokens_in s.tokens.entries)) ×
+        AreApart (tokens_in s.tokens.entries) ×
+        ((letter : ℕ) → letter < 256 → slice_index_or s.kinds letter FirstKind
+        ≡ kind_in (mode_lists (tokens_in s.tokens.entries)) letter) };
 }
 
 fn mapping_by_name(name: &[u8]) -> CaseMapping
@@ -92,6 +102,13 @@ fn prefix_in<A: Allocator>(tokens: &Table<A>) -> Prefix
     Prefix::read(value_or(tokens, b"PREFIX", b"(ov)@+"))
 }
 
+fn kinds_in<A: Allocator>(tokens: &Table<A>) -> [Kind; LETTERS]
+    ensures { (letter : ℕ) → letter < 256 → slice_index_or result letter FirstKind
+        ≡ kind_in (mode_lists (tokens_in tokens.now.entries)) letter }
+{
+    kinds_by_lists(value_or(tokens, b"CHANMODES", b"b,k,l,imnpst"))
+}
+
 fn has_outside(name: &[u8]) -> bool
     ensures { result ≡ list_any is_outside_channel name.now }
 {
@@ -106,10 +123,12 @@ impl<A: Allocator + Copy> Support<A> {
         let tokens = IndexMap::new(alloc);
         let prefix = prefix_in(&tokens);
         let mapping = mapping_in(&tokens);
+        let kinds = kinds_in(&tokens);
         Ok(Support {
             tokens,
             prefix,
             mapping,
+            kinds,
         })
     }
 
@@ -125,11 +144,13 @@ impl<A: Allocator + Copy> Support<A> {
         if !line.is(b"005") {
             return Ok(());
         }
-        let edits = edits(*self.tokens.allocator(), line)?;
-        self.tokens.reserve(edits.len())?;
-        apply_all(&mut self.tokens, edits);
+        let alloc = *self.tokens.allocator();
+        let pending = Pending::of(alloc, edits(alloc, line)?)?;
+        self.tokens.reserve(pending.set_count())?;
+        pending.make(&mut self.tokens);
         self.prefix = prefix_in(&self.tokens);
         self.mapping = mapping_in(&self.tokens);
+        self.kinds = kinds_in(&self.tokens);
         Ok(())
     }
 }
@@ -216,8 +237,7 @@ impl<A: Allocator> Support<A> {
         if self.rank_of_letter(letter).is_some() {
             return Kind::Prefix;
         }
-        let lists = value_or(&self.tokens, b"CHANMODES", b"b,k,l,imnpst");
-        kind_by_lists(lists, letter)
+        self.kinds[letter as usize]
     }
 
     /// Whether this is a channel's name: it begins with a byte of `CHANTYPES` (isupport draft,

@@ -1,10 +1,8 @@
 //! The tokens of 005 RPL_ISUPPORT in a table, in their order (isupport draft, section 2).
 
-ghost use Rattle.std.specs.Prelude.{◌≡◌, ◌+◌, ◌<◌, ◌≤◌, ℕ, List, IfOk, option_map, fold, unwrap_or};
-ghost use Rattle.std.specs.Prelude.{vec_len};
+ghost use Rattle.std.specs.Prelude.{◌≡◌, ℕ, List, IfOk, option_map, fold, unwrap_or};
 ghost use Rattle.irc_support.specs.Tokens.{Token, after_param, token_params, value_of};
 ghost use Rattle.irc_support.specs.Edits.{tokens_in, edited, edited_if};
-ghost use Rattle.indexmap.specs.IndexMap.{spare};
 
 use crate::OutOfMemory;
 use crate::cuts::cut;
@@ -73,33 +71,6 @@ pub fn edits<A: Allocator + Copy, B: Allocator>(
         }
     }
     Ok(edits)
-}
-
-fn apply<A: Allocator + Copy>(tokens: &mut Table<A>, edit: Edit<A>)
-    requires { 0 < spare tokens.old }
-    ensures after { tokens_in tokens.new.entries ≡ edited (tokens_in tokens.old.entries) edit }
-    ensures room { spare tokens.old ≤ spare tokens.new + 1 }
-{
-    match edit {
-        Edit::Set(name, value) => match tokens.insert(name, value) {
-            Ok(_) => (),
-            Err(_) => unreachable!(),
-        },
-        Edit::Remove(name) => {
-            tokens.shift_remove(name.as_slice());
-        }
-    }
-}
-
-/// Makes each change in turn. There is room for all of them.
-pub fn apply_all<A: Allocator + Copy>(tokens: &mut Table<A>, edits: Vec<Edit<A>, A>)
-    requires { vec_len edits ≤ spare tokens.old }
-    ensures { tokens_in tokens.new.entries
-        ≡ fold edited (tokens_in tokens.old.entries) edits.items }
-{
-    for edit in edits {
-        apply(tokens, edit);
-    }
 }
 
 /// The value of the token of this name, empty where there is no `=`; `None` where there is no such
