@@ -1,14 +1,17 @@
--- The messages that are kept, and what somebody missed of them.
+-- The messages that are kept of each target, and what somebody missed of them.
 use Rattle.std.specs.Prelude.{ℕ, ◌+◌, ◌^◌, Bool, true, ◌&&◌, nat_le, nat_lt, if◌then◌else◌, List}
-use Rattle.std.specs.Prelude.{[]}
-use Rattle.std.specs.Prelude.{◌∷◌, ◌++◌, map, filter, length}
+use Rattle.std.specs.Prelude.{[], ◌≡◌, ◌<◌, IfSome}
+use Rattle.std.specs.Prelude.{◌∷◌, ◌++◌, map, filter, length, reverse}
 use Rattle.std.proofs.Common.{Option, Some, None}
-use Rattle.std.specs.List.{enumerate_from}
-use Rattle.circular_buffer.specs.Buffer.{keep_last}
-use Rattle.history.specs.Entry.{EntryParts}
+use Rattle.std.specs.List.{AllByRecursion, enumerate_from}
+use Rattle.irc_names.specs.CaseMapping.{key_of}
+use Rattle.irc_names.specs.declared.case_mapping.CaseMapping.TheVariants.{Ascii}
+use Rattle.history.specs.Entry.{EntryParts, IsWrittenEntry}
+use Rattle.history.specs.Retained.{after_one_more, retained, targets}
+use Rattle.history.specs.Rings.{Rings, rings_of}
 
--- the last messages, oldest first and with their numbers, how many there may be, and the number of
--- the next message, none where the last number was given
+-- the messages that are retained, oldest first and with their numbers, how many there may be to one
+-- target, and the number of the next message, none where the last number was given
 pub record Messages : Type 0 where
   pub capacity : ℕ
   pub kept : List (ℕ × EntryParts)
@@ -18,6 +21,15 @@ pub record Messages : Type 0 where
 abbrev pub is_capacity : ℕ → Bool
 is_capacity capacity = nat_le 1 capacity && nat_le capacity 10000
 
+-- of how many targets messages are retained (our own choice)
+abbrev pub target_limit : ℕ
+target_limit = 128
+
+-- what the target of a message is known by: two targets are the same where their keys under the
+-- `ascii` mapping are equal
+abbrev pub target_key : ℕ × EntryParts → List ℕ
+target_key m = key_of Ascii m.1.target
+
 -- a history to which no message came
 abbrev pub no_messages : ℕ → ℕ → Messages
 no_messages capacity first = record { capacity = capacity; kept = []; next = Some first }
@@ -26,11 +38,11 @@ no_messages capacity first = record { capacity = capacity; kept = []; next = Som
 abbrev pub number_after : ℕ → Option ℕ
 number_after number = if nat_lt (number + 1) (2 ^ 64) then Some (number + 1) else None
 
--- one message more: the last ones are kept
+-- one message more: it is kept, and of the others those that stay
 abbrev pub with_message : ℕ → EntryParts → Messages → Messages
 with_message number entry h = record {
   capacity = h.capacity;
-  kept = keep_last h.capacity (h.kept ++ (number, entry) ∷ []);
+  kept = after_one_more target_key target_limit h.capacity (h.kept ++ (number, entry) ∷ []);
   next = number_after number;
 }
 
@@ -51,10 +63,27 @@ missed_by mark h = missed_of mark h.kept
 abbrev pub numbered : ℕ → Option ℕ
 numbered number = if nat_lt number (2 ^ 64) then Some number else None
 
--- the history of these messages, of which the first has this number
+-- the history of these messages, of which the first has this number: those that are retained, by
+-- looking back
 abbrev pub history_of : ℕ → ℕ → List EntryParts → Messages
 history_of capacity first messages = record {
   capacity = capacity;
-  kept = keep_last capacity (enumerate_from first messages);
+  kept = retained target_key target_limit capacity (enumerate_from first messages);
   next = numbered (first + length messages);
 }
+
+-- each message that is kept can be written, as one from a line
+abbrev pub AreWrittenMessages : Messages → Type 0
+AreWrittenMessages h = AllByRecursion (λ m. IsWrittenEntry m.1) h.kept
+
+-- of how many targets there are messages
+abbrev pub targets_held : Messages → ℕ
+targets_held h = length (targets target_key (reverse h.kept))
+
+-- what holds of a history in memory: its rings are those of the messages that are kept, and these
+-- are numbered below the next one
+pub record IsTied (capacity : ℕ) (kept : List (ℕ × EntryParts)) (next : Option ℕ) (rings : Rings)
+    : Type 0 where
+  pub some : 0 < capacity
+  pub same : rings ≡ record { capacity = capacity; rings = rings_of target_key kept }
+  pub below : IfSome next (λ number. AllByRecursion (λ m. m.0 < number) kept)

@@ -1,5 +1,5 @@
-//! The messages that are kept for clients that were away: the last ones of a network, each with its
-//! number, and which of them each client name has seen.
+//! The messages that are kept for clients that were away: the last ones to each target of a network,
+//! each with its number, and which of them each client name has seen.
 #![tactic(auto)]
 
 mod entry;
@@ -7,8 +7,10 @@ pub mod laws;
 mod marks;
 mod names;
 mod ring;
+mod targets;
 
 pub use entry::{Entry, is_message};
 pub use marks::{AdmitError, Marks, NAME_LIMIT};
-pub use ring::{CAPACITY_LIMIT, CapacityError, History, PushError, Spent};
+pub use ring::{CAPACITY_LIMIT, CapacityError, History, PushError};
 pub use std::alloc::AllocError as OutOfMemory;
+pub use targets::TARGET_LIMIT;

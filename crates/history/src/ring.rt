@@ -1,21 +1,31 @@
-//! The last messages.
+//! The last messages to each target.
 
-ghost use Rattle.std.specs.Prelude.{◌≡◌, ◌↔◌, ◌≤◌, ◌&&◌, IfOk, IsErrOf, IsTrue, None, OnErr, Some};
+ghost use Rattle.std.specs.Prelude.{◌≡◌, ◌↔◌, ◌<◌, ◌≤◌, ◌&&◌, IfOk, IsErrOf, IsTrue, None, OnErr, Some};
 ghost use Rattle.std.specs.Prelude.{◌++◌, ◌∷◌, [], OnOk, length, map, nat_eq, option_map};
 ghost use Rattle.std.specs.Prelude.{slice_get, false};
+ghost use Rattle.std.specs.List.{AllByRecursion};
+ghost use Rattle.std.specs.NonZero.{non_zero_usize_get};
+ghost use Rattle.std.specs.Option.{option_map_or, unwrap_or};
 ghost use Rattle.circular_buffer.specs.Buffer.{last_item};
 ghost use Rattle.history.specs.Entry.{IsWrittenEntry, entry_parts};
-ghost use Rattle.history.specs.Messages.{is_capacity, missed_by, missed_of, no_messages};
-ghost use Rattle.history.specs.Messages.{number_after, with_message};
+ghost use Rattle.history.specs.Messages.{AreWrittenMessages, is_capacity, missed_by, no_messages};
+ghost use Rattle.history.specs.Messages.{number_after, target_key, targets_held, with_message};
+ghost use Rattle.history.specs.Retained.{after_one_more};
+ghost use Rattle.history.specs.Rings.{all_taken, rings_of, taken};
 
 use crate::OutOfMemory;
 use crate::entry::Entry;
+use crate::targets::Targets;
 use circular_buffer::HeapCircularBuffer;
+use irc_names::CaseMapping;
 use std::alloc::{Allocator, Global};
+use std::collections::BTreeMap;
 use std::marker::Model;
+use std::num::NonZeroUsize;
+use std::ops::Bound;
 use thiserror::Error;
 
-/// How many messages a history may hold.
+/// How many messages to one target a history may hold.
 pub const CAPACITY_LIMIT: usize = 10_000;
 
 /// Why there is no history.
@@ -39,11 +49,6 @@ impl From<OutOfMemory> for CapacityError {
     }
 }
 
-/// The number 18446744073709551615 was given, and there is none for a further message.
-#[derive(Clone, Copy, Debug, PartialEq, Eq, Error)]
-#[error("numbers spent")]
-pub struct Spent;
-
 /// Why a message was not taken.
 #[derive(Clone, Copy, Debug, PartialEq, Eq, Error)]
 pub enum PushError {
@@ -65,25 +70,34 @@ impl From<OutOfMemory> for PushError {
     }
 }
 
-/// The last messages of a network, oldest first, each with its number. Numbers rise by one from
-/// message to message; a number is given once.
+/// The last messages to each target of a network, of the 128 targets that were written last. Two
+/// targets are the same where their keys under the `ascii` mapping are equal. Numbers rise by one
+/// from message to message; a number is given once.
+///
+/// Messages are kept by their numbers, and each target has a ring of the numbers of its own.
 #[derive(Drop)]
 pub struct History<A: Allocator = Global> {
-    ring: HeapCircularBuffer<(u64, Entry<A>), A>,
+    kept: BTreeMap<u64, Entry<A>, A>,
+    targets: Targets<A>,
+    // how many messages to one target there may be
+    capacity: usize,
     // the number of the next message; `None` where the last number was given
     next: Option<u64>,
+    alloc: A,
 }
 
 impl<A: Allocator> Model for History<A> {
-    ghost use Rattle.history.specs.Messages.{Messages};
+    ghost use Rattle.history.specs.Messages.{IsTied, Messages};
 
     ghost Value = { Messages };
 
     ghost view = { λ h. record {
-      capacity = h.ring.capacity;
-      kept = h.ring.items;
+      capacity = h.capacity;
+      kept = h.kept.entries;
       next = h.next;
     } };
+
+    ghost invariant = { λ h. IsTied h.capacity h.kept.entries h.next h.targets };
 }
 
 /// The number behind this one; `None` behind the last one.
@@ -93,57 +107,156 @@ fn number_after(number: u64) -> Option<u64>
     number.checked_add(1)
 }
 
-/// Adds the message, where its number is above the mark or there is none.
-fn push_missed<'h, A: Allocator, B: Allocator>(
-    missed: &mut Vec<&'h Entry<A>, B>,
-    numbered: &'h (u64, Entry<A>),
-    mark: Option<u64>,
-) -> Result<(), OutOfMemory>
-    ensures { OnOk result (map (λ entry. entry.now) missed.new.items
-        ≡ map (λ entry. entry.now) missed.old.items ++ missed_of mark (numbered.now ∷ [])) }
+/// Takes out the message of a number, if one is given.
+fn take_out<A: Allocator + Drop>(kept: &mut BTreeMap<u64, Entry<A>, A>, number: Option<u64>)
+    ensures { kept.new.entries
+        ≡ option_map_or (λ j. taken j kept.old.entries) number kept.old.entries }
 {
-    let (number, entry) = numbered;
-    if mark.is_none_or(|mark| mark < *number) {
-        missed.push(entry)?;
+    if let Some(number) = number {
+        let _message = kept.remove(&number);
     }
-    Ok(())
 }
 
-impl<A: Allocator> History<A> {
-    /// A history without messages, that holds the last `capacity` of them and gives the first one
-    /// this number. `BadCapacity` comes exactly outside of 1 to 10,000, and before memory is asked
-    /// for. One allocation, for all messages but their texts.
+/// Takes out the messages of these numbers.
+fn take_all_out<A: Allocator + Drop>(
+    kept: &mut BTreeMap<u64, Entry<A>, A>,
+    numbers: &HeapCircularBuffer<u64, A>,
+)
+    ensures { kept.new.entries ≡ all_taken numbers.now.items kept.old.entries }
+{
+    for number in numbers.iter() {
+        let _message = kept.remove(number);
+    }
+}
+
+/// Takes out the messages of a target that is forgotten, if one is.
+fn forget<A: Allocator + Drop>(
+    kept: &mut BTreeMap<u64, Entry<A>, A>,
+    numbers: Option<HeapCircularBuffer<u64, A>>,
+)
+    ensures { kept.new.entries ≡ all_taken
+        (unwrap_or (option_map (λ ring. ring.items) numbers) []) kept.old.entries }
+{
+    if let Some(numbers) = numbers {
+        take_all_out(kept, &numbers);
+    }
+}
+
+/// Keeps one message more, to the target of this key, and takes out what goes for it. After an
+/// error all is as it was.
+fn keep<A: Allocator + Copy + Drop>(
+    kept: &mut BTreeMap<u64, Entry<A>, A>,
+    targets: &mut Targets<A>,
+    key: Vec<u8, A>,
+    number: u64,
+    entry: Entry<A>,
+) -> Result<(), OutOfMemory>
+    requires below { AllByRecursion (λ m. m.0 < number) kept.old.entries }
+    requires tied { targets.old.rings ≡ rings_of target_key kept.old.entries }
+    requires key { key.items ≡ target_key (number, entry) }
+    ensures ok { OnOk result (kept.new.entries ≡ after_one_more target_key 128
+        targets.old.capacity (kept.old.entries ++ (number, entry) ∷ [])) }
+    ensures tied { OnOk result (targets.new ≡ record {
+      capacity = targets.old.capacity;
+      rings = rings_of target_key kept.new.entries;
+    }) }
+    ensures err { OnErr result (kept.new.entries ≡ kept.old.entries) }
+    ensures same { OnErr result (targets.new ≡ targets.old) }
+{
+    let _count = targets.count();
+    kept.insert(number, entry)?;
+    match targets.note(key, number) {
+        Ok((oldest, forgotten)) => {
+            take_out(kept, oldest);
+            forget(kept, forgotten);
+            Ok(())
+        }
+        Err(e) => {
+            let _message = kept.remove(&number);
+            Err(e)
+        }
+    }
+}
+
+impl<A: Allocator + Copy + Drop> History<A> {
+    /// A history without messages, that holds the last `capacity` of them to each target, and gives
+    /// the first one this number. `BadCapacity` comes exactly outside of 1 to 10,000, and before
+    /// memory is asked for. It takes memory with its messages.
     pub fn new(alloc: A, capacity: usize, first: u64) -> Result<History<A>, CapacityError>
         ensures made { IfOk result (λ history. history ≡ no_messages capacity first) }
         ensures bad { IsErrOf result CapacityError.BadCapacity ↔ (is_capacity capacity ≡ false) }
     {
-        if capacity == 0 || capacity > CAPACITY_LIMIT {
-            return Err(CapacityError::BadCapacity);
+        match NonZeroUsize::new(capacity) {
+            Some(some) if capacity <= CAPACITY_LIMIT => Ok(History::keeping(alloc, some, first)?),
+            _ => Err(CapacityError::BadCapacity),
         }
-        let ring = HeapCircularBuffer::with_capacity(alloc, capacity)?;
+    }
+
+    /// A history without messages, as `new` makes it, but with no limit to its capacity: for who
+    /// reads an input once, and not for one that runs on.
+    pub fn keeping(alloc: A, capacity: NonZeroUsize, first: u64) -> Result<History<A>, OutOfMemory>
+        ensures { IfOk result (λ history. history
+            ≡ no_messages (non_zero_usize_get capacity) first) }
+    {
+        let capacity = capacity.get();
+        let targets = Targets::new(alloc, capacity)?;
         Ok(History {
-            ring,
+            kept: BTreeMap::new(alloc),
+            targets,
+            capacity,
             next: Some(first),
+            alloc,
         })
     }
 
-    /// Keeps a message that was made before, and answers its number; where the history is full it
-    /// gives up its oldest one. Takes no memory. After `Spent` it is unchanged.
-    pub fn add(&mut self, entry: Entry<A>) -> Result<u64, Spent>
-    where
-        A: Drop,
+    /// Keeps a message that was made before, and answers its number. Where its target has as many
+    /// messages as it may, the oldest of them goes; where it is a new target and there are 128, the
+    /// one that was written least recently goes with all its messages. `Spent` comes exactly where
+    /// there is no number left, and before memory is asked for. After an error the history is
+    /// unchanged.
+    pub fn add(&mut self, entry: Entry<A>) -> Result<u64, PushError>
         ensures ok { IfOk result (λ number. (self.old.next ≡ Some number)
             × (self.new ≡ with_message number entry self.old)) }
-        ensures spent { OnErr result ((self.old.next ≡ None) × (self.new ≡ self.old)) }
+        ensures spent { IsErrOf result PushError.Spent ↔ (self.old.next ≡ None) }
+        ensures kept { OnErr result (self.new ≡ self.old) }
+        ensures written { IsWrittenEntry entry → AreWrittenMessages self.old →
+            AreWrittenMessages self.new }
     {
         let Some(number) = self.next else {
-            return Err(Spent);
+            return Err(PushError::Spent);
         };
+        let key = CaseMapping::Ascii.key(self.alloc, entry.target())?;
+        keep(&mut self.kept, &mut self.targets, key, number, entry)?;
         self.next = number_after(number);
-        let _pushed_out = self.ring.push_back((number, entry));
         Ok(number)
     }
 
+    /// Keeps a message of these texts, which may be any, and answers its number, as `add` does. `Spent` comes exactly
+    /// where there is no number left, and before memory is asked for. After an error the history is
+    /// unchanged.
+    pub fn push(
+        &mut self,
+        time: &[u8],
+        source: &[u8],
+        command: &[u8],
+        target: &[u8],
+        text: &[u8],
+    ) -> Result<u64, PushError>
+        ensures ok { IfOk result (λ number. (self.old.next ≡ Some number)
+            × (self.new ≡ with_message number
+            (entry_parts time.now source.now command.now target.now text.now) self.old)) }
+        ensures spent { IsErrOf result PushError.Spent ↔ (self.old.next ≡ None) }
+        ensures kept { OnErr result (self.new ≡ self.old) }
+    {
+        if self.next.is_none() {
+            return Err(PushError::Spent);
+        }
+        let entry = Entry::make(self.alloc, time, source, command, target, text)?;
+        self.add(entry)
+    }
+}
+
+impl<A: Allocator> History<A> {
     /// The number of the next message; `None` where the last number was given.
     pub fn next_number(&self) -> Option<u64>
         ensures { result ≡ self.now.next }
@@ -155,14 +268,21 @@ impl<A: Allocator> History<A> {
     pub fn len(&self) -> usize
         ensures { result ≡ length self.now.kept }
     {
-        self.ring.len()
+        self.kept.len()
     }
 
     /// Whether none is kept: whether none was taken yet.
     pub fn is_empty(&self) -> bool
         ensures { result ≡ nat_eq (length self.now.kept) 0 }
     {
-        self.ring.is_empty()
+        self.kept.is_empty()
+    }
+
+    /// Of how many targets messages are kept; at most 128.
+    pub fn target_count(&self) -> usize
+        ensures { result ≡ targets_held self.now }
+    {
+        self.targets.count()
     }
 
     /// The message at place `i`, counted from 0, the oldest first; `None` from `len` on.
@@ -170,7 +290,7 @@ impl<A: Allocator> History<A> {
         ensures { option_map (λ entry. entry.now) result
             ≡ option_map (λ m. m.1) (slice_get self.now.kept i) }
     {
-        let (_, entry) = self.ring.get(i)?;
+        let (_, entry) = self.kept.iter().nth(i)?;
         Some(entry)
     }
 
@@ -178,23 +298,30 @@ impl<A: Allocator> History<A> {
     pub fn number_of(&self, i: usize) -> Option<u64>
         ensures { result ≡ option_map (λ m. m.0) (slice_get self.now.kept i) }
     {
-        let (number, _) = self.ring.get(i)?;
+        let (number, _) = self.kept.iter().nth(i)?;
         Some(*number)
     }
 
     /// The messages numbered above the mark, or all where there is none, oldest first: those that a
-    /// client missed that has seen all up to the mark. One growing allocation.
+    /// client missed that has seen all up to the mark. The first of them is looked up, and only
+    /// they are gone over. One growing allocation.
     pub fn missed<B: Allocator>(
         &self,
         alloc: B,
         mark: Option<u64>,
     ) -> Result<Vec<&Entry<A>, B>, OutOfMemory>
-        ensures { IfOk result (λ missed. map (λ entry. entry.now) missed.items
+        ensures missed { IfOk result (λ missed. map (λ entry. entry.now) missed.items
             ≡ missed_by mark self.now) }
+        ensures written { AreWrittenMessages self.now → IfOk result (λ missed.
+            AllByRecursion (λ entry. IsWrittenEntry entry.now) missed.items) }
     {
+        let above = match mark {
+            Some(mark) => Bound::Excluded(mark),
+            None => Bound::Unbounded,
+        };
         let mut missed = Vec::new(alloc);
-        for numbered in self.ring.iter() {
-            push_missed(&mut missed, numbered, mark)?;
+        for (_, entry) in self.kept.range((above, Bound::Unbounded)) {
+            missed.push(entry)?;
         }
         Ok(missed)
     }
@@ -203,39 +330,7 @@ impl<A: Allocator> History<A> {
     pub fn last_number(&self) -> Option<u64>
         ensures { result ≡ option_map (λ m. m.0) (last_item self.now.kept) }
     {
-        let (number, _) = self.ring.back()?;
+        let (number, _) = self.kept.last_key_value()?;
         Some(*number)
-    }
-}
-
-impl<A: Allocator + Copy + Drop> History<A> {
-    /// Keeps a message of these texts, and answers its number; where the history is full it gives
-    /// up its oldest message. `Spent` comes exactly where there is no number left, and before
-    /// memory is asked for. After an error the history is unchanged. One allocation.
-    pub fn push(
-        &mut self,
-        time: &[u8],
-        source: &[u8],
-        command: &[u8],
-        target: &[u8],
-        text: &[u8],
-    ) -> Result<u64, PushError>
-        requires { IsWrittenEntry
-            (entry_parts time.now source.now command.now target.now text.now) }
-        ensures ok { IfOk result (λ number. (self.old.next ≡ Some number)
-            × (self.new ≡ with_message number
-            (entry_parts time.now source.now command.now target.now text.now) self.old)) }
-        ensures spent { IsErrOf result PushError.Spent ↔ (self.old.next ≡ None) }
-        ensures kept { OnErr result (self.new ≡ self.old) }
-    {
-        if self.next.is_none() {
-            return Err(PushError::Spent);
-        }
-        let alloc = *self.ring.allocator();
-        let entry = Entry::make(alloc, time, source, command, target, text)?;
-        match self.add(entry) {
-            Ok(number) => Ok(number),
-            Err(Spent) => Err(PushError::Spent),
-        }
     }
 }
