@@ -189,16 +189,3 @@ grouped_next mapping names entries i place e target before now within is so_far 
     ∙ sym (ap (grouped_by mapping names) more
     ∙ fold_push (λ groups (x : EntryParts). push_at (place_among mapping x.target names) x groups)
     (no_entries names) parts e.now)
-
-all_push : {X : Type 0} (P : X → Type 0) (xs : List X) (x : X) → AllByRecursion P xs → P x
-    → AllByRecursion P (xs ++ x ∷ [])
-all_push P [] x all holds = (holds, tt)
-all_push P (y ∷ xs) x all holds = (all.0, all_push P xs x all.1 holds)
-
-pub all_next : {X : Type 0} (P : X → Type 0) (xs : List X) (i : ℕ) (x : X) → i < length xs
-    → x ≡ get_or xs i x → AllByRecursion P (take i xs) → P x
-    → AllByRecursion P (take (i + 1) xs)
-all_next P xs i x within is all holds =
-    subst (AllByRecursion P)
-    (sym (take_more xs i x within ∙ ap (λ y. take i xs ++ y ∷ []) (sym is)))
-    (all_push P (take i xs) x all holds)

@@ -2,11 +2,13 @@
 use Rattle.std.proofs.Common.{◌≡◌, ℕ, ◌+◌, Bool, true, false, T, List, [], ◌∷◌, ◌++◌, refl, sym, ap}
 use Rattle.std.proofs.Common.{subst}
 use Rattle.std.proofs.Common.{◌∙◌, map, filter, cond, append-nil, codes, None}
-use Rattle.std.specs.Prelude.{not, ◌&&◌, ◌||◌}
+use Rattle.std.specs.Prelude.{not, ◌&&◌, ◌||◌, ◌==◌, length}
 use Rattle.std.specs.List.{AllByRecursion, enumerate_from, flat_map, list_any}
 use Rattle.std.specs.List.Sorted.{IsPermutation}
 use Rattle.std.specs.Ordering.{is_lt}
 use Rattle.std.specs.Option.{is_some}
+use Rattle.std.proofs.Common.{arith}
+use Rattle.std.proofs.lemmas.Bool.Decides.{nat_tests}
 use Rattle.std.specs.Cmp.{eq_by_cmp_equiv}
 use Rattle.std.specs.Cmp.Lexicographic.{nat_list_cmp_total}
 use Rattle.std.specs.FinMap as fin
@@ -24,7 +26,8 @@ use Rattle.client_caps.specs.declared.caps.Caps.{Caps}
 use Rattle.history.specs.Entry.{EntryParts, bare_line, is_message_command}
 use Rattle.client_caps.specs.Answers.{from_bouncer}
 use Rattle.welcome.specs.Playback.{backlog_of, batch_name, entry_line, is_for, is_for_a_channel}
-use Rattle.welcome.specs.Playback.{messages_in, playback_of, played_of}
+use Rattle.welcome.specs.Burst.{state_part_of}
+use Rattle.welcome.specs.Playback.{burst_of, messages_in, playback_of, played_of}
 use Rattle.welcome.proofs.Arranging.{first_of, key_in, left_over, not_equal, second_of}
 
 -- ---- what the lines tell
@@ -356,3 +359,24 @@ others_in_order v es =
     (λ e at. ap is_some at)))
     ∙ filter_twice other other es
     ∙ filter_alike (λ e. other e && other e) other (λ e. twice_one (other e)) es
+
+-- ---- nothing missed
+
+no_lines : {A : Type 0} (lines : A → List Parts) (xs : List A) → ((x : A) → lines x ≡ [])
+    → flat_map lines xs ≡ []
+no_lines lines [] none = refl
+no_lines lines (x ∷ xs) none = ap (λ l. l ++ flat_map lines xs) (none x) ∙ no_lines lines xs none
+
+-- where nothing was missed, the burst is the state part
+pub nothing_missed : (v : View) (caps : Caps) → burst_of v caps [] ≡ state_part_of v caps
+unfolding playback_of
+nothing_missed v caps =
+    ap (λ l. state_part_of v caps ++ (l ++ []))
+    (no_lines (λ (at : ℕ × (Text × Channel)). backlog_of caps at.0 at.1.1.name [])
+    (enumerate_from 0 (fin.entries v.channels)) (λ at. refl))
+    ∙ append-nil (state_part_of v caps)
+
+-- a list that is told to be empty
+pub empty_list : {A : Type 0} (xs : List A) → true ≡ (length xs == 0) → xs ≡ []
+empty_list [] e = refl
+empty_list (x ∷ xs) e = grind (arith, nat_tests, e)

@@ -5,9 +5,10 @@ ghost use Rattle.std.specs.List.{AllByRecursion, flat_map};
 ghost use Rattle.std.specs.FinMap as fin;
 ghost use Rattle.irc_line.specs.Writing.{written};
 ghost use Rattle.history.specs.Entry.{IsWrittenEntry};
+ghost use Rattle.welcome.specs.Burst.{state_part_of};
 ghost use Rattle.welcome.specs.Playback.{burst_of};
 
-use crate::backlog::push_playback;
+use crate::backlog::{playback, push_playback};
 use crate::packet::Packet;
 use crate::state::push_state;
 use client_caps::Caps;
@@ -37,7 +38,8 @@ fn packet_of_burst<V: NetworkView, A: Allocator + Clone, B: Allocator>(
 
 /// The welcome burst: what tells a client that comes where it stands on the network (see
 /// [`state_part`](crate::state_part)), and then the messages that it missed (see
-/// [`playback`](crate::playback)). The view is ready. One growing buffer holds its bytes.
+/// [`playback`](crate::playback)). The view is ready, and the entries are those of messages from
+/// lines, so they can be written. One growing buffer holds its bytes.
 ///
 /// `OutOfMemory` is told where an allocation was refused, and for no other cause.
 pub fn burst<V: NetworkView, A: Allocator + Copy, B: Allocator>(
@@ -46,7 +48,8 @@ pub fn burst<V: NetworkView, A: Allocator + Copy, B: Allocator>(
     caps: Caps,
     entries: &[&Entry<B>],
 ) -> Result<Packet<A>, OutOfMemory>
-    requires { (V.view view.now).ready ≡ true }
+    requires ready { (V.view view.now).ready ≡ true }
+    requires written { AllByRecursion (λ entry. IsWrittenEntry entry.now) entries.now }
     ensures { IfOk result (λ packet.
         packet ≡ burst_of (V.view view.now) caps (map (λ entry. entry.now) entries.now)) }
 {
@@ -54,4 +57,27 @@ pub fn burst<V: NetworkView, A: Allocator + Copy, B: Allocator>(
     push_state(&mut text, view, caps)?;
     push_playback(&mut text, view, caps, entries)?;
     packet_of_burst(text, view, caps, entries)
+}
+
+/// The welcome burst, as [`burst`] makes it, where its state part is there already: a share of it
+/// if no message was missed, and else its bytes and the playback's in one packet.
+///
+/// `OutOfMemory` is told where an allocation was refused, and for no other cause.
+pub fn burst_from<V: NetworkView, A: Allocator + Copy, B: Allocator>(
+    alloc: A,
+    state: &Packet<A>,
+    view: &V,
+    caps: Caps,
+    entries: &[&Entry<B>],
+) -> Result<Packet<A>, OutOfMemory>
+    requires state { state.now ≡ state_part_of (V.view view.now) caps }
+    requires written { AllByRecursion (λ entry. IsWrittenEntry entry.now) entries.now }
+    ensures { IfOk result (λ packet.
+        packet ≡ burst_of (V.view view.now) caps (map (λ entry. entry.now) entries.now)) }
+{
+    if entries.is_empty() {
+        return state.share();
+    }
+    let played = playback(alloc, view, caps, entries)?;
+    state.followed_by(alloc, &played)
 }

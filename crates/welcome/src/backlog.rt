@@ -235,8 +235,6 @@ pub fn push_playback<V: NetworkView, A: Allocator + Copy, B: Allocator>(
 ) -> Result<(), OutOfMemory>
     ensures said { OnOk result (text.new.items ≡ text.old.items ++ flat_map written
         (playback_of (V.view view.now) caps (map (λ entry. entry.now) entries.now))) }
-    ensures written { OnOk result
-        (AllByRecursion (λ entry. IsWrittenEntry entry.now) entries.now) }
     ensures few { length (fin.entries (V.view view.now).channels) < 2 ^ 64 }
 {
     let alloc = *text.allocator();
@@ -280,13 +278,14 @@ fn packet_of_playback<V: NetworkView, A: Allocator + Clone, B: Allocator>(
 ///
 /// With server-time each has its time, as `@batch=h0;time=2020-01-02T03:04:05.678Z` (IRCv3
 /// server-time). Each target is looked up once among the channels; else the time is that of
-/// writing.
+/// writing. The entries are those of messages from lines, so they can be written.
 pub fn playback<V: NetworkView, A: Allocator + Copy, B: Allocator>(
     alloc: A,
     view: &V,
     caps: Caps,
     entries: &[&Entry<B>],
 ) -> Result<Packet<A>, OutOfMemory>
+    requires { AllByRecursion (λ entry. IsWrittenEntry entry.now) entries.now }
     ensures { IfOk result (λ packet.
         packet ≡ playback_of (V.view view.now) caps (map (λ entry. entry.now) entries.now)) }
 {

@@ -3,9 +3,7 @@
 ghost use Rattle.std.specs.Prelude.{◌≡◌, ◌<◌, ◌≤◌, ◌+◌, ◌++◌, ◌∷◌, [], IfOk, OnOk, length, map};
 ghost use Rattle.std.specs.Prelude.{option_to_list};
 ghost use Rattle.std.specs.Option.{option_map};
-ghost use Rattle.std.specs.List.{AllByRecursion};
 ghost use Rattle.net_view.specs.Readers.{channel_shown};
-ghost use Rattle.history.specs.Entry.{IsWrittenEntry};
 ghost use Rattle.welcome.specs.Arranged.{channel_names_of, grouped_by, place_among, push_at};
 
 use history::Entry;
@@ -97,11 +95,9 @@ pub fn grouped<'e, A: Allocator + Copy, B: Allocator>(
     names: &[&[u8]],
     entries: &[&'e Entry<B>],
 ) -> Result<Vec<Vec<&'e Entry<B>, A>, A>, OutOfMemory>
-    ensures groups { IfOk result (λ groups. map (λ group. map (λ entry. entry.now) group.items)
+    ensures { IfOk result (λ groups. map (λ group. map (λ entry. entry.now) group.items)
         groups.items ≡ grouped_by mapping (map (λ name. name.now) names.now)
         (map (λ entry. entry.now) entries.now)) }
-    ensures written { OnOk result
-        (AllByRecursion (λ entry. IsWrittenEntry entry.now) entries.now) }
 {
     let mut groups = empty_groups(alloc, names)?;
     for entry in entries {

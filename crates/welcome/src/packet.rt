@@ -1,6 +1,7 @@
 //! What a session is sent in one go.
 
-ghost use Rattle.std.specs.Prelude.{◌≡◌, ◌==◌, ◌∷◌, ◌<◌, [], IfOk, filter, length, Some, slice_get};
+ghost use Rattle.std.specs.Prelude.{◌≡◌, ◌==◌, ◌∷◌, ◌<◌, ◌++◌, [], IfOk, filter, length, Some};
+ghost use Rattle.std.specs.Prelude.{slice_get};
 ghost use Rattle.std.specs.List.{flat_map};
 ghost use Rattle.irc_line.specs.Lines.{lines_of};
 ghost use Rattle.irc_line.specs.Writing.{written};
@@ -79,6 +80,18 @@ impl<A: Allocator + Clone> Packet<A> {
             line.write(&mut text)?;
         }
         Packet::of_text(text, lines.len())
+    }
+
+    /// The packet of this packet's lines and then those of another. One allocation for the bytes,
+    /// which are copied once, and one for the count of their owners.
+    pub fn followed_by(&self, alloc: A, other: &Packet<A>) -> Result<Packet<A>, OutOfMemory>
+        ensures { IfOk result (λ packet. packet ≡ self.now ++ other.now) }
+    {
+        let mut text = Vec::new(alloc);
+        text.reserve_exact(self.text.len() + other.text.len())?;
+        text.extend_from_slice(&self.text)?;
+        text.extend_from_slice(&other.text)?;
+        Packet::of_text(text, self.count + other.count)
     }
 }
 

@@ -14,7 +14,7 @@ push_groups-requires g c =
     let room : length c.deref.result.now < length c.in_ok-groups.groups.items =
     has_place (λ group. map (λ entry. entry.now) group.items) c.in_ok-groups.groups.items
     c.mapping.result c.deref.result.now (map (λ entry. entry.now) c.args.entries.now)
-    (length c.deref.result.now) c.in_ok-groups.ensures.groups (omega arith) in
+    (length c.deref.result.now) c.in_ok-groups.ensures (omega arith) in
     omega (names, groups, room, arith)
 
 pub returns-clause-said : goal.returns-clause-said
@@ -28,7 +28,7 @@ returns-clause-said g c =
     c.args.text.now.items c.push_groups.new.text.items said
     (ap texts_of c.deref-2.ensures.value ∙ c.in_ok-names.ensures)
     (ap (map (λ group. map (λ entry. entry.now) group.items)) c.deref-3.ensures.value
-    ∙ c.in_ok-groups.ensures.groups)
+    ∙ c.in_ok-groups.ensures)
     (ap texts_of c.deref.ensures.value ∙ c.in_ok-names.ensures)
     (c.mapping.ensures ∙ ap mapping_of c.support.ensures)
     (keyed_of v (source.0) (source.2))) c.push_groups.ensures
