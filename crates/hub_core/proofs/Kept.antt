@@ -1,10 +1,9 @@
 -- What is kept are messages.
-use Rattle.std.proofs.Common.{◌≡◌, ℕ, zero, suc, List, [], ◌∷◌, Option, None, Some, true, false}
-use Rattle.std.proofs.Common.{refl, map, drop, filter, cond, unwrap_or, rules}
+use Rattle.std.proofs.Common.{◌≡◌, ℕ, List, [], ◌∷◌, Option, None, Some, true, false}
+use Rattle.std.proofs.Common.{refl, map, filter, cond, unwrap_or, rules}
 use Rattle.std.specs.Prelude.{IsTrue, IfSome, if◌then◌else◌}
 use Rattle.std.specs.Option.{option_and_then, option_map, option_map_or}
 use Rattle.std.specs.List.{AllByRecursion}
-use Rattle.std.proofs.SliceLists.{all_by_recursion_push}
 use Rattle.irc_line.specs.Line.{Parts}
 use Rattle.irc_line.specs.Tags.{time_of}
 use Rattle.net_view.specs.Arrival.{Received, Lost}
@@ -12,15 +11,10 @@ use Rattle.client_caps.specs.Moment.{time_text_of}
 use Rattle.history.specs.Entry.{EntryParts, entry_parts, is_message_command, message_of}
 use Rattle.history.specs.Entry.{target_and_text}
 use Rattle.history.specs.Messages.{Messages, missed_of, is_missed, with_message}
+use Rattle.history.proofs.LastMessages.{all_kept}
 use Rattle.hub_ends.specs.Came.{Came}
 use Rattle.hub_core.specs.Pumping.{entry_for, with_entry}
 use Rattle.hub_core.specs.Running.{AreMessages}
-
-pub all_drop : {X : Type 0} (P : X → Type 0) (n : ℕ) (xs : List X) → AllByRecursion P xs
-    → AllByRecursion P (drop n xs)
-all_drop P zero xs all = all
-all_drop P (suc n) [] all = tt
-all_drop P (suc n) (x ∷ xs) all = all_drop P n xs all.1
 
 -- what is kept of an item is a message
 pub said_is_message : (time : List ℕ) (source : Option (List ℕ)) (line : Parts)
@@ -56,9 +50,7 @@ messages_stay h (Some e) all is = go h.next where
       → AreMessages (option_map_or (λ number. with_message number e h) next h).kept
   go None = all
   go (Some number) =
-      all_drop (λ (m : ℕ × EntryParts). IsTrue (is_message_command m.1.command)) _ _
-      (all_by_recursion_push (λ (m : ℕ × EntryParts). IsTrue (is_message_command m.1.command))
-      h.kept (number, e) all is)
+      all_kept (λ (m : ℕ × EntryParts). IsTrue (is_message_command m.1.command)) h number e all is
 
 -- what somebody missed are messages
 pub missed_are_messages : (mark : Option ℕ) (kept : List (ℕ × EntryParts)) → AreMessages kept

@@ -2,7 +2,6 @@
 use Rattle.std.proofs.Common.{◌≡◌, ◌∙◌, ◌+◌, ◌<◌, ◌^◌, ℕ, List, [], ◌∷◌, ◌++◌, Option, None, Some}
 use Rattle.std.proofs.Common.{Bool, true, false, refl, sym, ap, subst, length, length-append}
 use Rattle.std.proofs.Common.{append-nil, option_to_list, arith, rules, nat_lt, inl, inr}
-use Rattle.std.proofs.SliceLists.{all_by_recursion_push}
 use Rattle.std.proofs.lemmas.List.Elements.{Contains-append_left, Contains-append_right}
 use Rattle.std.proofs.lemmas.List.Elements.{Contains-append_cases, filter_map-append}
 use Rattle.std.specs.Prelude.{IfSome, IsSome, IsTrue, if◌then◌else◌, codes}
@@ -16,13 +15,15 @@ use Rattle.std.specs.Option.{option_and_then}
 use Rattle.irc_line.specs.Writing.{untagged_line}
 use Rattle.net_view.specs.Arrival.{Arrival, Received, Lost}
 use Rattle.history.specs.Entry.{EntryParts, entry_parts, is_message, is_message_command, message_of}
-use Rattle.history.specs.Entry.{target_and_text}
+use Rattle.history.specs.Entry.{IsWrittenEntry, target_and_text}
 use Rattle.hub_core.specs.States.{OutletState}
 use Rattle.hub_core.specs.Pumping.{Puts, pong_for}
-use Rattle.history.specs.Messages.{Messages, no_messages, numbered, with_message}
+use Rattle.history.specs.Messages.{AreWrittenMessages, Messages, no_messages, numbered}
+use Rattle.history.specs.Messages.{with_message}
 use Rattle.hub_core.specs.Pumping.{with_entry}
 use Rattle.hub_core.specs.Running.{AreNumbered, content, content_said}
-use Rattle.hub_core.proofs.Kept.{messages_stay, all_drop}
+use Rattle.history.proofs.LastMessages.{all_kept}
+use Rattle.hub_core.proofs.Kept.{messages_stay}
 
 -- ---- a message more, if there is one
 
@@ -97,12 +98,20 @@ adds_said a b o =
 
 pub numbered_start : (capacity first : ℕ) → first < 2 ^ 64
     → AreNumbered [] first (no_messages capacity first)
-numbered_start capacity first small = record { messages = tt; origins = tt; numbers = search rules }
+numbered_start capacity first small =
+    record { messages = tt; written = tt; origins = tt; numbers = search rules }
 
 all_map : {X : Type 0} (P Q : X → Type 0) → ((x : X) → P x → Q x) → (xs : List X)
     → AllByRecursion P xs → AllByRecursion Q xs
 all_map P Q f [] all = tt
 all_map P Q f (x ∷ xs) all = (f x all.0, all_map P Q f xs all.1)
+
+written_stay : (h : Messages) (e : EntryParts) (o : Option ℕ) → AreWrittenMessages h
+    → IsWrittenEntry e
+    → AreWrittenMessages (option_map_or (λ number. with_message number e h) o h)
+written_stay h e None rest here = rest
+written_stay h e (Some number) rest here =
+    all_kept (λ (m : ℕ × EntryParts). IsWrittenEntry m.1) h number e rest here
 
 module _ (all more : List (List Text)) (first : ℕ) where
   origins_stay : (h : Messages) (e : EntryParts) (o : Option ℕ)
@@ -112,9 +121,7 @@ module _ (all more : List (List Text)) (first : ℕ) where
       (option_map_or (λ number. with_message number e h) o h).kept
   origins_stay h e None rest here = rest
   origins_stay h e (Some number) rest here =
-      all_drop (λ (m : ℕ × EntryParts). Contains more (content m.1)) _ _
-      (all_by_recursion_push (λ (m : ℕ × EntryParts). Contains more (content m.1)) h.kept
-      (number, e) rest here)
+      all_kept (λ (m : ℕ × EntryParts). Contains more (content m.1)) h number e rest here
 
   -- the number after the last one
   next_number : (h : Messages) (e : EntryParts) (o : Option ℕ) (n : ℕ) (small : Bool)
@@ -125,13 +132,14 @@ module _ (all more : List (List Text)) (first : ℕ) where
   next_number h e o n false lt is some = let none : IsSome {T = ℕ} None = subst IsSome is some in cc
 
   numbered_one : (h : Messages) (e : EntryParts) → Adds (Some (content e)) all more → IsSome h.next
-      → IsTrue (is_message_command e.command) → AreNumbered all first h
+      → IsTrue (is_message_command e.command) → IsWrittenEntry e → AreNumbered all first h
       → AreNumbered more first (with_entry h (Some e))
-  numbered_one h e adds some is k =
+  numbered_one h e adds some is written k =
       let c : length more ≡ length all + 1 = adds.count in
       let n : first + length more ≡ first + length all + 1 = omega arith in
       record {
         messages = messages_stay h (Some e) k.messages is;
+        written = written_stay h e h.next k.written written;
         origins = origins_stay h e h.next
             (all_map _ _ (λ m. adds.kept (content m.1)) h.kept k.origins) adds.here;
         numbers = next_number h e h.next (first + length all) _ refl k.numbers some
@@ -145,6 +153,7 @@ module _ (all more : List (List Text)) (first : ℕ) where
       let n : first + length all ≡ first + length more = omega arith in
       record {
         messages = k.messages;
+        written = k.written;
         origins = all_map _ _ (λ (m : ℕ × EntryParts). adds.kept (content m.1)) h.kept k.origins;
         numbers = k.numbers ∙ ap numbered n;
       }
@@ -152,9 +161,11 @@ module _ (all more : List (List Text)) (first : ℕ) where
   -- a message more, where there is one and it has its number
   pub numbered_step : (h : Messages) (e : Option EntryParts) → Adds (option_map content e) all more
       → (IsSome e → IsSome h.next) → IfSome e (λ e. IsTrue (is_message_command e.command))
-      → AreNumbered all first h → AreNumbered more first (with_entry h e)
-  numbered_step h None adds some is k = numbered_none h adds k
-  numbered_step h (Some e) adds some is k = numbered_one h e adds (some refl) is k
+      → IfSome e IsWrittenEntry → AreNumbered all first h
+      → AreNumbered more first (with_entry h e)
+  numbered_step h None adds some is written k = numbered_none h adds k
+  numbered_step h (Some e) adds some is written k =
+      numbered_one h e adds (some refl) is written k
 
 -- ---- packets for the network
 

@@ -45,7 +45,7 @@ use Rattle.std.proofs.Common.{true, false}
 use Rattle.std.specs.Prelude.{IsTrue, IfSome, IsSome, if◌then◌else◌}
 use Rattle.std.specs.List.{filter_map}
 use Rattle.std.specs.Option.{option_map}
-use Rattle.history.specs.Entry.{EntryParts, is_message_command}
+use Rattle.history.specs.Entry.{EntryParts, IsWrittenEntry, is_message_command}
 
 -- ---- what was heard
 
@@ -202,10 +202,10 @@ module _ (alone : Bool) (h h' : HubState) (x : Came) (v : View) (online : Bool)
       → lost' ≡ lost_channels (heard h ++ x.0 ∷ [])
       → Delivered outlet (λ s. packet_for (view_of (heard h)) x s.caps) h.sessions h'.sessions
       → h'.history ≡ with_entry h.history (entry_for x) → h'.first ≡ h.first
-      → (IsSome (entry_for x) → IsSome h.history.next)
+      → (IsSome (entry_for x) → IsSome h.history.next) → IfSome (entry_for x) IsWrittenEntry
       → filter_map content_said h'.upstream.sent ≡ filter_map content_said h.upstream.sent
       → IsRunning h' w online' lost'
-  goes_on outlet w online' lost' e view on left d k f numbers u =
+  goes_on outlet w online' lost' e view on left d k f numbers written u =
       let l : less h'.taken h'.held ≡ h'.taken = ap (less h'.taken) e ∙ less_none h'.taken in
       let more : List (List Text) = (filter_map content_heard (less h.taken h.held)
       ++ option_to_list (content_heard x)) ++ filter_map content_said h.upstream.sent in
@@ -229,7 +229,7 @@ module _ (alone : Bool) (h h' : HubState) (x : Came) (v : View) (online : Bool)
             (numbered_step (messages_of h) more h.first h.history (entry_for x)
             (adds_heard (filter_map content_heard (less h.taken h.held))
             (filter_map content_said h.upstream.sent) (content_heard x)) numbers
-            (entry_is_message x) run.numbered)));
+            (entry_is_message x) written run.numbered)));
       }
 
   -- it is held
@@ -387,8 +387,8 @@ pub said_on : (h h' : HubState) (v : View) (online : Bool) {lost : List Joining}
     → h'.history ≡ with_entry h.history e → h'.first ≡ h.first
     → h'.upstream.sent ≡ h.upstream.sent ++ p ∷ [] → content_said p ≡ option_map content e
     → (IsSome e → IsSome h.history.next) → IfSome e (λ e. IsTrue (is_message_command e.command))
-    → EachFits v h'.sessions → IsRunning h' v online lost
-said_on h h' v online e p run t o k f u c some is fit =
+    → IfSome e IsWrittenEntry → EachFits v h'.sessions → IsRunning h' v online lost
+said_on h h' v online e p run t o k f u c some is written fit =
     let l : less h'.taken h'.held ≡ less h.taken h.held =
     ap (λ l. less l h'.held) t ∙ ap (λ o. less h.taken o) o in
     let a : heard h' ≡ heard h = ap arrivals l in
@@ -412,5 +412,6 @@ said_on h h' v online e p run t o k f u c some is fit =
           (subst (AreNumbered more h.first) (sym k)
           (numbered_step (messages_of h) more h.first h.history e
           (adds_said (filter_map content_heard (less h.taken h.held))
-          (filter_map content_said h.upstream.sent) (option_map content e)) some is run.numbered)));
+          (filter_map content_said h.upstream.sent) (option_map content e)) some is written
+          run.numbered)));
     }

@@ -4,7 +4,7 @@ use Rattle.std.proofs.Common.{false, refl, sym, ap, subst, append-nil, option_to
 use Rattle.std.proofs.Common.{cond, ◌&&◌, ◌||◌, Bor}
 use Rattle.std.specs.Prelude.{IfSome, codes}
 use Rattle.std.specs.List.{AllByRecursion}
-use Rattle.std.specs.Option.{option_map}
+use Rattle.std.specs.Option.{option_and_then, option_map, unwrap_or}
 use Rattle.std.proofs.lemmas.List.{map-append}
 use Rattle.std.proofs.lemmas.Grind.{flat_map-append}
 use Rattle.irc_line.specs.Line.{Parts, has_command}
@@ -12,8 +12,9 @@ use Rattle.irc_line.specs.Writing.{is_part}
 use Rattle.irc_names.specs.Nick.{is_nameable}
 use Rattle.irc_support.specs.Text.{Text}
 use Rattle.net_view.specs.Agrees.{Agrees}
-use Rattle.net_view.specs.Arrival.{Received}
-use Rattle.net_view.specs.StateLines.{is_state_line}
+use Rattle.irc_line.specs.Tags.{time_of}
+use Rattle.net_view.specs.Arrival.{Lost, Received}
+use Rattle.net_view.specs.StateLines.{is_state_line, may_need_memory}
 use Rattle.net_view.specs.View.{View, view_of}
 use Rattle.net_view.proofs.Commands.{no_state_line}
 use Rattle.client_caps.specs.Caps.{held}
@@ -22,10 +23,13 @@ use Rattle.client_caps.specs.Images.{image_of, is_passed_on, as_sent}
 use Rattle.client_caps.specs.LateAttach.{as_received}
 use Rattle.client_caps.specs.Moment.{time_text_of}
 use Rattle.client_caps.proofs.ImageWritten.{nick_written}
-use Rattle.history.specs.Entry.{is_message, is_message_command}
+use Rattle.history.specs.Entry.{entry_parts, is_message, is_message_command, target_and_text}
+use Rattle.history.specs.Messages.{Messages}
+use Rattle.hub_ends.specs.Came.{Came}
 use Rattle.welcome.proofs.PlaybackTold.{IsUnread, unread_lines}
 use Rattle.std.specs.Prelude.{if◌then◌else◌}
 use Rattle.hub_core.specs.States.{OutletState, SessionState, HubState}
+use Rattle.hub_core.specs.Pumping.{entry_for, with_entry}
 use Rattle.hub_core.specs.Saying.{from_us, own_message}
 use Rattle.hub_core.specs.Given.{Delivered, Sends, given_but, is_left_out, packet_for, packet_of}
 use Rattle.hub_core.specs.Given.{with_outlet}
@@ -127,3 +131,27 @@ pub own_is : (h : HubState) (line own : Parts) (moment : ℕ) → is_message lin
 own_is h line own moment m e =
     ap (λ b. if b then Some (Received (from_us h line), moment) else None) m
     ∙ ap (λ l. Some (Received l, moment)) (sym e)
+
+-- ---- items that a view may need memory for
+
+-- a state line is no message
+pub no_entry : (x : Came) → may_need_memory x.0 ≡ true → entry_for x ≡ None
+no_entry (Lost, moment) need = absurd cc
+no_entry (Received line, moment) need =
+    (elim (is_message_command line.command) as (λ b. is_message_command line.command ≡ b
+    → entry_for (Received line, moment) ≡ None) [
+      | true ↦ λ t. let quiet : is_state_line line ≡ false =
+          no_state_line line
+          (front (has_command line (codes "PRIVMSG")) (has_command line (codes "NOTICE")) _ t) in
+          let both : false ≡ true = sym quiet ∙ need in absurd cc
+      | false ↦ λ f. ap (λ b. if b
+          then option_and_then (λ s. option_map (λ p. entry_parts
+          (unwrap_or (time_of line) (time_text_of moment)) s line.command p.0 p.1)
+          (target_and_text line.params)) line.source
+          else None) f
+    ]) refl
+
+-- so where a view may have refused an item, nothing was kept of it
+pub nothing_kept : (x : Came) (h k : Messages) → may_need_memory x.0 ≡ true
+    → k ≡ with_entry h (entry_for x) → k ≡ h
+nothing_kept x h k need is = is ∙ ap (with_entry h) (no_entry x need)

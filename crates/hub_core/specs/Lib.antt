@@ -10,3 +10,4 @@ pub mod Saying
 pub mod Upkeep
 pub mod LostChannels
 pub mod InMemory
+pub mod StateParts

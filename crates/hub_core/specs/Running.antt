@@ -9,7 +9,7 @@ use Rattle.net_view.specs.View.{View, view_of}
 use Rattle.client_caps.specs.Caps.{held}
 use Rattle.client_caps.specs.LateAttach.{as_received}
 use Rattle.history.specs.Entry.{EntryParts, is_message, is_message_command}
-use Rattle.history.specs.Messages.{Messages, numbered}
+use Rattle.history.specs.Messages.{AreWrittenMessages, Messages, numbered}
 use Rattle.hub_ends.specs.Came.{Came}
 use Rattle.irc_support.specs.Text.{Text}
 use Rattle.hub_core.specs.Online.{is_online}
@@ -58,10 +58,11 @@ messages_of h =
     filter_map content_heard (less h.taken h.held)
     ++ filter_map content_said h.upstream.sent
 
--- What is kept are messages, and each of them came from the network or was sent there; each of all
--- these was given a number.
+-- What is kept are messages, which can be written, and each of them came from the network or was
+-- sent there; each of all these was given a number.
 pub record AreNumbered (all : List (List Text)) (first : ℕ) (h : Messages) : Type 0 where
   pub messages : AreMessages h.kept
+  pub written : AreWrittenMessages h
   pub origins : AllByRecursion (λ m. Contains all (content m.1)) h.kept
   pub numbers : h.next ≡ numbered (first + length all)
 

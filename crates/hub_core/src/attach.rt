@@ -6,25 +6,27 @@ ghost use Rattle.std.specs.Prelude.{false, OnOk, option_map};
 ghost use Rattle.std.specs.FinMap as map;
 ghost use Rattle.std.specs.Option.{option_and_then};
 ghost use Rattle.std.specs.Vec.{vec_len, vec_capacity};
-ghost use Rattle.history.specs.Messages.{missed_by, number_after};
+ghost use Rattle.history.specs.Messages.{AreWrittenMessages, missed_by, number_after};
 ghost use Rattle.history.specs.Marks.{mark_of};
 ghost use Rattle.welcome.specs.Playback.{burst_of};
 ghost use Rattle.hub_core.specs.Attaching.{Attaches, Refuses, names_full, refusal_of};
 ghost use Rattle.hub_core.specs.Attaching.{with_name, missed};
 ghost use Rattle.hub_core.specs.Insides.{outlet_of};
+ghost use Rattle.hub_core.specs.StateParts.{AreStateParts};
 ghost use Rattle.hub_core.specs.States.{view_now};
 ghost use Rattle.hub_core.specs.declared.attach.AttachError.TheVariants as refused;
 
 use crate::hub::Hub;
 use crate::pump::put_into_room;
 use crate::session::Session;
+use crate::state_parts::{StatePart, state_part_for};
 use client_caps::Caps;
 use history::{AdmitError, History, Marks};
 use hub_ends::{Inlet, Outlet, SessionId};
 use net_view::{NetworkView, OutOfMemory};
 use std::alloc::Global;
 use thiserror::Error;
-use welcome::{Packet, burst};
+use welcome::{Packet, burst_from};
 
 /// Why a session was not attached, in the order in which the reasons are looked for, but that room
 /// in its outlet is looked for before memory is asked for a new name.
@@ -113,20 +115,52 @@ fn mark_of(marks: &Marks, name: Option<&[u8]>) -> Option<u64>
     marks.mark(name?)
 }
 
-/// The burst for a client of this name.
+/// The burst for a client with this mark, over the state part that is kept for its capabilities,
+/// or is made now and kept.
+fn burst_over<V: NetworkView>(
+    alloc: Global,
+    view: &V,
+    history: &History,
+    mark: Option<u64>,
+    caps: Caps,
+    parts: &mut Vec<StatePart>,
+) -> Result<Packet, OutOfMemory>
+    requires ready { (V.view view.now).ready ≡ true }
+    requires written { AreWrittenMessages history.now }
+    requires parts { AreStateParts (V.view view.now) parts.old.items }
+    ensures burst { IfOk result (λ packet.
+        packet ≡ burst_of (V.view view.now) caps (missed_by mark history.now)) }
+    ensures parts { AreStateParts (V.view view.now) parts.new.items }
+{
+    let missed = history.missed(alloc, mark)?;
+    let state = state_part_for(alloc, view, caps, parts)?;
+    burst_from(alloc, &state, view, caps, &missed)
+}
+
+/// The burst for a client with this mark. Where memory is refused, the state parts that are kept
+/// are dropped, and it is tried once more.
 fn burst_for<V: NetworkView>(
     alloc: Global,
     view: &V,
     history: &History,
     mark: Option<u64>,
     caps: Caps,
+    parts: &mut Vec<StatePart>,
 ) -> Result<Packet, OutOfMemory>
-    requires { (V.view view.now).ready ≡ true }
-    ensures { IfOk result (λ packet.
+    requires ready { (V.view view.now).ready ≡ true }
+    requires written { AreWrittenMessages history.now }
+    requires parts { AreStateParts (V.view view.now) parts.old.items }
+    ensures burst { IfOk result (λ packet.
         packet ≡ burst_of (V.view view.now) caps (missed_by mark history.now)) }
+    ensures parts { AreStateParts (V.view view.now) parts.new.items }
 {
-    let missed = history.missed(alloc, mark)?;
-    burst(alloc, view, caps, &missed)
+    match burst_over(alloc, view, history, mark, caps, parts) {
+        Err(_) if !parts.is_empty() => {
+            parts.clear();
+            burst_over(alloc, view, history, mark, caps, parts)
+        }
+        made => made,
+    }
 }
 
 /// Makes room for one more session and for its client's name, where its outlet has room for a
@@ -192,23 +226,25 @@ impl<V: NetworkView + Drop, I: Inlet, O: Outlet> Hub<V, I, O> {
     /// The number of a session to attach, a copy of its client's name, and its burst; or why there
     /// can be none, as far as it is known before anything changes.
     fn parts_for(
-        &self,
+        &mut self,
         caps: Caps,
         name: Option<&[u8]>,
     ) -> Result<(SessionId, Option<Vec<u8>>, Packet), AttachError>
-        ensures ok { IfOk result (λ parts. (self.now.next ≡ Some parts.0) ×
-            (refusal_of self.now (option_map (λ n. n.now) name.entry) ≡ None) ×
+        ensures ok { IfOk result (λ parts. (self.old.next ≡ Some parts.0) ×
+            (refusal_of self.old (option_map (λ n. n.now) name.entry) ≡ None) ×
             (option_map (λ c. c.items) parts.1 ≡ option_map (λ n. n.now) name.entry) ×
-            (parts.2 ≡ burst_of (view_now self.now) caps
-            (missed self.now (option_map (λ n. n.now) name.entry)))) }
-        ensures refused { IfErr result (λ e. (refusal_of self.now
-            (option_map (λ n. n.now) name.entry) ≡ Some e) ⊎ ((refusal_of self.now
+            (parts.2 ≡ burst_of (view_now self.old) caps
+            (missed self.old (option_map (λ n. n.now) name.entry)))) }
+        ensures refused { IfErr result (λ e. (refusal_of self.old
+            (option_map (λ n. n.now) name.entry) ≡ Some e) ⊎ ((refusal_of self.old
             (option_map (λ n. n.now) name.entry) ≡ None) × (e ≡ refused.OutOfMemory))) }
+        ensures same { self.new ≡ self.old }
     {
         let id = self.admission(name)?;
         let mark = mark_of(&self.marks, name);
-        let burst = burst_for(self.alloc, &self.view, &self.history, mark, caps)?;
         let own_name = copy_of(self.alloc, name)?;
+        let (view, history) = (&self.view, &self.history);
+        let burst = burst_for(self.alloc, view, history, mark, caps, &mut self.parts)?;
         Ok((id, own_name, burst))
     }
 

@@ -8,7 +8,8 @@ ghost use Rattle.history.specs.Messages.{is_capacity};
 use crate::image_table::Made;
 use crate::lost::LostChannel;
 use crate::session::{Session, place_of};
-use client_caps::Moment;
+use crate::state_parts::StatePart;
+use client_caps::{Caps, Moment};
 use history::{CapacityError, History, Marks};
 use hub_ends::{Inlet, Outlet, SessionId};
 use net_view::{Item, NetworkView, OutOfMemory};
@@ -85,6 +86,8 @@ pub struct Hub<V: NetworkView + Drop, I: Inlet, O: Outlet> {
     pub(crate) made: Vec<Made>,
     // the channels at the last loss that was taken
     pub(crate) lost: Vec<LostChannel>,
+    // the state parts of the view, for the sets of capabilities that were asked for since it changed
+    pub(crate) parts: Vec<StatePart>,
 }
 
 impl<V: NetworkView + Drop, I: Inlet, O: Outlet> Model for Hub<V, I, O> {
@@ -93,6 +96,7 @@ impl<V: NetworkView + Drop, I: Inlet, O: Outlet> Model for Hub<V, I, O> {
     ghost use Rattle.hub_core.specs.Insides.{hub_of};
     ghost use Rattle.hub_core.specs.Codes.{hub_code};
     ghost use Rattle.hub_core.specs.LostChannels.{joining};
+    ghost use Rattle.hub_core.specs.StateParts.{AreStateParts};
     ghost use Rattle.std.specs.Prelude.{map};
 
     ghost Value = { HubState };
@@ -102,7 +106,8 @@ impl<V: NetworkView + Drop, I: Inlet, O: Outlet> Model for Hub<V, I, O> {
     ghost view = { hub_of I.taken I.ahead O.sent O.closed O.capacity O.free };
 
     ghost invariant = { λ h. IsRunning (hub_of I.taken I.ahead O.sent O.closed O.capacity O.free h)
-        (V.view h.view) h.online (map joining h.lost.items) };
+        (V.view h.view) h.online (map joining h.lost.items) ×
+        AreStateParts (V.view h.view) h.parts.items };
 }
 
 impl<V: NetworkView + Drop, I: Inlet, O: Outlet> Hub<V, I, O> {
@@ -111,7 +116,7 @@ impl<V: NetworkView + Drop, I: Inlet, O: Outlet> Hub<V, I, O> {
     ghost use Rattle.hub_core.specs.Running.{IsRunning};
     ghost use Rattle.hub_core.specs.Insides.{outlet_of};
     ghost use Rattle.hub_core.specs.LostChannels.{joining, lost_channels};
-    ghost use Rattle.hub_core.specs.Upkeep.{LendsOutlet};
+    ghost use Rattle.hub_core.specs.Upkeep.{LendsOutlet, TellsCaps};
 
     /// A hub of these parts, without sessions, messages or client names. `BadCapacity` comes
     /// exactly where the setup's history is 0 or above 10,000, and before memory is asked for.
@@ -149,6 +154,7 @@ impl<V: NetworkView + Drop, I: Inlet, O: Outlet> Hub<V, I, O> {
             images: 0,
             made: Vec::new(alloc),
             lost: Vec::new(alloc),
+            parts: Vec::new(alloc),
         })
     }
 
@@ -190,6 +196,17 @@ impl<V: NetworkView + Drop, I: Inlet, O: Outlet> Hub<V, I, O> {
             return None;
         };
         Some(&self.sessions[place].outlet)
+    }
+
+    /// The capabilities that the client of a session holds now; `None` exactly where no session has
+    /// the number.
+    pub fn caps(&self, id: SessionId) -> Option<Caps>
+        ensures { TellsCaps self.now id result }
+    {
+        let Some(place) = place_of(&self.sessions, id) else {
+            return None;
+        };
+        Some(self.sessions[place].caps)
     }
 
     /// The channels that we were on when the connection was lost last, with their keys, in the

@@ -14,6 +14,7 @@ mod pump;
 mod respond;
 mod said;
 mod session;
+mod state_parts;
 mod upkeep;
 
 pub use attach::{AttachError, NoSession, SESSION_LIMIT};

@@ -2,7 +2,7 @@
 
 ghost use Rattle.std.specs.Prelude.{ℕ, ◌≡◌, ◌<◌, ◌++◌, ◌∷◌, ◌+◌, ◌↔◌, [], None, Some, Option};
 ghost use Rattle.std.specs.Prelude.{IsSome};
-ghost use Rattle.std.specs.Prelude.{IfOk, IfSome, IfNone, IsErrOf, OnErr, OnOk};
+ghost use Rattle.std.specs.Prelude.{IfErr, IfOk, IfSome, IfNone, IsErrOf, OnErr, OnOk};
 ghost use Rattle.std.specs.Prelude.{cond, is_some, option_map, length, map};
 ghost use Rattle.std.specs.Prelude.{IsTrue, codes, slice_get, is_some};
 ghost use Rattle.std.specs.Option.{option_map_or, option_to_list};
@@ -10,6 +10,7 @@ ghost use Rattle.std.specs.List.{AllByRecursion, list_all};
 ghost use Rattle.irc_line.specs.Writing.{untagged_line};
 ghost use Rattle.net_view.specs.Arrival.{arrival_of};
 ghost use Rattle.irc_line.specs.Tags.{is_tag_byte};
+ghost use Rattle.history.specs.Entry.{IsWrittenEntry};
 ghost use Rattle.hub_ends.specs.Came.{came};
 ghost use Rattle.hub_core.specs.Given.{Took, all_sets_but, given_but, packet_for};
 ghost use Rattle.hub_core.specs.Insides.{outlet_of, state_of, states_of};
@@ -24,8 +25,9 @@ use crate::image_table::Made;
 use crate::lost::{LostChannel, lost_by, renew};
 use crate::prepare::prepare;
 use crate::session::Session;
+use crate::state_parts::{drop_if_short, drop_outdated};
 use client_caps::{Moment, shown_time};
-use history::{Entry, History, is_message};
+use history::{Entry, History, PushError, is_message};
 use hub_ends::{Inlet, Outlet, SessionId};
 use irc_line::Line;
 use irc_names::is_nameable;
@@ -52,7 +54,8 @@ fn next_item<I: Inlet>(held: &mut Option<(Item, Moment)>, inlet: &mut I) -> Opti
 
 /// The entry of an item, where it is a message.
 fn entry_of(alloc: Global, item: &Item, moment: Moment) -> Result<Option<Entry>, OutOfMemory>
-    ensures { IfOk result (λ entry. entry ≡ entry_for (arrival_of item.now, moment.0)) }
+    ensures made { IfOk result (λ entry. entry ≡ entry_for (arrival_of item.now, moment.0)) }
+    ensures written { IfOk result (λ entry. IfSome entry IsWrittenEntry) }
 {
     match item {
         Item::Line(line) => {
@@ -128,6 +131,7 @@ pub fn prepare_item<V: NetworkView, O: Outlet>(
     ensures states { states_of O.sent O.closed O.capacity O.free sessions.new.items
         ≡ states_of O.sent O.closed O.capacity O.free sessions.old.items }
     ensures made { IfOk result (λ entry. entry ≡ entry_for (arrival_of item.now, moment.0)) }
+    ensures written { IfOk result (λ entry. IfSome entry IsWrittenEntry) }
     ensures coming { OnOk result (AllByRecursion (λ s. s.coming
         ≡ given_but except (packet_for (V.view view.now) (arrival_of item.now, moment.0))
         (state_of O.sent O.closed O.capacity O.free s)) sessions.new.items) }
@@ -146,15 +150,20 @@ pub fn prepare_item<V: NetworkView, O: Outlet>(
 }
 
 /// Keeps a message, where there is one. That there is a number for it is for the caller to see to.
-pub fn keep(history: &mut History, entry: Option<Entry>)
+/// After an error nothing has changed.
+pub fn keep(history: &mut History, entry: Option<Entry>) -> Result<(), HubError>
     requires { IsSome entry → IsSome history.old.next }
-    ensures { history.new ≡ with_entry history.old entry }
+    ensures ok { OnOk result (history.new ≡ with_entry history.old entry) }
+    ensures err { IfErr result (λ e. e ≡ HubError.OutOfMemory) }
+    ensures same { OnErr result (history.new ≡ history.old) }
 {
-    if let Some(entry) = entry {
-        match history.add(entry) {
-            Ok(_) => {}
-            Err(_) => unreachable!(),
-        }
+    let Some(entry) = entry else {
+        return Ok(());
+    };
+    match history.add(entry) {
+        Ok(_) => Ok(()),
+        Err(PushError::OutOfMemory) => Err(HubError::OutOfMemory),
+        Err(PushError::Spent) => unreachable!(),
     }
 }
 
@@ -210,6 +219,7 @@ fn prepare_arrival<V: NetworkView, O: Outlet>(
         (r.1 ≡ pong_for (arrival_of item.now)) ×
         (option_map (λ channels. map joining channels.items) r.2
         ≡ lost_by (V.view view.now) (arrival_of item.now))) }
+    ensures written { IfOk result (λ r. IfSome r.0 IsWrittenEntry) }
     ensures coming { OnOk result (AllByRecursion (λ s. s.coming
         ≡ given_but None (packet_for (V.view view.now) (arrival_of item.now, moment.0))
         (state_of O.sent O.closed O.capacity O.free s)) sessions.new.items) }
@@ -253,17 +263,25 @@ impl<V: NetworkView + Drop, I: Inlet, O: Outlet> Hub<V, I, O> {
             Ok(made) => made,
             Err(e) => {
                 self.held = Some((item, moment));
+                drop_if_short(&mut self.parts, e);
                 return Err(e);
             }
         };
+        if let Err(e) = keep(&mut self.history, entry) {
+            self.held = Some((item, moment));
+            drop_if_short(&mut self.parts, e);
+            return Err(e);
+        }
+        // A message is no state line, so the view takes it: here nothing was kept.
         if let Err(_) = self.view.take(&item) {
             self.held = Some((item, moment));
+            drop_if_short(&mut self.parts, HubError::OutOfMemory);
             return Err(HubError::OutOfMemory);
         }
+        drop_outdated(&mut self.parts, &item);
         self.images = self.images.saturating_add(images_of(&item, &self.made));
         self.online = online_after(self.online, &item);
         renew(&mut self.lost, lost);
-        keep(&mut self.history, entry);
         put(&mut self.upstream, pong);
         let cut = deliver(&mut self.sessions);
         Ok(Pumped::Taken { cut })

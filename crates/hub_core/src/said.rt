@@ -1,14 +1,14 @@
 //! What clients say.
 
 ghost use Rattle.std.specs.Prelude.{◌≡◌, ◌∷◌, ◌<◌, [], None, Some, true, IsSome, IfErr, IfOk, OnOk};
-ghost use Rattle.std.specs.Prelude.{IsTrue, false, length, option_map};
+ghost use Rattle.std.specs.Prelude.{IfSome, IsTrue, false, length, option_map};
 ghost use Rattle.std.specs.List.{AllByRecursion, list_any};
 ghost use Rattle.net_view.specs.Arrival.{Received};
 ghost use Rattle.hub_core.specs.Given.{all_sets_but, given_but, packet_for};
 ghost use Rattle.hub_core.specs.Insides.{state_of, states_of};
 ghost use Rattle.hub_core.specs.Pumping.{entry_for};
 ghost use Rattle.irc_line.specs.Line.{has_command};
-ghost use Rattle.history.specs.Entry.{is_message};
+ghost use Rattle.history.specs.Entry.{IsWrittenEntry, is_message};
 ghost use Rattle.hub_core.specs.Online.{is_online};
 ghost use Rattle.hub_core.specs.Saying.{Forwards, Says, Sent, meaning, meant_by, own_line, sent_up};
 ghost use Rattle.hub_core.specs.States.{heard};
@@ -126,6 +126,7 @@ fn prepare_own<V: NetworkView, O: Outlet>(
         (r.0 ≡ entry_for (Received (own_line (V.view view.now) line.now), moment.0)) ×
         (r.1 ≡ length (all_sets_but (Some id) []
         (states_of O.sent O.closed O.capacity O.free sessions.old.items)))) }
+    ensures written { IfOk result (λ r. IfSome r.0 IsWrittenEntry) }
     ensures coming { OnOk result (AllByRecursion (λ s. s.coming
         ≡ given_but (Some id)
         (packet_for (V.view view.now) (Received (own_line (V.view view.now) line.now), moment.0))
@@ -165,9 +166,9 @@ impl<V: NetworkView + Drop, I: Inlet, O: Outlet> Hub<V, I, O> {
             moment,
             &mut self.made,
         )?;
+        keep(&mut self.history, entry)?;
         put_into_room(&mut self.upstream, packet);
         self.images = self.images.saturating_add(images);
-        keep(&mut self.history, entry);
         deliver(&mut self.sessions);
         Ok(Said::Forwarded)
     }
@@ -198,7 +199,9 @@ impl<V: NetworkView + Drop, I: Inlet, O: Outlet> Hub<V, I, O> {
     }
 
     /// Does what a line that the session's client said asks for. PING and CAP are answered to the
-    /// session, but for CAP END; it is cut where its outlet has no room for the answer. What is for
+    /// session, but for CAP END; it is cut where its outlet has no room for the answer. A CAP REQ is
+    /// granted where it can be taken; where the capabilities are others then, the catch-up stands
+    /// behind the answer, in one packet. What is for
     /// the network goes there without tags and source; a message, which is PRIVMSG or NOTICE with
     /// two parameters, goes to each other session too, as its client reads it, and is kept.
     ///

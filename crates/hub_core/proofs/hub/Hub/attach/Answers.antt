@@ -33,7 +33,7 @@ module _ (g : Given.Over) (c : goal.After-push_reserved g) where
   burst : c.in-Ok.parts.2 ≡ burst_of (view_now old) c.args.caps (missed old name)
   burst =
       subst (λ h. c.in-Ok.parts.2 ≡ burst_of (view_now h) c.args.caps (missed h name))
-      (sym c.self.view_is) c.in-Ok.ensures.ok.3
+      (sym (c.self.view_is ∙ c.parts_for.ensures.same)) c.in-Ok.ensures.ok.3
 
   sent : Took g.O.Outlet.alone (outlet c.args.outlet)
       (burst_of (view_now old) c.args.caps (missed old name)) (outlet c.put_into_room.new.outlet)
@@ -80,31 +80,34 @@ module _ (g : Given.Over) (c : goal.After-push_reserved g) where
         images = c.self.inside.images;
         made = c.self.inside.made;
         lost = c.self.inside.lost;
+        parts = c.self.inside.parts;
       }
 
   allowed : refusal_of old name ≡ None
-  allowed = subst (λ h. refusal_of h name ≡ None) (sym c.self.view_is) c.in-Ok.ensures.ok.1
+  allowed = subst (λ h. refusal_of h name ≡ None) (sym (c.self.view_is ∙ c.parts_for.ensures.same)) c.in-Ok.ensures.ok.1
 
   number : old.next ≡ Some c.in-Ok.parts.0
   number =
-      subst (λ (h : HubState). h.next ≡ Some c.in-Ok.parts.0) (sym c.self.view_is)
+      subst (λ (h : HubState). h.next ≡ Some c.in-Ok.parts.0) (sym (c.self.view_is ∙ c.parts_for.ensures.same))
       c.in-Ok.ensures.ok.0
 
 pub invariant_of-self-2 : goal.invariant_of-self-2
-invariant_of-self-2 g c =
-    with_sessions (old g c) _ (g.V.NetworkView.view c.self.inside.view) c.self.inside.online
-    c.self.invariant refl refl refl refl refl
-    (subst (EachFits (g.V.NetworkView.view c.self.inside.view)) (sym (now g c))
-    (attached_fits g.O.Outlet.alone (old g c) (g.V.NetworkView.view c.self.inside.view)
-    c.self.inside.online c.args.caps (name g c)
-    (option_and_then (λ n. mark_of n c.self.inside.marks) (name g c)) c.in-Ok.parts.0
-    (outlet g c c.args.outlet) (outlet g c c.put_into_room.new.outlet) c.self.invariant
-    (ap (λ (v : View). v.ready) c.self.invariant.view_is
-    ∙ is_ready (old g c) (name g c) (allowed g c))
-    c.requires.0 c.requires.1
-    (subst (λ v. Took g.O.Outlet.alone (outlet g c c.args.outlet)
-    (burst_of v c.args.caps (missed (old g c) (name g c))) (outlet g c c.put_into_room.new.outlet))
-    (sym c.self.invariant.view_is) (sent g c))))
+invariant_of-self-2 g c = (
+  with_sessions (old g c) _ (g.V.NetworkView.view c.self.inside.view) c.self.inside.online
+      c.self.invariant.0 refl refl refl refl refl
+      (subst (EachFits (g.V.NetworkView.view c.self.inside.view)) (sym (now g c))
+      (attached_fits g.O.Outlet.alone (old g c) (g.V.NetworkView.view c.self.inside.view)
+      c.self.inside.online c.args.caps (name g c)
+      (option_and_then (λ n. mark_of n c.self.inside.marks) (name g c)) c.in-Ok.parts.0
+      (outlet g c c.args.outlet) (outlet g c c.put_into_room.new.outlet) c.self.invariant.0
+      (ap (λ (v : View). v.ready) c.self.invariant.0.view_is
+      ∙ is_ready (old g c) (name g c) (allowed g c))
+      c.requires.0 c.requires.1
+      (subst (λ v. Took g.O.Outlet.alone (outlet g c c.args.outlet)
+      (burst_of v c.args.caps (missed (old g c) (name g c))) (outlet g c c.put_into_room.new.outlet))
+      (sym c.self.invariant.0.view_is) (sent g c)))),
+  c.self.invariant.1,
+)
 
 attaches : (g : Given.Over) (c : goal.After-push_reserved g) → Attaches g.O.Outlet.alone (old g c)
     c.args.caps (name g c) (outlet g c c.args.outlet) c.in-Ok.parts.0 (new g c)
@@ -128,4 +131,4 @@ attaches g c = record {
 }
 
 pub returns-clause-ok : goal.returns-clause-ok
-returns-clause-ok g c = rw (← c.self.view_is) (attaches g c)
+returns-clause-ok g c = rw (← (c.self.view_is ∙ c.parts_for.ensures.same)) (attaches g c)

@@ -44,6 +44,7 @@ module _ (g : Given.Over) (c : goal.Joined-gone-2 g) where
         images = c.self.inside.images;
         made = c.self.inside.made;
         lost = c.self.inside.lost;
+        parts = c.self.inside.parts;
       }
 
   abbrev front : List SessionState
@@ -64,7 +65,7 @@ module _ (g : Given.Over) (c : goal.Joined-gone-2 g) where
 
   fit : EachFits (g.V.NetworkView.view c.self.inside.view)
       (front ++ state c.remove-gone.result ∷ back)
-  fit = subst (EachFits (g.V.NetworkView.view c.self.inside.view)) was c.self.invariant.fit
+  fit = subst (EachFits (g.V.NetworkView.view c.self.inside.view)) was c.self.invariant.0.fit
 
   detaches : Detaches old c.args.id
       (outlet_of g.O.Outlet.sent g.O.Outlet.closed g.O.Outlet.capacity g.O.Outlet.free
@@ -98,12 +99,14 @@ module _ (g : Given.Over) (c : goal.Joined-gone-2 g) where
   }
 
 pub invariant_of-self : goal.invariant_of-self
-invariant_of-self g c =
-    with_sessions (old g c) _ (g.V.NetworkView.view c.self.inside.view) c.self.inside.online
-    c.self.invariant refl refl refl refl refl
-    (subst (EachFits (g.V.NetworkView.view c.self.inside.view)) (sym (now g c))
-    (fits_without (g.V.NetworkView.view c.self.inside.view) (front g c)
-    (state g c c.remove-gone.result) (back g c) (fit g c)))
+invariant_of-self g c = (
+  with_sessions (old g c) _ (g.V.NetworkView.view c.self.inside.view) c.self.inside.online
+      c.self.invariant.0 refl refl refl refl refl
+      (subst (EachFits (g.V.NetworkView.view c.self.inside.view)) (sym (now g c))
+      (fits_without (g.V.NetworkView.view c.self.inside.view) (front g c)
+      (state g c c.remove-gone.result) (back g c) (fit g c))),
+  c.self.invariant.1,
+)
 
 pub returns-clause-ok : goal.returns-clause-ok
 returns-clause-ok g c = rw (← c.self.view_is) (detaches g c)

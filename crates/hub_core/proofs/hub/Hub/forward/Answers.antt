@@ -27,7 +27,7 @@ old g i =
 
 pub returns-then-not-self : goal.returns-then-not-self
 returns-then-not-self g c =
-    rw (← c.self.view_is) (sym c.self.invariant.online_is ∙ c.if-not-self.true, refl)
+    rw (← c.self.view_is) (sym c.self.invariant.0.online_is ∙ c.if-not-self.true, refl)
 
 not_both : true ≡ false → ⊥
 not_both e = cc
@@ -42,7 +42,7 @@ returns-in-Err g c =
           absurd (not_both (sym message ∙ sym w.if-is_for_all.ensures))
     ]) in
     rw (← c.self.view_is) (
-      sym c.self.invariant.online_is ∙ c.if-not-self.false,
+      sym c.self.invariant.0.online_is ∙ c.if-not-self.false,
       number,
       c.if-not-room.ensures.value.0 refl,
       room_found g.O.Outlet.alone (old g c.self.inside) _ _ _ _ c.room.ensures.sent
@@ -53,7 +53,7 @@ pub returns-then-is_for_all-2 : goal.returns-then-is_for_all-2
 returns-then-is_for_all-2 g c =
     rw (← c.self.view_is)
     (sent_from g.O.Outlet.alone (old g c.self.inside) _ c.spread.new.self c.args.id c.args.line.now
-    c.args.moment.0 c.spread.result (sym c.self.invariant.online_is ∙ c.if-not-self.false)
+    c.args.moment.0 c.spread.result (sym c.self.invariant.0.online_is ∙ c.if-not-self.false)
     (elim c.else-is_for_all.branch [
       | else-is_for_all-via-then-is_for_all+else-is_none w ↦
           ap is_some (sym w.next_number.ensures) ∙ w.if-is_none.ensures
@@ -75,7 +75,7 @@ forwards g c =
     no_message (old g c.self.inside) c.args.line.now c.args.moment.0
     (sym c.if-is_for_all-2.ensures) in
     record {
-      online = sym c.self.invariant.online_is ∙ c.if-not-self.false;
+      online = sym c.self.invariant.0.online_is ∙ c.if-not-self.false;
       upstream = record {
         sent = c.put_into_room.ensures.sent
             ∙ (λ k. c.room.ensures.sent k ++ c.in-Ok.ensures k ∷ []);
@@ -97,10 +97,12 @@ pub returns : goal.returns
 returns g c = rw (← c.self.view_is) (forwards g c)
 
 pub invariant_of-self-2 : goal.invariant_of-self-2
-invariant_of-self-2 g c =
-    with_sessions (old g c.self.inside) _ (g.V.NetworkView.view c.self.inside.view)
-    c.self.inside.online c.self.invariant refl refl refl refl
-    (ap (filter_map content_said) (forwards g c).upstream.sent
-    ∙ sent_more (old g c.self.inside).upstream.sent (sent_up c.args.line.now ∷ [])
-    (unsaid c.args.line.now (sym c.if-is_for_all-2.ensures)))
-    c.self.invariant.fit
+invariant_of-self-2 g c = (
+  with_sessions (old g c.self.inside) _ (g.V.NetworkView.view c.self.inside.view)
+      c.self.inside.online c.self.invariant.0 refl refl refl refl
+      (ap (filter_map content_said) (forwards g c).upstream.sent
+      ∙ sent_more (old g c.self.inside).upstream.sent (sent_up c.args.line.now ∷ [])
+      (unsaid c.args.line.now (sym c.if-is_for_all-2.ensures)))
+      c.self.invariant.0.fit,
+  c.self.invariant.1,
+)

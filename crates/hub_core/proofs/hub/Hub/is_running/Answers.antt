@@ -19,4 +19,4 @@ as_heard h h' v online lost e r =
     subst P e (subst L r.lost_is (subst S r.online_is (subst Q r.view_is r)))
 
 pub returns : goal.returns
-returns g c = as_heard _ c.args.self.now _ _ _ c.self.view_is c.self.invariant
+returns g c = as_heard _ c.args.self.now _ _ _ c.self.view_is c.self.invariant.0

@@ -19,12 +19,12 @@ old g i =
 
 pub returns-then-not-self : goal.returns-then-not-self
 returns-then-not-self g c =
-    rw (← c.self.view_is) (inl (sym c.self.invariant.online_is ∙ c.if-not-self.true), refl)
+    rw (← c.self.view_is) (inl (sym c.self.invariant.0.online_is ∙ c.if-not-self.true), refl)
 
 pub returns-in_default : goal.returns-in_default
 returns-in_default g c =
     rw (← c.self.view_is) (
-      sym c.self.invariant.online_is ∙ c.if-not-self.false,
+      sym c.self.invariant.0.online_is ∙ c.if-not-self.false,
       room_found g.O.Outlet.alone (old g c.self.inside) _ _ _ _ c.room.ensures.sent
           c.room.ensures.closed c.room.ensures.capacity c.room.ensures.more c.room.ensures.alone,
     )
@@ -40,7 +40,7 @@ asks : (g : Given.Over) (c : goal.After-put_into_room g)
     (with_upstream (old g c.self.inside) (outlet_of g.O.Outlet.sent g.O.Outlet.closed
     g.O.Outlet.capacity g.O.Outlet.free c.put_into_room.new.outlet))
 asks g c = record {
-  online = sym c.self.invariant.online_is ∙ c.if-not-self.false;
+  online = sym c.self.invariant.0.online_is ∙ c.if-not-self.false;
   given = outlet_of g.O.Outlet.sent g.O.Outlet.closed g.O.Outlet.capacity g.O.Outlet.free
       c.put_into_room.new.outlet;
   sent = record {
@@ -53,12 +53,14 @@ asks g c = record {
 }
 
 pub invariant_of-self-2 : goal.invariant_of-self-2
-invariant_of-self-2 g c =
-    with_sessions (old g c.self.inside) _ (g.V.NetworkView.view c.self.inside.view)
-    c.self.inside.online c.self.invariant refl refl refl refl
-    (ap (filter_map content_said) (sent g c)
-    ∙ sent_more (old g c.self.inside).upstream.sent (life_asked ∷ []) refl)
-    c.self.invariant.fit
+invariant_of-self-2 g c = (
+  with_sessions (old g c.self.inside) _ (g.V.NetworkView.view c.self.inside.view)
+      c.self.inside.online c.self.invariant.0 refl refl refl refl
+      (ap (filter_map content_said) (sent g c)
+      ∙ sent_more (old g c.self.inside).upstream.sent (life_asked ∷ []) refl)
+      c.self.invariant.0.fit,
+  c.self.invariant.1,
+)
 
 pub returns : goal.returns
 returns g c = rw (← c.self.view_is) (asks g c)

@@ -9,26 +9,81 @@ use Rattle.hub_core.specs.declared.session.Session.{Session}
 use Rattle.hub_core.specs.Insides.{hub_of, state_of}
 use Rattle.hub_core.specs.Given.{Delivered, packet_for, given_but}
 use Rattle.hub_core.specs.States.{HubState, SessionState, heard}
-use Rattle.std.specs.Prelude.{IsSome}
+use Rattle.hub_core.specs.StateParts.{AreStateParts}
+use Rattle.net_view.proofs.StepLaw.{view_unchanged}
+use Rattle.std.specs.Prelude.{IfSome, IsSome, true}
+use Rattle.std.proofs.lemmas.Bool.{true_from_ne_false}
+use Rattle.net_view.specs.StateLines.{may_need_memory}
+use Rattle.history.specs.Entry.{IsWrittenEntry}
 use Rattle.hub_core.specs.Pumping.{Takes, Puts, pong_for, with_entry, images_for, counted}
 use Rattle.hub_core.proofs.Numbers.{puts_unsaid}
 use Rattle.hub_core.proofs.Prepared.{map_length}
+use Rattle.hub_core.proofs.Unread.{no_entry, nothing_kept}
 use Rattle.hub_core.proofs.Running.{goes_on, holds_on, lost_more, online_more, left_states}
 use Rattle.hub_core.proofs.hub.Hub.pump.Goals as goal
 use Rattle.hub_core.proofs.hub.Hub.pump.Given
 
 pub invariant_of-self-in-Err : goal.invariant_of-self-in-Err
-invariant_of-self-in-Err g c =
-    holds_on g.I.Inlet.alone _ _ _ _ _
-    record { taken = c.in-Some.ensures.taken; comes = c.in-Some.ensures.ahead }
-    c.self.invariant _ refl refl c.prepare_arrival.ensures.states refl refl refl
+invariant_of-self-in-Err g c = (
+  holds_on g.I.Inlet.alone _ _ _ _ _
+      record { taken = c.in-Some.ensures.taken; comes = c.in-Some.ensures.ahead }
+      c.self.invariant.0 _ refl refl c.prepare_arrival.ensures.states refl refl refl,
+  c.drop_if_short.ensures _ c.self.invariant.1,
+)
+
+pub invariant_of-self-in-Err-keep : goal.invariant_of-self-in-Err-keep
+invariant_of-self-in-Err-keep g c = (
+  holds_on g.I.Inlet.alone _ _ _ _ _
+      record { taken = c.in-Some.ensures.taken; comes = c.in-Some.ensures.ahead }
+      c.self.invariant.0 _ refl refl c.prepare_arrival.ensures.states c.in-Err-keep.ensures.same
+      refl refl,
+  c.drop_if_short-in-Err-keep.ensures _ c.self.invariant.1,
+)
 
 pub invariant_of-self-in-Err-take : goal.invariant_of-self-in-Err-take
 invariant_of-self-in-Err-take g c =
-    holds_on g.I.Inlet.alone _ _ _ _ _
-    record { taken = c.in-Some.ensures.taken; comes = c.in-Some.ensures.ahead }
-    c.self.invariant _ c.in-Err-take.ensures.kept refl c.prepare_arrival.ensures.states
-    refl refl refl
+    let item = came (c.in-Some.item, c.in-Some.moment) in
+    let need : may_need_memory item.0 ≡ true =
+    true_from_ne_false (may_need_memory item.0)
+    (λ f. let refused = c.in-Err-take.ensures.free f in absurd cc) in (
+      holds_on g.I.Inlet.alone _ _ _ _ _
+          record { taken = c.in-Some.ensures.taken; comes = c.in-Some.ensures.ahead }
+          c.self.invariant.0 _ c.in-Err-take.ensures.kept refl c.prepare_arrival.ensures.states
+          (nothing_kept item c.self.inside.history c.keep.new.history need
+          (c.in_default-keep.ensures.ok
+          ∙ ap (with_entry c.self.inside.history) c.in-Ok.ensures.made.0)) refl refl,
+      c.drop_if_short-in-Err-take.ensures _
+          (subst (λ v. AreStateParts v c.self.inside.parts.items) (sym c.in-Err-take.ensures.kept)
+          c.self.invariant.1),
+    )
+
+pub returns-in-Err-take : goal.returns-in-Err-take
+returns-in-Err-take g c =
+    let item = came (c.in-Some.item, c.in-Some.moment) in
+    let need : may_need_memory item.0 ≡ true =
+    true_from_ne_false (may_need_memory item.0)
+    (λ f. let refused = c.in-Err-take.ensures.free f in absurd cc) in record {
+      step = rw (← c.self.view_is) record {
+        item = item;
+        comes = record { taken = c.in-Some.ensures.taken; ahead = c.in-Some.ensures.ahead };
+        held = refl;
+        spent = (
+          λ e. absurd cc,
+          λ s. let some = subst IsSome (no_entry item need) s.0 in absurd cc,
+        );
+        same = (
+          c.prepare_arrival.ensures.states,
+          refl,
+          nothing_kept item c.self.inside.history c.keep.new.history need
+              (c.in_default-keep.ensures.ok
+              ∙ ap (with_entry c.self.inside.history) c.in-Ok.ensures.made.0),
+          refl,
+          refl,
+          refl,
+          refl,
+        );
+      };
+    }
 
 module _ (g : Given.Over) (c : goal.Joined-item g) where
   abbrev state : Session g.row.O.Denot → SessionState
@@ -57,6 +112,7 @@ module _ (g : Given.Over) (c : goal.Joined-item g) where
         images = c.saturating_add-self-inside.result;
         made = c.prepare_arrival.new.made;
         lost = c.renew.new.channels;
+        parts = c.drop_outdated.new.parts;
       }
 
   abbrev item : Came
@@ -66,7 +122,7 @@ module _ (g : Given.Over) (c : goal.Joined-item g) where
       old.sessions (map state c.deliver-cut.new.sessions.items)
   delivered =
       subst (λ v. Delivered g.O.Outlet.alone (λ s. packet_for v item s.caps) old.sessions
-      (map state c.deliver-cut.new.sessions.items)) c.self.invariant.view_is
+      (map state c.deliver-cut.new.sessions.items)) c.self.invariant.0.view_is
       (subst (λ ss. Delivered g.O.Outlet.alone
       (λ s. packet_for (g.V.NetworkView.view c.self.inside.view) item s.caps) ss
       (map state c.deliver-cut.new.sessions.items)) c.prepare_arrival.ensures.states
@@ -86,27 +142,35 @@ lost_then g c =
     c.renew.ensures
     ∙ ap (λ o. unwrap_or o (map joining c.self.inside.lost.items)) c.in-Ok.ensures.made.2
     ∙ ap (unwrap_or (lost_by (g.V.NetworkView.view c.self.inside.view) (item g c).0))
-    c.self.invariant.lost_is
+    c.self.invariant.0.lost_is
     ∙ ap (λ v. unwrap_or (lost_by v (item g c).0) (lost_channels (heard (old g c))))
-    c.self.invariant.view_is
+    c.self.invariant.0.view_is
     ∙ lost_more (heard (old g c)) (item g c).0
 
 pub invariant_of-self-2 : goal.invariant_of-self-2
-invariant_of-self-2 g c =
-    goes_on g.I.Inlet.alone _ _ _ _ _
-    record { taken = c.in-Some.ensures.taken; comes = c.in-Some.ensures.ahead }
-    c.self.invariant g.O.Outlet.alone _ _ _ (ap (option_map came) c.in-Some.ensures.held)
-    (c.in_default-take.ensures.taken (heard (old g c)) c.self.invariant.view_is)
-    (c.online_after-self-inside.ensures
-    ∙ (ap (λ b. option_map_or (λ said. said) (says_online (item g c).0) b)
-    c.self.invariant.online_is
-    ∙ online_more (heard (old g c)) (item g c).0))
-    (lost_then g c)
-    (delivered g c)
-    (c.keep.ensures ∙ ap (with_entry c.self.inside.history) c.in-Ok.ensures.made.0) refl
-    (λ some. c.in-Ok.ensures.numbered (subst IsSome (sym c.in-Ok.ensures.made.0) some))
-    (puts_unsaid g.O.Outlet.alone (item g c).0 (old g c).upstream (new g c).upstream
-    (answered g c))
+invariant_of-self-2 g c = (
+  goes_on g.I.Inlet.alone _ _ _ _ _
+      record { taken = c.in-Some.ensures.taken; comes = c.in-Some.ensures.ahead }
+      c.self.invariant.0 g.O.Outlet.alone _ _ _ (ap (option_map came) c.in-Some.ensures.held)
+      (c.in_default-take.ensures.taken (heard (old g c)) c.self.invariant.0.view_is)
+      (c.online_after-self-inside.ensures
+      ∙ (ap (λ b. option_map_or (λ said. said) (says_online (item g c).0) b)
+      c.self.invariant.0.online_is
+      ∙ online_more (heard (old g c)) (item g c).0))
+      (lost_then g c)
+      (delivered g c)
+      (c.in_default-keep.ensures.ok ∙ ap (with_entry c.self.inside.history) c.in-Ok.ensures.made.0)
+      refl
+      (λ some. c.in-Ok.ensures.numbered (subst IsSome (sym c.in-Ok.ensures.made.0) some))
+      (subst (λ e. IfSome e IsWrittenEntry) c.in-Ok.ensures.made.0 c.in-Ok.ensures.written)
+      (puts_unsaid g.O.Outlet.alone (item g c).0 (old g c).upstream (new g c).upstream
+      (answered g c)),
+  c.drop_outdated.ensures (g.V.NetworkView.view c.self.inside.view)
+      (g.V.NetworkView.view c.take.new.self) c.self.invariant.1
+      (λ quiet. c.in_default-take.ensures.taken (heard (old g c)) c.self.invariant.0.view_is
+      ∙ view_unchanged (heard (old g c)) (item g c).0 quiet
+      ∙ sym c.self.invariant.0.view_is),
+)
 
 takes : (g : Given.Over) (c : goal.Joined-item g)
     → Takes g.I.Inlet.alone g.O.Outlet.alone (old g c) c.deliver-cut.result (new g c)
@@ -118,7 +182,7 @@ takes g c = record {
   left = left_states (state g c) _ _ _ c.deliver-cut.result c.deliver-cut.ensures.count
       c.prepare_arrival.ensures.states;
   upstream = answered g c;
-  history = c.keep.ensures ∙ ap (with_entry c.self.inside.history) c.in-Ok.ensures.made.0;
+  history = c.in_default-keep.ensures.ok ∙ ap (with_entry c.self.inside.history) c.in-Ok.ensures.made.0;
   number = λ some. c.in-Ok.ensures.numbered (subst IsSome (sym c.in-Ok.ensures.made.0) some);
   images = c.saturating_add-self-inside.ensures ∙ ap (λ n. counted (c.self.inside.images + n))
       (c.images_of.ensures ∙ ap (images_for (item g c).0)

@@ -1,7 +1,6 @@
-use Rattle.std.proofs.Common.{◌≡◌, ◌≢◌, ◌<◌, ℕ, false, refl, sym, ap, subst, inl, length, get_or}
+use Rattle.std.proofs.Common.{◌≡◌, ◌≢◌, ◌<◌, ℕ, refl, sym, ap, subst, inl, length, get_or}
 use Rattle.std.proofs.Common.{rules}
-use Rattle.std.specs.Prelude.{Err}
-use Rattle.net_view.specs.View.{View}
+use Rattle.std.specs.Prelude.{Err, is_some}
 use Rattle.hub_core.specs.declared.hub.Hub.TheInside.{Inside}
 use Rattle.hub_core.specs.declared.hub.HubError.TheVariants as fault
 use Rattle.hub_core.specs.declared.said.Meant.TheVariants as means
@@ -10,7 +9,9 @@ use Rattle.hub_core.specs.Insides.{hub_of, state_of, states_of}
 use Rattle.hub_core.specs.Running.{EachFits}
 use Rattle.hub_core.specs.Saying as spoken
 use Rattle.hub_core.specs.Saying.{Answered, Around, Says, SaysBy, Sent}
-use Rattle.hub_core.specs.States.{HubState, SessionState}
+use Rattle.hub_core.specs.States.{HubState, SessionState, heard}
+use Rattle.client_caps.specs.Answers.{asked}
+use Rattle.hub_core.specs.Saying.{granted}
 use Rattle.hub_core.proofs.Answered.{answered_by, fits_answered, said_by}
 use Rattle.hub_core.proofs.Running.{with_sessions}
 use Rattle.hub_core.proofs.Splits.{around_at, item_at, lacks}
@@ -82,8 +83,8 @@ returns-in_ok-respond-in-Asks g c =
     (said_by g.O.Outlet.alone (hub g c.self.inside) c.args.id c.args.line.now c.args.moment.0
     means.Asks _ _ around (sym c.in-Asks.ensures)
     (answered_by g.O.Outlet.alone (hub g c.self.inside) c.args.id c.args.line.now
-    c.in_ok-respond-in-Asks.field-0 around (g.V.NetworkView.view c.self.inside.view).own _
-    (ap (λ (v : View). v.own) c.self.invariant.view_is)
+    c.in_ok-respond-in-Asks.field-0 around (g.V.NetworkView.view c.self.inside.view) _
+    c.self.invariant.0.view_is
     (c.in_ok-respond-in-Asks.ensures.ok
     (item_at c.self.inside.sessions.items c.in-Some.place c.in-Some.ensures.some.0))))
 
@@ -103,16 +104,18 @@ returns-in_err-respond-in-Asks g c =
     c.in_err-respond-in-Asks.ensures.err)))
 
 pub invariant_of-self-in-Asks : goal.invariant_of-self-in-Asks
-invariant_of-self-in-Asks g c =
-    let d = item_at c.self.inside.sessions.items c.in-Some.place c.in-Some.ensures.some.0 in
-    let around = found g c.self.inside c.args.id c.in-Some.place c.in-Some.ensures.some.0
-    c.in-Some.ensures.some.1 c.in-Some.ensures.some.2 in
-    with_sessions (hub g c.self.inside) _ (g.V.NetworkView.view c.self.inside.view)
-    c.self.inside.online c.self.invariant refl refl refl refl refl
-    (fits_answered g.O.Outlet.alone (g.V.NetworkView.view c.self.inside.view)
-    (g.V.NetworkView.view c.self.inside.view).own around.front around.here around.back
-    c.args.line.now c.in_ok-respond-in-Asks.field-0 _
-    (c.answers_tell_nothing.ensures (g.V.NetworkView.view c.self.inside.view).own around.here.caps
-    false c.args.line.now)
-    (subst (EachFits (g.V.NetworkView.view c.self.inside.view)) around.was c.self.invariant.fit)
-    (c.in_ok-respond-in-Asks.ensures.ok d))
+invariant_of-self-in-Asks g c = (
+  let d = item_at c.self.inside.sessions.items c.in-Some.place c.in-Some.ensures.some.0 in
+      let around = found g c.self.inside c.args.id c.in-Some.place c.in-Some.ensures.some.0
+      c.in-Some.ensures.some.1 c.in-Some.ensures.some.2 in
+      with_sessions (hub g c.self.inside) _ (g.V.NetworkView.view c.self.inside.view)
+      c.self.inside.online c.self.invariant.0 refl refl refl refl refl
+      (fits_answered g.O.Outlet.alone (heard (hub g c.self.inside))
+      (g.V.NetworkView.view c.self.inside.view) around.front around.here around.back
+      c.args.line.now c.in_ok-respond-in-Asks.field-0 _ c.self.invariant.0.view_is
+      (c.answers_tell_nothing.ensures (g.V.NetworkView.view c.self.inside.view).own around.here.caps
+      (is_some (granted (asked c.args.line.now) around.here.caps c.args.line.now)) c.args.line.now)
+      (subst (EachFits (g.V.NetworkView.view c.self.inside.view)) around.was c.self.invariant.0.fit)
+      (c.in_ok-respond-in-Asks.ensures.ok d)),
+  c.self.invariant.1,
+)

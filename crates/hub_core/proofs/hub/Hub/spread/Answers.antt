@@ -13,9 +13,10 @@ use Rattle.hub_core.specs.Saying.{Forwards, own_message, given_others, entry_sai
 use Rattle.hub_core.specs.Saying.{own_line, sent_up}
 use Rattle.std.proofs.Common.{unwrap_or}
 use Rattle.std.specs.Option.{option_map}
-use Rattle.std.specs.Prelude.{IsSome}
+use Rattle.std.specs.Prelude.{IfSome, IsSome}
 use Rattle.irc_line.specs.Tags.{time_of}
 use Rattle.client_caps.specs.Moment.{time_text_of}
+use Rattle.history.specs.Entry.{IsWrittenEntry}
 use Rattle.hub_core.specs.Running.{content, content_said}
 use Rattle.hub_core.proofs.Numbers.{said_content}
 use Rattle.hub_core.proofs.Taken.{online_owned}
@@ -64,13 +65,14 @@ module _ (g : Given.Over) (c : goal.After-deliver g) where
         images = c.saturating_add-self-inside.result;
         made = c.prepare_own.new.made;
         lost = c.self.inside.lost;
+        parts = c.self.inside.parts;
       }
 
   -- what was made is the message as from us
   own_said : own_message old c.args.line.now moment ≡ Some (Received own, moment)
   own_said =
       own_is old c.args.line.now own moment c.requires.message
-      (ap (λ (v : View). own_line v c.args.line.now) c.self.invariant.view_is)
+      (ap (λ (v : View). own_line v c.args.line.now) c.self.invariant.0.view_is)
 
   delivered : (v : View) → v ≡ view → Delivered g.O.Outlet.alone
       (given_but (Some c.args.id) (packet_for v (Received own, moment))) old.sessions
@@ -86,7 +88,7 @@ module _ (g : Given.Over) (c : goal.After-deliver g) where
       c.in_ok-entry.ensures.coming))
 
   kept : new.history ≡ with_entry old.history (entry_said (Some (Received own, moment)))
-  kept = c.keep.ensures ∙ ap (with_entry old.history) c.in_ok-entry.ensures.made.0
+  kept = c.in_ok-keep.ensures.ok ∙ ap (with_entry old.history) c.in_ok-entry.ensures.made.0
 
   forwards : Forwards g.O.Outlet.alone old c.args.id c.args.line.now moment new
   forwards = record {
@@ -95,7 +97,7 @@ module _ (g : Given.Over) (c : goal.After-deliver g) where
     upstream = subst (λ p. Took g.O.Outlet.alone old.upstream p new.upstream) c.requires.packet
         c.put_into_room.ensures;
     sessions = subst (λ o. Delivered g.O.Outlet.alone (given_others old c.args.id o) old.sessions
-        new.sessions) (sym own_said) (delivered (view_now old) (sym c.self.invariant.view_is));
+        new.sessions) (sym own_said) (delivered (view_now old) (sym c.self.invariant.0.view_is));
     history = kept ∙ ap (λ o. with_entry old.history (entry_said o)) (sym own_said);
     number = λ message. subst (λ (h : HubState). IsSome h.history.next) (sym c.self.view_is)
         c.requires.number;
@@ -113,7 +115,7 @@ module _ (g : Given.Over) (c : goal.After-deliver g) where
   -- we have a nick, so there is a source
   sourced : IsSome (own g c).source
   sourced =
-      subst (λ (v : View). IsSome v.own) (sym c.self.invariant.view_is)
+      subst (λ (v : View). IsSome v.own) (sym c.self.invariant.0.view_is)
       (online_owned (heard (old g c)) online)
 
   says : content_said (sent_up c.args.line.now ∷ [])
@@ -123,18 +125,22 @@ module _ (g : Given.Over) (c : goal.After-deliver g) where
       (own g c) c.requires.message sourced
 
 pub invariant_of-self-2 : goal.invariant_of-self-2
-invariant_of-self-2 g c =
-    said_on (old g c) _ (view g c) c.self.inside.online
-    (entry_said (Some (Received (own g c), moment g c))) (sent_up c.args.line.now ∷ [])
-    c.self.invariant refl refl (kept g c) refl (forwards g c).upstream.sent (says g c)
-    (λ some. subst (λ (h : HubState). IsSome h.history.next) (sym c.self.view_is) c.requires.number)
-    (entry_is_message (Received (own g c), moment g c))
-    (each_fits_unread g.O.Outlet.alone (view g c)
-    (given_but (Some c.args.id) (packet_for (view g c) (Received (own g c), moment g c)))
-    (old g c).sessions _
-    (given_unread (Some c.args.id) (packet_for (view g c) (Received (own g c), moment g c))
-    (λ caps. said_unread (view g c) (own g c) (moment g c) caps c.requires.message))
-    c.self.invariant.fit (delivered g c (view g c) refl))
+invariant_of-self-2 g c = (
+  said_on (old g c) _ (view g c) c.self.inside.online
+      (entry_said (Some (Received (own g c), moment g c))) (sent_up c.args.line.now ∷ [])
+      c.self.invariant.0 refl refl (kept g c) refl (forwards g c).upstream.sent (says g c)
+      (λ some. subst (λ (h : HubState). IsSome h.history.next) (sym c.self.view_is) c.requires.number)
+      (entry_is_message (Received (own g c), moment g c))
+      (subst (λ e. IfSome e IsWrittenEntry) c.in_ok-entry.ensures.made.0
+      c.in_ok-entry.ensures.written)
+      (each_fits_unread g.O.Outlet.alone (view g c)
+      (given_but (Some c.args.id) (packet_for (view g c) (Received (own g c), moment g c)))
+      (old g c).sessions _
+      (given_unread (Some c.args.id) (packet_for (view g c) (Received (own g c), moment g c))
+      (λ caps. said_unread (view g c) (own g c) (moment g c) caps c.requires.message))
+      c.self.invariant.0.fit (delivered g c (view g c) refl)),
+  c.self.invariant.1,
+)
 
 pub returns-clause-ok : goal.returns-clause-ok
 returns-clause-ok g c = (refl, rw (← c.self.view_is) (forwards g c))

@@ -70,20 +70,24 @@ returns-in_default-clause-ok g c =
     ))
 
 pub invariant_of-self : goal.invariant_of-self
-invariant_of-self g c =
-    with_sessions _ _ (g.V.NetworkView.view c.self.inside.view) c.self.inside.online
-    c.self.invariant refl refl refl refl refl
-    (fits (g.V.NetworkView.view c.self.inside.view) c.self.inside.sessions.items c.in-Some.place
-    c.index_mut.result.now c.drain.new.self c.in-Some.ensures.some.0 c.index_mut.ensures.value
-    c.drain.ensures.sent c.drain.ensures.closed c.self.invariant.fit)
+invariant_of-self g c = (
+  with_sessions _ _ (g.V.NetworkView.view c.self.inside.view) c.self.inside.online
+      c.self.invariant.0 refl refl refl refl refl
+      (fits (g.V.NetworkView.view c.self.inside.view) c.self.inside.sessions.items c.in-Some.place
+      c.index_mut.result.now c.drain.new.self c.in-Some.ensures.some.0 c.index_mut.ensures.value
+      c.drain.ensures.sent c.drain.ensures.closed c.self.invariant.0.fit),
+  c.self.invariant.1,
+)
 
 pub invariant_of-self-2 : goal.invariant_of-self-2
-invariant_of-self-2 g c =
-    with_sessions _ _ (g.V.NetworkView.view c.self.inside.view) c.self.inside.online
-    c.self.invariant refl refl refl refl refl
-    (fits (g.V.NetworkView.view c.self.inside.view) c.self.inside.sessions.items c.in-Some.place
-    c.index_mut.result.now c.drain.new.self c.in-Some.ensures.some.0 c.index_mut.ensures.value
-    c.drain.ensures.sent c.drain.ensures.closed c.self.invariant.fit)
+invariant_of-self-2 g c = (
+  with_sessions _ _ (g.V.NetworkView.view c.self.inside.view) c.self.inside.online
+      c.self.invariant.0 refl refl refl refl refl
+      (fits (g.V.NetworkView.view c.self.inside.view) c.self.inside.sessions.items c.in-Some.place
+      c.index_mut.result.now c.drain.new.self c.in-Some.ensures.some.0 c.index_mut.ensures.value
+      c.drain.ensures.sent c.drain.ensures.closed c.self.invariant.0.fit),
+  c.self.invariant.1,
+)
 
 pub returns-in_err-taken-clause-err : goal.returns-in_err-taken-clause-err
 returns-in_err-taken-clause-err g c =
