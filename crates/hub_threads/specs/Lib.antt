@@ -1,3 +1,4 @@
+pub mod Backlogs
 pub mod Endings
 pub mod Pumping
 pub mod Queues

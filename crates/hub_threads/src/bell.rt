@@ -2,7 +2,7 @@
 
 use crate::OutOfMemory;
 use std::alloc::Global;
-use std::sync::atomic::{AtomicBool, Ordering};
+use std::sync::atomic::{AtomicBool, AtomicU64, Ordering};
 use std::sync::{Arc, Wait};
 use std::thread::Parker;
 use std::time::Duration;
@@ -22,6 +22,8 @@ pub struct Bell {
     raised: AtomicBool,
     // the worker sleeps, or looks for work a last time before it does
     drowsy: AtomicBool,
+    // how often the worker has got on
+    steps: AtomicU64,
 }
 
 /// A bell, in as many hands as need be.
@@ -35,6 +37,7 @@ pub fn shared_bell(alloc: Global) -> Result<SharedBell, OutOfMemory> {
             parker: Parker::new(),
             raised: AtomicBool::new(false),
             drowsy: AtomicBool::new(false),
+            steps: AtomicU64::new(0),
         },
     )?)
 }
@@ -76,6 +79,16 @@ impl Bell {
     /// Whether work that was given is found only by a ring.
     pub(crate) fn is_drowsy(&self) -> bool {
         self.drowsy.load(Ordering::SeqCst)
+    }
+
+    /// Counts that the worker has got on.
+    pub(crate) fn step(&self) {
+        self.steps.fetch_add(1, Ordering::SeqCst);
+    }
+
+    /// How often the worker has got on.
+    pub(crate) fn steps(&self) -> u64 {
+        self.steps.load(Ordering::SeqCst)
     }
 
     /// Raises the flag. It wakes nobody.

@@ -33,9 +33,24 @@ pub struct Ended<W: Write> {
     pub written: Result<u64, WriteFault>,
 }
 
-/// Ends a session: detaches it, drops its outlet, and waits for its writer. `NoSession` where the
-/// hub had no session of this number when its lock was taken; the writer runs on to its own end
-/// then.
+/// Detaches a session, and drops its outlet.
+fn detach<V: NetworkView + Drop, R: Wait>(
+    rt: &R,
+    network: &Network<V>,
+    id: SessionId,
+) -> Result<(), NoSession>
+    ensures detached { OnOk result (WasDetached id) }
+    ensures missing { OnErr result (WasMissing id) }
+{
+    let outlet = network.lock(rt).detach(id)?;
+    drop(outlet);
+    Ok(())
+}
+
+/// Ends a session: detaches it, drops its outlet, and waits for its writer, outside the lock.
+/// `NoSession` if the hub had no session of this number when its lock was taken: it waits for the
+/// writer then too, and drops what that hands back. The writer of a session that was cut ends by
+/// itself, after at most 30 s.
 pub fn end_session<V: NetworkView + Drop, W: Write + Drop, R: Threads + Wait>(
     rt: &R,
     network: &Network<V>,
@@ -53,14 +68,14 @@ pub fn end_session<V: NetworkView + Drop, W: Write + Drop, R: Threads + Wait>(
     ensures detached { OnOk result (WasDetached id) }
     ensures missing { OnErr result (WasMissing id) }
 {
-    let outlet = network.lock(rt).detach(id)?;
-    drop(outlet);
+    let detached = detach(rt, network, id);
     let Written {
         end,
         out,
         fresh,
         outcome,
     } = writer.join(rt);
+    detached?;
     let token = fresh && end.closed() == Some(id);
     Ok(Ended {
         token,

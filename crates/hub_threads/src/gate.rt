@@ -9,10 +9,12 @@ pub enum Point {
     BeforeRead,
     /// After a read.
     AfterRead,
-    /// Before a batch is written.
+    /// Before each write.
     BeforeWrite,
-    /// After a batch was written and flushed.
+    /// After all that was taken has been written and flushed.
     AfterWrite,
+    /// After the last write of a writer that has taken a packet: it writes no more.
+    AtEnd,
     /// Before the lock is taken for an item.
     BeforeStep,
     /// After the lock was let go.
@@ -33,8 +35,12 @@ impl Gate for FreeGate {
     fn pass(&self, _point: Point) {}
 }
 
-/// Tells the time.
+/// Tells the time: which moment it is, and how long something took.
 pub trait Clock {
-    /// The moment that it is now.
+    /// The moment that it is now, by the clock that is set.
     fn now(&self) -> Moment;
+
+    /// How many milliseconds have gone by since a moment that stays the same. Nobody sets this
+    /// clock, so waiting goes by it.
+    fn ticks(&self) -> u64;
 }

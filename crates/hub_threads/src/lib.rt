@@ -1,9 +1,10 @@
 //! Hubs between threads: rings as their ends, the writer of a session, and how a session ends.
 #![tactic(auto)]
 
-mod batch;
+mod backlog;
 mod bell;
 mod ending;
+mod front;
 mod gate;
 mod inlet_ring;
 mod network;
@@ -14,6 +15,8 @@ mod patience;
 mod pumping;
 mod queued;
 mod reading;
+mod slowness;
+mod write_call;
 mod writer;
 mod writing;
 
@@ -27,8 +30,9 @@ pub use outlet_end::{OutletEnd, Stopper};
 pub use outlet_pair::outlet;
 pub use outlet_ring::RingOutlet;
 pub use patience::Patience;
-pub use pumping::{PumpEnd, Refusals, pump_loop};
+pub use pumping::{PumpEnd, REFUSED_REST, Refusals, pump_loop};
 pub use queued::{Counted, Queued};
 pub use reading::{ReadEnd, Reading, put_lines, read_in};
+pub use slowness::WRITE_CALL;
 pub use writer::{Given, Writer, spawn_writer};
 pub use writing::{WriteFault, Written, write_out};

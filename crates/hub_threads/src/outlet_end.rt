@@ -7,6 +7,7 @@ ghost use Rattle.hub_threads.specs.Queues.{ended_by, is_nil, packets_in};
 use crate::OutOfMemory;
 use crate::bell::SharedBell;
 use crate::queued::{Counted, Queued};
+use crate::write_call::Call;
 use hub_ends::SessionId;
 use rtrb::Consumer;
 use std::alloc::Global;
@@ -168,6 +169,20 @@ impl OutletEnd {
         self.left = self.writer.is_raised()
             || (self.consumer.is_abandoned() && self.consumer.is_empty());
         self.left
+    }
+
+    /// Whether the hub has let this ring go without a closing item, as far as that was looked for.
+    pub(crate) fn is_cut(&mut self) -> bool
+        ensures { items_of self.new ≡ items_of self.old }
+    {
+        self.closed.is_none() && self.consumer.is_abandoned()
+    }
+
+    /// Tells the pump, which waits for room, of a write call that took something.
+    pub(crate) fn note_call(&self, call: Call) {
+        if call == Call::Whole || call == Call::Part {
+            self.writer.step();
+        }
     }
 
     /// Sleeps until a packet may be there.

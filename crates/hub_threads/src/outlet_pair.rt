@@ -5,6 +5,7 @@ ghost use Rattle.hub_threads.specs.Rings.{capacity_of, closed_of, free_of, items
 ghost use Rattle.hub_threads.specs.Rings.{told_of};
 
 use crate::OutOfMemory;
+use crate::backlog::ROOM;
 use crate::bell::{SharedBell, shared_bell};
 use crate::outlet_end::OutletEnd;
 use crate::outlet_ring::RingOutlet;
@@ -12,9 +13,6 @@ use crate::queued::Counted;
 use rtrb::RingBuffer;
 use std::alloc::Global;
 use std::sync::Arc;
-
-/// How many bytes are written in one go at most, of more than one packet.
-const BATCH: usize = 65_536;
 
 /// Both ends of one ring, for this many packets at a time, and 64 KiB of room to write from. Who
 /// sleeps on `pump` with its flag up is woken when a packet is taken and no further one is known.
@@ -31,7 +29,7 @@ pub fn outlet(
 {
     let writer = shared_bell(alloc)?;
     let theirs = Arc::try_clone(&writer)?;
-    let buffer = Vec::with_capacity(alloc, BATCH)?;
+    let buffer = Vec::with_capacity(alloc, ROOM)?;
     let (producer, consumer) = RingBuffer::with_protocol::<Global, Counted>(alloc, capacity)?;
     let outlet = RingOutlet::new(producer, theirs);
     Ok((outlet, OutletEnd::new(consumer, buffer, writer, pump)))

@@ -71,8 +71,14 @@ impl RingOutlet {
         }
     }
 
+    /// What changes as soon as the other end is known to have taken an item, and as soon as its
+    /// writer has written something.
+    pub(crate) fn progress(&self) -> (u64, u64) {
+        (self.taken(), self.writer.steps())
+    }
+
     /// How many items the other end is known to have taken.
-    pub(crate) fn taken(&self) -> u64 {
+    fn taken(&self) -> u64 {
         let held = self
             .producer
             .capacity()

@@ -13,16 +13,19 @@ use std::sync::Wait;
 const PATIENCE: u64 = 50;
 
 /// How often it looks at most whether they still are: each writer may wake it, so the time is told
-/// by the clock, and this ends the wait where a clock stands still.
+/// by a clock that nobody sets, and this ends the wait if that stands still.
 const LOOKS: u64 = 20_000;
 
-/// For whom no more time is to be spent: the sessions that took nothing while they were given time,
-/// each until it takes a packet.
+/// How far a writer is: how many items it has taken, and how often it has written.
+type Progress = (u64, u64);
+
+/// For whom no more time is to be spent: the sessions that took and wrote nothing while they were
+/// given time, each until it does.
 #[derive(Drop)]
 pub struct Patience {
     alloc: Global,
-    // each with how many items its writer had taken
-    stalled: Vec<(SessionId, u64)>,
+    // each with how far its writer was
+    stalled: Vec<(SessionId, Progress)>,
 }
 
 impl Patience {
@@ -34,17 +37,17 @@ impl Patience {
         }
     }
 
-    /// Whether it was waited for this session in vain, and it has taken nothing since.
-    fn is_lost_with(&self, id: SessionId, taken: u64) -> bool {
+    /// Whether it was waited for this session in vain, and it has got no further since.
+    fn is_lost_with(&self, id: SessionId, progress: Progress) -> bool {
         self.stalled
             .iter()
-            .any(|stalled| stalled.0 == id && stalled.1 == taken)
+            .any(|stalled| stalled.0 == id && stalled.1 == progress)
     }
 
     /// Gives sessions that are nearly full time to take packets, outside the lock: at most 50 ms
     /// for all together, and less where none is nearly full any more. It sleeps on `bell`, at most
     /// 1 ms a time; where that is the bell of the network's pump, a writer that has taken all that
-    /// it knew of wakes it. Who took nothing is not waited for again until it does.
+    /// it knew of wakes it. Who took and wrote nothing is not waited for again until it does.
     ///
     /// It is best effort: where memory is refused, a session is given no time.
     pub fn give_time<V: NetworkView + Drop, C: Clock, R: Wait>(
@@ -59,11 +62,11 @@ impl Patience {
             return;
         }
         bell.raise();
-        let began = clock.now();
+        let began = clock.ticks();
         for _ in 0..LOOKS {
             bell.sleep(rt, 0);
             let are_left = !self.lagging(rt, network).is_empty();
-            if !are_left || clock.now().0.saturating_sub(began.0) >= PATIENCE {
+            if !are_left || clock.ticks().saturating_sub(began) >= PATIENCE {
                 break;
             }
         }
@@ -76,7 +79,7 @@ impl Patience {
         &self,
         rt: &R,
         network: &Network<V>,
-    ) -> Vec<(SessionId, u64)> {
+    ) -> Vec<(SessionId, Progress)> {
         let mut found = Vec::new(self.alloc);
         let mut hub = network.lock(rt);
         let Ok(ids) = hub.nearly_full() else {
@@ -84,8 +87,8 @@ impl Patience {
         };
         for id in ids {
             if let Some(outlet) = hub.outlet(id) {
-                let taken = outlet.taken();
-                if !self.is_lost_with(id, taken) && found.push((id, taken)).is_err() {
+                let progress = outlet.progress();
+                if !self.is_lost_with(id, progress) && found.push((id, progress)).is_err() {
                     break;
                 }
             }
@@ -93,18 +96,18 @@ impl Patience {
         found
     }
 
-    /// Remembers those that took nothing, of those waited for and those known before.
+    /// Remembers those that got no further, of those waited for and those known before.
     fn note<V: NetworkView + Drop, R: Wait>(
         &mut self,
         rt: &R,
         network: &Network<V>,
-        waited: Vec<(SessionId, u64)>,
+        waited: Vec<(SessionId, Progress)>,
     ) {
         let hub = network.lock(rt);
         let mut stalled = Vec::new(self.alloc);
         for one in waited.iter().chain(self.stalled.iter()) {
             if let Some(outlet) = hub.outlet(one.0) {
-                if outlet.taken() == one.1 && stalled.push(*one).is_err() {
+                if outlet.progress() == one.1 && stalled.push(*one).is_err() {
                     break;
                 }
             }

@@ -11,6 +11,12 @@ use net_view::NetworkView;
 use std::alloc::Global;
 use std::marker::Model;
 use std::sync::Wait;
+use std::thread::Parker;
+use std::time::Duration;
+
+/// How many milliseconds the pump of the program rests after an allocation was refused, so that
+/// it ends for want of memory after some 10 s.
+pub const REFUSED_REST: u64 = 10;
 
 /// How many refusals for memory there may be in succession.
 const REFUSALS: u32 = 1_000;
@@ -71,8 +77,8 @@ impl Refusals {
     }
 }
 
-/// Pumps this many times. A turn without an item counts, and so does a refusal for memory, after
-/// which the item is tried again. The lock is taken anew for each step. Without an item it sleeps
+/// Pumps this many times. A turn without an item counts, and so does a refusal for memory: it rests
+/// for this many milliseconds then, and tries the item again. The lock is taken anew for each step. Without an item it sleeps
 /// until it is woken: at most 1 ms, unless `turns` is 18446744073709551615.
 ///
 /// Before an item, sessions that are nearly full are given time, outside the lock: at most 50 ms
@@ -84,7 +90,10 @@ pub fn pump_loop<V: NetworkView + Drop, G: Gate, C: Clock, R: Wait>(
     gate: &G,
     clock: &C,
     turns: u64,
+    rest: u64,
 ) -> PumpEnd {
+    // nobody rings it, so a rest is not cut short by what comes
+    let bed = Parker::new();
     let mut patience = Patience::new(alloc);
     let mut refusals = Refusals::none();
     for _ in 0..turns {
@@ -95,8 +104,10 @@ pub fn pump_loop<V: NetworkView + Drop, G: Gate, C: Clock, R: Wait>(
         if let Some(end) = refusals.note(outcome) {
             return end;
         }
-        if let Ok(Pumped::Nothing) = outcome {
-            network.bell().sleep(rt, turns);
+        match outcome {
+            Ok(Pumped::Nothing) => network.bell().sleep(rt, turns),
+            Err(_) => bed.park_timeout(rt, Duration::from_millis(rest)),
+            Ok(Pumped::Taken { .. }) => {}
         }
     }
     PumpEnd::Turns

@@ -1,20 +1,24 @@
 //! Packets from a ring to a writer.
 
-ghost use Rattle.std.specs.Prelude.{ℕ, ◌≡◌, ◌++◌, IfOk, List, MatchOption, length, take};
+ghost use Rattle.std.specs.Prelude.{ℕ, ◌≡◌, ◌∷◌, ◌++◌, [], IfOk, List, MatchOption, length};
 ghost use Rattle.std.specs.Io.KnownBytes.{Appends};
+ghost use Rattle.irc_line.specs.Line.{Parts};
 ghost use Rattle.irc_line.specs.Writing.{bytes_of};
+ghost use Rattle.hub_threads.specs.Backlogs.{rest_of};
+ghost use Rattle.hub_threads.specs.Queues.{packets_in};
 ghost use Rattle.hub_threads.specs.Rings.{items_of};
 ghost use Rattle.hub_threads.specs.Writes.{IsOver, IsWritten};
 
-use crate::batch::{flush_batch, put_in_batch, waits};
-use crate::gate::Gate;
+use crate::backlog::Backlog;
+use crate::gate::{Gate, Point};
 use crate::outlet_end::OutletEnd;
+use crate::slowness::Slowness;
 use std::io::Write;
 use std::sync::Wait;
 use thiserror::Error;
-use welcome::Packet;
 
-/// A write failed, or took no byte, or a flush failed.
+/// A write failed, or took no byte, or a flush failed; or nothing was taken for 30 s; or the session
+/// was cut, and not all was taken within 30 s.
 #[derive(Clone, Copy, Debug, PartialEq, Eq, Error)]
 #[error("cannot write")]
 pub struct WriteFault;
@@ -32,20 +36,24 @@ pub struct Written<W: Write> {
     pub outcome: Result<u64, WriteFault>,
 }
 
-/// What is handed back, with the room to write from in its place.
-fn handed_back<W: Write>(
+/// What is handed back, with the buffer to write from in its place.
+fn handed_back<W: Write, G: Gate>(
     end: OutletEnd,
-    batch: Vec<u8>,
+    backlog: Backlog,
     out: W,
     fresh: bool,
     outcome: Result<u64, WriteFault>,
+    gate: &G,
 ) -> Written<W>
     ensures parts { (items_of result.end ≡ items_of end) × (result.out ≡ out) ×
         (result.fresh ≡ fresh) × (result.outcome ≡ outcome) }
     ensures over { (idle : ℕ) → IsOver end idle → IsOver result.end idle }
 {
     let mut end = end;
-    end.take_back(batch);
+    end.take_back(backlog.into_buffer());
+    if !end.is_fresh() {
+        gate.pass(Point::AtEnd);
+    }
     Written {
         end,
         out,
@@ -54,32 +62,64 @@ fn handed_back<W: Write>(
     }
 }
 
-/// Puts a packet into the batch; answers how many bytes it has, or `None` after a fault.
-fn put_packet<W: Write, G: Gate>(
-    out: &mut W,
-    batch: &mut Vec<u8>,
-    packet: Packet,
-    gate: &G,
-) -> Option<u64>
+/// Takes the next packet, if there is one, and room for it; answers how many bytes it has.
+fn take_packet(end: &mut OutletEnd, backlog: &mut Backlog) -> Option<u64>
     ensures { MatchOption result
-        ((k : ℕ) × Appends (W.contents out.old) (W.contents out.new)
-        (take k (batch.old.items ++ bytes_of packet)))
-        (λ bytes. (put : List ℕ) × Appends (W.contents out.old) (W.contents out.new) put ×
-        (put ++ batch.new.items ≡ batch.old.items ++ bytes_of packet) ×
+        ((packets_in (items_of end.new) ≡ packets_in (items_of end.old)) ×
+        (rest_of backlog.new ≡ rest_of backlog.old))
+        (λ bytes. (packet : List Parts) ×
+        (packets_in (items_of end.new) ≡ packets_in (items_of end.old) ++ packet ∷ []) ×
+        (rest_of backlog.new ≡ rest_of backlog.old ++ bytes_of packet) ×
         (bytes ≡ length (bytes_of packet))) }
 {
-    let bytes = packet.bytes();
-    if !put_in_batch(out, batch, bytes, gate) {
+    if !backlog.settle() {
         return None;
     }
-    Some(bytes.len() as u64)
+    let packet = end.next_to_write()?;
+    let bytes = packet.bytes().len() as u64;
+    backlog.put(packet);
+    Some(bytes)
+}
+
+/// Writes what stands first in the backlog, in one call, and flushes if nothing is left. False is a
+/// fault. What was written is left no more, and nothing else, whatever it answers.
+fn write_once<W: Write, G: Gate>(
+    out: &mut W,
+    backlog: &mut Backlog,
+    end: &mut OutletEnd,
+    slowness: &mut Slowness,
+    gate: &G,
+) -> bool
+    ensures wrote { (put : List ℕ) × Appends (W.contents out.old) (W.contents out.new) put ×
+        (put ++ rest_of backlog.new ≡ rest_of backlog.old) }
+    ensures end { items_of end.new ≡ items_of end.old }
+{
+    gate.pass(Point::BeforeWrite);
+    let call = backlog.write(out);
+    if slowness.is_too_much(call, end.is_cut()) {
+        return false;
+    }
+    end.note_call(call);
+    if backlog.is_empty() {
+        if out.flush().is_err() {
+            return false;
+        }
+        gate.pass(Point::AfterWrite);
+    }
+    true
 }
 
 /// Takes packets and writes them, until the closing item was taken, the other end is gone and
 /// nothing is left, a write fails, it is told to stop, or so many takes in succession gave nothing.
 /// What waits in the ring is written in one go, through the room of 64 KiB that the end has, and
-/// then flushed; a packet that is longer is written as it is. So one packet goes out at once. It
-/// takes no memory.
+/// then flushed; a packet that is longer is written as it is. So one packet goes out at once.
+///
+/// A write call that does not take all that it is given, or that takes nothing in its time, is
+/// followed by another one; in between it takes what waits in the ring, up to 1 MiB, so a slow
+/// reader's ring stays empty meanwhile. If there is no memory for that, it takes the packet later.
+/// It gives up if nothing was taken for 30 s, with calls of [`WRITE_CALL`](crate::WRITE_CALL)
+/// milliseconds, and for a session that was cut if not all was taken within 30 s. A write that is
+/// interrupted is tried again.
 ///
 /// After a write it rests for at most 1 ms, so that what comes meanwhile goes out in one write.
 /// Where no packet waits it sleeps until it is woken: at most 1 ms a time, unless `idle` is
@@ -98,23 +138,23 @@ pub fn write_out<W: Write, G: Gate, R: Wait>(
     let fresh = end.is_fresh();
     let mut end = end;
     let mut out = out;
-    let mut batch = end.lend_buffer();
+    let mut backlog = Backlog::new(end.lend_buffer());
+    let mut slowness = Slowness::none();
     let mut count = 0u64;
     for _ in rt.forever() {
-        match end.next_to_write() {
-            Some(packet) => match put_packet(&mut out, &mut batch, packet, gate) {
-                Some(bytes) => count = count.saturating_add(bytes),
-                None => return handed_back(end, batch, out, fresh, Err(WriteFault)),
-            },
-            None if waits(&batch) => {
-                if !flush_batch(&mut out, &mut batch, gate) {
-                    return handed_back(end, batch, out, fresh, Err(WriteFault));
+        match take_packet(&mut end, &mut backlog) {
+            Some(bytes) => count = count.saturating_add(bytes),
+            None if !backlog.is_empty() => {
+                if !write_once(&mut out, &mut backlog, &mut end, &mut slowness, gate) {
+                    return handed_back(end, backlog, out, fresh, Err(WriteFault), gate);
                 }
-                end.rest(rt);
+                if backlog.is_empty() {
+                    end.rest(rt);
+                }
             }
             None => {
                 if end.is_over(idle) {
-                    return handed_back(end, batch, out, fresh, Ok(count));
+                    return handed_back(end, backlog, out, fresh, Ok(count), gate);
                 }
                 end.sleep(rt, idle);
             }

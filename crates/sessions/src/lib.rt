@@ -14,6 +14,7 @@ mod replies;
 mod sending;
 mod serving;
 mod talk;
+mod watcher;
 
 pub use admission::{admitted, let_in};
 pub use arrival::{Ending, LoggedIn, Unread, log_in};
@@ -24,3 +25,4 @@ pub use login::{Login, LoginStep};
 pub use sending::{deny, refuse};
 pub use serving::{ServeFault, Served, serve, serve_session};
 pub use std::alloc::AllocError as OutOfMemory;
+pub use watcher::{Unwatched, Watcher};

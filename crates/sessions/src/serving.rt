@@ -1,7 +1,7 @@
 //! A client, from its first byte to the end of its session.
 
-ghost use Rattle.std.specs.Prelude.{ℕ, ◌≡◌, [], IfOk, map};
-ghost use Rattle.hub_threads.specs.Rings.{items_of};
+ghost use Rattle.std.specs.Prelude.{ℕ, ◌≡◌, [], IfOk, None, map};
+ghost use Rattle.hub_threads.specs.Rings.{closed_of, items_of, sent_of};
 ghost use Rattle.sessions.specs.Claims.{parts_of};
 ghost use Rattle.sessions.specs.Leaving.{HasEnded, WasAttached, WasHeard};
 ghost use Rattle.sessions.specs.Serving.{IsServed};
@@ -14,10 +14,13 @@ use crate::claim::Claim;
 use crate::fault::LoginFault;
 use crate::sending::{deny, refuse};
 use crate::talk::talk;
+use crate::watcher::{Unwatched, Watcher};
 use bnc_config::{Config, Place};
 use hub_core::{AttachError, NoSession};
 use hub_ends::SessionId;
-use hub_threads::{Clock, Ended, Gate, Network, OutletEnd, end_session, outlet, spawn_writer};
+use hub_threads::{
+    Clock, Ended, Gate, Network, RingOutlet, Writer, Written, end_session, outlet, spawn_writer,
+};
 use net_view::NetworkView;
 use std::alloc::Global;
 use std::io::{Read, Write};
@@ -31,13 +34,14 @@ const PACKETS: usize = 256;
 /// Why a client that was let in had no session, or lost it.
 #[derive(Clone, Copy, Debug, PartialEq, Eq, Error)]
 pub enum ServeFault {
-    /// An allocation was refused, or no thread could be started. There is no session.
+    /// An allocation was refused, or no thread could be started. It was not attached, so it loses no
+    /// message.
     #[error("out of memory or threads")]
     Memory,
     /// It was not attached, and was told why.
     #[error("{0}")]
     Refused(AttachError),
-    /// The hub has the session no more: its outlet was full. Its writer runs on to its own end.
+    /// The hub has the session no more: its outlet was full. Its writer has ended.
     #[error("cut")]
     Cut,
 }
@@ -60,57 +64,82 @@ pub enum Served<W: Write> {
     NoLogin,
     /// It was not attached, and was told why.
     Refused(AttachError),
-    /// The hub has the session no more: its outlet was full. Its writer runs on to its own end.
+    /// The hub has the session no more: its outlet was full. Its writer has ended.
     Cut,
     /// It said QUIT, its input ended or could not be read.
     Ended(Ended<W>),
 }
 
-/// Attaches a client, by its claim, to an outlet of 256 packets; answers its number and the end to
-/// write from. The lock is held for that step alone.
-fn join_in<V: NetworkView + Drop, R: Wait>(
-    rt: &R,
+/// Starts the thread that writes to a client. Answers the outlet of 256 packets that it writes from,
+/// and the thread.
+fn start_writer<
+    V: NetworkView + Drop,
+    W: Write + Send + Drop + 'static,
+    G: Gate + Clone + Send + Drop + 'static,
+    R: Threads + Wait + Send + Copy + 'static,
+>(
+    rt: R,
     alloc: Global,
-    claim: &Claim,
+    writer: W,
     network: &Network<V>,
-) -> Result<(SessionId, OutletEnd), ServeFault>
-    ensures end { IfOk result (λ x. items_of x.1 ≡ []) }
-    ensures attached { IfOk result (λ x. WasAttached (parts_of claim.now) x.0) }
+    gate: &G,
+) -> Result<(RingOutlet, Writer<W>), OutOfMemory>
+    ensures outlet { IfOk result (λ x. (sent_of x.0 ≡ []) × (closed_of x.0 ≡ None)) }
+    ensures writer { IfOk result (λ x. (items_of x.1.promise.0.value ≡ []) ×
+        (x.1.promise.1.value ≡ writer)) }
 {
     let (outlet, end) = outlet(alloc, PACKETS, network.pump_bell()?)?;
+    let handle = spawn_writer(rt, end, writer, gate.clone()?, u64::MAX)?;
+    Ok((outlet, handle))
+}
+
+/// Attaches a client, by its claim; answers its number. The lock is held for that step alone. An
+/// outlet that is refused is dropped, so its writer ends.
+fn join_in<V: NetworkView + Drop, R: Wait>(
+    rt: &R,
+    claim: &Claim,
+    network: &Network<V>,
+    outlet: RingOutlet,
+) -> Result<SessionId, AttachError>
+    requires { (sent_of outlet ≡ []) × (closed_of outlet ≡ None) }
+    ensures { IfOk result (λ id. WasAttached (parts_of claim.now) id) }
+{
     let mut hub = network.lock(rt);
     let attached = attach_claim(&mut hub, claim, outlet);
     drop(hub);
     match attached {
-        Ok(id) => Ok((id, end)),
+        Ok(id) => Ok(id),
         Err((error, outlet)) => {
             drop(outlet);
-            Err(ServeFault::Refused(error))
+            Err(error)
         }
     }
 }
 
-/// Ends a session that has no writer.
-fn leave_at_once<V: NetworkView + Drop, R: Wait>(rt: &R, network: &Network<V>, id: SessionId) {
-    match network.lock(rt).detach(id) {
-        Ok(outlet) => drop(outlet),
-        Err(NoSession) => {}
-    }
+/// Tells a client why it was not attached, once the writer of the outlet that was refused has handed
+/// its stream back.
+fn turn_away<W: Write + Drop, R: Threads + Wait>(rt: &R, handle: Writer<W>, error: AttachError) {
+    let Written { out, .. } = handle.join(rt);
+    let mut out = out;
+    let _ = refuse(&mut out, error);
 }
 
-/// Serves a client that was let in: attaches it, starts a thread that writes to it, and says each
+/// Serves a client that was let in: starts a thread that writes to it, attaches it, and says each
 /// of its lines to the hub, those that are unread first, until QUIT, the input's end or a fault.
-/// Answers why it went, and what its writer handed back. No write is made under the lock.
+/// Answers why it went, and what its writer handed back. No write is made under the lock. If no
+/// thread can be started it is not attached; if it is not attached it is told why.
 ///
 /// A line that comes while the network is offline or takes no more, or for which there is no memory
 /// or no number, is dropped. More than 16,384 bytes without LF, and want of memory for what was
-/// read, end the session like the input's end. It reads at most 1,000,000,000 times.
+/// read, end the session like the input's end. It reads at most 1,000,000,000 times. The watcher is
+/// told when the client's capabilities change.
 pub fn serve<
     V: NetworkView + Drop,
     I: Read,
     W: Write + Send + Drop + 'static,
     G: Gate + Clone + Send + Drop + 'static,
     C: Clock,
+    X: Watcher,
     R: Threads + Wait + Send + Copy + 'static,
 >(
     rt: R,
@@ -122,6 +151,7 @@ pub fn serve<
     network: &Network<V>,
     gate: &G,
     clock: &C,
+    watcher: &X,
 ) -> Result<(Leave, Ended<W>), ServeFault>
     ensures heard { IfOk result (λ x. WasHeard unread.splitter unread.lines.items
         (I.remaining reader.old) (I.remaining reader.new) x.0) }
@@ -129,21 +159,17 @@ pub fn serve<
         × HasEnded id x.1.token x.1.fresh (items_of x.1.end)
         (W.contents writer) (W.contents x.1.out) x.1.written) }
 {
-    let mut writer = writer;
-    let theirs = gate.clone()?;
-    let (id, end) = match join_in(&rt, alloc, claim, network) {
-        Ok(joined) => joined,
-        Err(ServeFault::Refused(error)) => {
-            let _ = refuse(&mut writer, error);
+    let (outlet, handle) = start_writer(rt, alloc, writer, network, gate)?;
+    let id = match join_in(&rt, claim, network, outlet) {
+        Ok(id) => id,
+        Err(error) => {
+            turn_away(&rt, handle, error);
             return Err(ServeFault::Refused(error));
         }
-        Err(fault) => return Err(fault),
     };
-    let Ok(handle) = spawn_writer(rt, end, writer, theirs, u64::MAX) else {
-        leave_at_once(&rt, network, id);
-        return Err(ServeFault::Memory);
-    };
-    let leave = talk(&rt, alloc, reader, unread, network, id, gate, clock);
+    let leave = talk(
+        &rt, alloc, reader, unread, network, id, gate, clock, watcher,
+    );
     match end_session(&rt, network, id, handle) {
         Ok(ended) => Ok((leave, ended)),
         Err(NoSession) => Err(ServeFault::Cut),
@@ -188,7 +214,7 @@ pub fn serve_session<
         return Ok(Served::NoLogin);
     };
     match serve(
-        rt, alloc, reader, writer, &claim, unread, network, gate, clock,
+        rt, alloc, reader, writer, &claim, unread, network, gate, clock, &Unwatched,
     ) {
         Ok((_, ended)) => Ok(Served::Ended(ended)),
         Err(ServeFault::Refused(error)) => Ok(Served::Refused(error)),

@@ -1,9 +1,11 @@
 //! What a client says in its session.
 
-ghost use Rattle.sessions.specs.Leaving.{WasHeard, WasTaken, WereSaid};
+ghost use Rattle.sessions.specs.Leaving.{LeavesBy, WasHeard, WasTaken, WereSaid};
 
 use crate::arrival::Unread;
 use crate::attending::{Leave, say};
+use crate::watcher::Watcher;
+use client_caps::{Caps, Moment};
 use hub_ends::SessionId;
 use hub_threads::{Clock, Gate, Network, Point};
 use irc_line::{FeedError, Line, Splitter};
@@ -18,20 +20,54 @@ const PIECE: usize = 4_096;
 /// How many reads there are at most.
 const READ_LIMIT: u64 = 1_000_000_000;
 
+/// Tells which capabilities a client holds now, if they are others than before.
+fn tell_change<X: Watcher>(watcher: &X, before: Option<Caps>, after: Option<Caps>) {
+    match after {
+        Some(caps) if before != after => watcher.caps_changed(caps),
+        _ => {}
+    }
+}
+
+/// Says a CAP line, and tells if it changed the client's capabilities; answers why the session
+/// ends, where it does.
+fn say_cap<V: NetworkView + Drop, X: Watcher, R: Wait>(
+    rt: &R,
+    network: &Network<V>,
+    id: SessionId,
+    line: &Line,
+    moment: Moment,
+    watcher: &X,
+) -> Option<Leave>
+    ensures { LeavesBy line.now result }
+{
+    let mut hub = network.lock(rt);
+    let before = hub.caps(id);
+    let leave = say(&mut hub, id, line, moment);
+    let after = hub.caps(id);
+    drop(hub);
+    tell_change(watcher, before, after);
+    leave
+}
+
 /// Says lines, in order, up to one that ends the session; answers why, where one does. The lock is
 /// taken anew for each.
-fn say_all<V: NetworkView + Drop, C: Clock, R: Wait>(
+fn say_all<V: NetworkView + Drop, C: Clock, X: Watcher, R: Wait>(
     rt: &R,
     network: &Network<V>,
     id: SessionId,
     lines: &[Line],
     clock: &C,
+    watcher: &X,
 ) -> Option<Leave>
     ensures { WereSaid lines.now result }
 {
     for line in lines {
         let moment = clock.now();
-        let leave = say(&mut network.lock(rt), id, line, moment);
+        let leave = if line.is(b"CAP") {
+            say_cap(rt, network, id, line, moment, watcher)
+        } else {
+            say(&mut network.lock(rt), id, line, moment)
+        };
         if let Some(why) = leave {
             return Some(why);
         }
@@ -41,7 +77,7 @@ fn say_all<V: NetworkView + Drop, C: Clock, R: Wait>(
 
 /// Takes a piece of what was read: says the lines that it completes; answers why the session ends,
 /// where it does.
-fn take_piece<V: NetworkView + Drop, C: Clock, R: Wait>(
+fn take_piece<V: NetworkView + Drop, C: Clock, X: Watcher, R: Wait>(
     rt: &R,
     alloc: Global,
     splitter: &mut Splitter,
@@ -49,12 +85,13 @@ fn take_piece<V: NetworkView + Drop, C: Clock, R: Wait>(
     network: &Network<V>,
     id: SessionId,
     clock: &C,
+    watcher: &X,
 ) -> Option<Leave>
     ensures { WasTaken splitter.old piece.now result splitter.new }
 {
     let mut lines = Vec::new(alloc);
     match splitter.feed(piece, &mut lines) {
-        Ok(()) => say_all(rt, network, id, lines.as_slice(), clock),
+        Ok(()) => say_all(rt, network, id, lines.as_slice(), clock, watcher),
         Err(FeedError::TooLong) => Some(Leave::TooLong),
         Err(FeedError::OutOfMemory) => Some(Leave::OutOfMemory),
     }
@@ -62,7 +99,7 @@ fn take_piece<V: NetworkView + Drop, C: Clock, R: Wait>(
 
 /// Reads what a client says and says it to its hub, what is unread first, until the session ends;
 /// answers why.
-pub(crate) fn talk<V: NetworkView + Drop, I: Read, G: Gate, C: Clock, R: Wait>(
+pub(crate) fn talk<V: NetworkView + Drop, I: Read, G: Gate, C: Clock, X: Watcher, R: Wait>(
     rt: &R,
     alloc: Global,
     reader: &mut I,
@@ -71,13 +108,14 @@ pub(crate) fn talk<V: NetworkView + Drop, I: Read, G: Gate, C: Clock, R: Wait>(
     id: SessionId,
     gate: &G,
     clock: &C,
+    watcher: &X,
 ) -> Leave
     ensures { WasHeard unread.splitter unread.lines.items (I.remaining reader.old)
         (I.remaining reader.new) result }
 {
     let Unread { splitter, lines } = unread;
     let mut splitter = splitter;
-    if let Some(why) = say_all(rt, network, id, lines.as_slice(), clock) {
+    if let Some(why) = say_all(rt, network, id, lines.as_slice(), clock, watcher) {
         return why;
     }
     let Ok(mut buffer) = vec![in alloc; 0; PIECE] else {
@@ -90,7 +128,16 @@ pub(crate) fn talk<V: NetworkView + Drop, I: Read, G: Gate, C: Clock, R: Wait>(
             Ok(count) => {
                 gate.pass(Point::AfterRead);
                 let piece = &buffer[..count];
-                let leave = take_piece(rt, alloc, &mut splitter, piece, network, id, clock);
+                let leave = take_piece(
+                    rt,
+                    alloc,
+                    &mut splitter,
+                    piece,
+                    network,
+                    id,
+                    clock,
+                    watcher,
+                );
                 if let Some(why) = leave {
                     return why;
                 }
