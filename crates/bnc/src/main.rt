@@ -12,6 +12,7 @@ use commands::{
     tell_bad_words, tell_fault,
 };
 use std::alloc::{AllocError, Global};
+use std::fs::File;
 use std::io::ErrorKind;
 use std::net::{Net, TcpListener, TcpStream};
 use std::process::ExitCode;
@@ -65,7 +66,7 @@ fn refuse_words<R: AllocGlobal + Env + Eprint>(rt: &R) -> ExitCode
 /// Does what the command line asks for.
 fn run<
     R: AllocGlobal
-        + Files
+        + Files<File = File>
         + Input
         + Print
         + Eprint

@@ -2,8 +2,9 @@
 
 use bnc_config::Config;
 use commands::Fault;
-use serving::{Limits, Shared, accept, start_networks};
+use serving::{Limits, Shared, accept, start_log, start_networks};
 use std::fs;
+use std::fs::File;
 use std::net::{Net, TcpListener, TcpStream};
 use std::rt::{Clock, Files};
 use std::sync::{Arc, Wait};
@@ -25,7 +26,7 @@ fn settings_at<R: AllocGlobal + Files>(rt: &R, path: &str) -> Result<Config, Fau
 /// serves. It returns before it is killed only for a fault.
 pub fn serve_file<
     R: AllocGlobal
-        + Files
+        + Files<File = File>
         + Threads
         + Wait
         + Clock
@@ -38,6 +39,9 @@ pub fn serve_file<
         + Drop
         + 'static,
 >(rt: R, path: &str) -> Result<(), Fault> {
+    if keep::fill_standard(&rt).is_err() {
+        return Err(Fault::CannotWrite);
+    }
     let alloc = rt.alloc();
     let config = settings_at(&rt, path)?;
     let limits = Limits::of_program(config.retry());
@@ -51,6 +55,7 @@ pub fn serve_file<
     let Ok(shared) = Arc::new(alloc, shared) else {
         return Err(Fault::OutOfMemory);
     };
+    let _log = start_log(rt, &shared)?;
     let _threads = start_networks(rt, alloc, &shared, links)?;
     if println!(rt; "listening {address}").is_err() {
         return Err(Fault::CannotWrite);

@@ -1,8 +1,8 @@
 -- What `bnc attach` writes for the bytes that a network sent, and why it fails.
-use Rattle.std.specs.Prelude.{◌≡◌, ℕ, List, Option, None, false, true, unwrap_or}
+use Rattle.std.specs.Prelude.{◌≡◌, ℕ, IfSome, List, Option, None, false, true, unwrap_or}
 use Rattle.std.specs.List.{filter_map, flat_map}
+use Rattle.std.specs.Option.{option_map_or}
 use Rattle.std.specs.Io.KnownBytes.{IsAtEnd}
-use Rattle.circular_buffer.specs.Buffer.{keep_last}
 use Rattle.irc_line.specs.Lines.{is_too_long}
 use Rattle.irc_line.specs.Tags.{time_of}
 use Rattle.irc_line.specs.Writing.{written}
@@ -11,6 +11,7 @@ use Rattle.net_view.specs.View.{view_of}
 use Rattle.client_caps.specs.declared.caps.Caps.{Caps}
 use Rattle.client_caps.specs.Moment.{time_text_of}
 use Rattle.history.specs.Entry.{EntryParts, message_of}
+use Rattle.history.specs.Messages.{AreWrittenMessages, Messages, history_of, missed_by}
 use Rattle.welcome.specs.Playback.{burst_of}
 use Rattle.commands.specs.Stream.{IsRefusal, transcript_of}
 use Rattle.commands.specs.declared.fault.Fault.{Fault}
@@ -23,9 +24,22 @@ message_in (Received line) =
     message_of (unwrap_or (time_of line) (time_text_of 0)) line.source line
 message_in Lost = None
 
--- the last messages of a transcript, so many, the oldest first
+-- the history of a transcript's messages, which keeps so many to each target
+abbrev pub kept_of : ℕ → List Arrival → Messages
+kept_of n items = history_of n 1 (filter_map message_in items)
+
+-- how many a history keeps to each target, where there is one
+abbrev pub room_of : Option Messages → ℕ
+room_of recent = option_map_or (λ (h : Messages). h.capacity) recent 0
+
+-- what is kept once these items came: the history of their messages, where there is one
+abbrev pub IsKept : Option Messages → List Arrival → Type 0
+IsKept recent items =
+    IfSome recent (λ h. (h ≡ kept_of h.capacity items) × AreWrittenMessages h)
+
+-- the messages of a transcript that are retained, so many to each target, the oldest first
 abbrev pub last_messages : ℕ → List Arrival → List EntryParts
-last_messages n items = keep_last n (filter_map message_in items)
+last_messages n items = missed_by None (kept_of n items)
 
 -- what a client is sent that comes when these bytes were read
 abbrev pub stream_burst : Caps → ℕ → List ℕ → List ℕ

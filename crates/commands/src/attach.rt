@@ -1,30 +1,35 @@
 //! `bnc attach`: reads what a network sent, and writes what a client is sent that comes then.
 
-ghost use Rattle.std.specs.Prelude.{◌≡◌, ◌≢◌, [], ℕ, List, false, true, IfErr, IfOk, OnOk, map};
+ghost use Rattle.std.specs.Prelude.{◌≡◌, ◌≢◌, ◌++◌, ◌∷◌, [], ℕ, List, false, true};
+ghost use Rattle.std.specs.Prelude.{IfErr, IfOk, IfSome, OnOk, map};
 ghost use Rattle.std.specs.Io.KnownBytes.{Appends, Consumes, IsAtEnd};
-ghost use Rattle.circular_buffer.specs.Buffer.{buffer};
+ghost use Rattle.std.specs.List.{AllByRecursion};
+ghost use Rattle.history.specs.Entry.{IsWrittenEntry};
+ghost use Rattle.history.specs.Messages.{no_messages};
 ghost use Rattle.irc_line.specs.Lines.{is_too_long};
-ghost use Rattle.net_view.specs.Arrival.{Received};
+ghost use Rattle.net_view.specs.Arrival.{Arrival, Received};
 ghost use Rattle.net_view.specs.View.{view_of};
-ghost use Rattle.commands.specs.Attach.{IsAttachFault, message_in, stream_burst};
+ghost use Rattle.commands.specs.Attach.{IsAttachFault, IsKept, last_messages, message_in};
+ghost use Rattle.commands.specs.Attach.{room_of, stream_burst};
 ghost use Rattle.commands.specs.Stream.{transcript_of};
 
 use crate::fault::Fault;
 use crate::input::{Taker, read_all};
-use circular_buffer::HeapCircularBuffer;
 use client_caps::{Caps, Moment, time_text};
-use history::Entry;
+use history::{Entry, History};
 use irc_line::Line;
 use net_view::{Item, NetworkView, OutOfMemory};
 use quick_view::QuickView;
 use std::alloc::Global;
 use std::io::{Read, Write};
+use std::num::NonZeroUsize;
 use welcome::burst;
 
 /// The message that a line is; `None` where it is none. A line without a time of its own came at
 /// 1970-01-01T00:00:00Z.
 fn message_of(alloc: Global, line: &Line) -> Result<Option<Entry>, OutOfMemory>
-    ensures { IfOk result (λ entry. entry ≡ message_in (Received line.now)) }
+    ensures made { IfOk result (λ entry. entry ≡ message_in (Received line.now)) }
+    ensures written { IfOk result (λ entry. IfSome entry IsWrittenEntry) }
 {
     let _command = line.command();
     match line.time_tag() {
@@ -33,47 +38,67 @@ fn message_of(alloc: Global, line: &Line) -> Result<Option<Entry>, OutOfMemory>
     }
 }
 
-/// A view that takes the lines of an input, with the last messages of them.
+/// Keeps a message, where there is one and any are retained. No input has so many messages that
+/// their numbers are spent.
+fn keep_in(recent: &mut Option<History>, entry: Option<Entry>) -> Result<(), OutOfMemory>
+    requires { IfSome entry IsWrittenEntry }
+    ensures kept { (items : List Arrival) → (x : Arrival) → message_in x ≡ entry →
+        IsKept recent.old items → OnOk result (IsKept recent.new (items ++ x ∷ [])) }
+    ensures room { OnOk result (room_of recent.new ≡ room_of recent.old) }
+{
+    let Some(recent) = recent else {
+        return Ok(());
+    };
+    let Some(entry) = entry else {
+        return Ok(());
+    };
+    match recent.add(entry) {
+        Ok(_) => Ok(()),
+        Err(_) => Err(OutOfMemory),
+    }
+}
+
+/// A view that takes the lines of an input, with the messages of them that are retained, where any
+/// are.
 #[derive(Drop)]
 pub struct Attaching<V> {
     pub view: V,
-    recent: HeapCircularBuffer<Entry>,
+    recent: Option<History>,
+    alloc: Global,
 }
 
 impl<V: NetworkView> Taker for Attaching<V> {
     ghost use Rattle.std.specs.Prelude.{◌≡◌};
     ghost use Rattle.net_view.specs.View.{view_of};
-    ghost use Rattle.commands.specs.Attach.{last_messages};
+    ghost use Rattle.commands.specs.Attach.{IsKept, room_of};
 
     ghost is_after = { λ attaching items. (V.view attaching.view ≡ view_of items)
-        × (attaching.recent.items ≡ last_messages attaching.recent.capacity items) };
+        × IsKept attaching.recent items };
 
-    ghost room = { λ attaching. attaching.recent.capacity };
+    ghost room = { λ attaching. room_of attaching.recent };
 
     fn take_line(&mut self, line: Line) -> Result<(), OutOfMemory> {
-        let entry = message_of(*self.recent.allocator(), &line)?;
+        let entry = message_of(self.alloc, &line)?;
         self.view.take(&Item::Line(line))?;
-        if let Some(entry) = entry {
-            let _pushed_out = self.recent.push_back(entry);
-        }
-        Ok(())
+        keep_in(&mut self.recent, entry)
     }
 }
 
-/// The messages, in order.
-fn lent(alloc: Global, recent: &HeapCircularBuffer<Entry>) -> Result<Vec<&Entry>, OutOfMemory>
-    ensures { IfOk result (λ entries. map (λ entry. entry.now) entries.items
-        ≡ recent.now.items) }
+/// The messages that are retained, the oldest first.
+fn retained(alloc: Global, recent: &Option<History>) -> Result<Vec<&Entry>, OutOfMemory>
+    ensures missed { (items : List Arrival) → IsKept recent.now items → IfOk result (λ entries.
+        map (λ entry. entry.now) entries.items ≡ last_messages (room_of recent.now) items) }
+    ensures written { (items : List Arrival) → IsKept recent.now items → IfOk result (λ entries.
+        AllByRecursion (λ entry. IsWrittenEntry entry.now) entries.items) }
 {
-    let mut entries = Vec::new(alloc);
-    for entry in recent.iter() {
-        entries.push(entry)?;
+    match recent {
+        Some(recent) => recent.missed(alloc, None),
+        None => Ok(Vec::new(alloc)),
     }
-    Ok(entries)
 }
 
 /// Reads what a network sent to its end, and writes what a client with these capabilities is sent
-/// that comes then: the burst, with the last messages, each line with CR LF.
+/// that comes then: the burst, with the messages that are retained, each line with CR LF.
 ///
 /// Want of memory apart, a fault comes where more than 16,384 bytes stand without LF, where a read
 /// fails or 1,000,000,000 reads did not reach the end, where the network is not ready, and where
@@ -87,14 +112,15 @@ pub fn attach_input<V: NetworkView, R: Read, W: Write>(
     caps: Caps,
 ) -> Result<(), Fault>
     requires new_view { V.view attaching.old.view ≡ view_of [] }
-    requires no_messages { attaching.old.recent.items ≡ [] }
+    requires no_messages { IfSome attaching.old.recent (λ recent.
+        recent ≡ no_messages recent.capacity 1) }
     ensures written { OnOk result ((bytes : List ℕ)
         × Consumes (R.remaining reader.old) (R.remaining reader.new) bytes
         × IsAtEnd (R.remaining reader.new)
         × (is_too_long bytes ≡ false)
         × ((view_of (transcript_of bytes)).ready ≡ true)
         × Appends (W.contents out.old) (W.contents out.new)
-        (stream_burst caps attaching.old.recent.capacity bytes)) }
+        (stream_burst caps (room_of attaching.old.recent) bytes)) }
     ensures refused { IfErr result (λ fault. (bytes : List ℕ)
         × Consumes (R.remaining reader.old) (R.remaining reader.new) bytes
         × IsAttachFault bytes (R.remaining reader.new) fault) }
@@ -104,7 +130,7 @@ pub fn attach_input<V: NetworkView, R: Read, W: Write>(
     if !attaching.view.ready() {
         return Err(Fault::NotReady);
     }
-    let entries = lent(alloc, &attaching.recent)?;
+    let entries = retained(alloc, &attaching.recent)?;
     let burst = burst(alloc, &attaching.view, caps, &entries)?;
     match out.write_all(burst.bytes()) {
         Ok(()) => Ok(()),
@@ -113,7 +139,8 @@ pub fn attach_input<V: NetworkView, R: Read, W: Write>(
 }
 
 /// Reads what a network sent to its end, and writes what a client with these capabilities is sent
-/// that comes then, with the last `history` messages, as `attach_input` has it of a new view:
+/// that comes then, with the last `history` messages to each target, as `attach_input` has it of a
+/// new view:
 ///
 /// ```text
 /// :s 001 Me :hi               :bnc 001 Me :Welcome to the bouncer
@@ -143,8 +170,15 @@ pub fn run_attach<R: Read, W: Write>(
         × IsAttachFault bytes (R.remaining reader.new) fault) }
     ensures unwritten { IfErr result (λ fault. fault ≢ Fault.CannotWrite → out.new ≡ out.old) }
 {
-    let recent = HeapCircularBuffer::with_capacity(alloc, history)?;
+    let recent = match NonZeroUsize::new(history) {
+        Some(capacity) => Some(History::keeping(alloc, capacity, 1)?),
+        None => None,
+    };
     let view = QuickView::new(alloc)?;
-    let mut attaching = Attaching { view, recent };
+    let mut attaching = Attaching {
+        view,
+        recent,
+        alloc,
+    };
     attach_input(alloc, &mut attaching, reader, out, caps)
 }

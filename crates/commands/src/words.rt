@@ -104,7 +104,7 @@ fn history_argument<'a>(alloc: Global) -> Arg<'a>
         .value_name("N")
         .value_parser(ValueParser::unsigned(1, 10_000))
         .default_value("500")
-        .help("How many of the last messages are played back at most")
+        .help("How many of the last messages to each target are played back at most")
 }
 
 /// `bnc COMMAND`, without the commands.

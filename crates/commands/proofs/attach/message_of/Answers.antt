@@ -10,10 +10,10 @@ pub of_message-requires : goal.of_message-requires
 of_message-requires c =
     time_tagged c.args.line.now c.in-Some.time.now (sym c.in-Some.ensures)
 
-pub returns-in-None : goal.returns-in-None
-returns-in-None c =
+pub returns-in-None-clause-made : goal.returns-in-None-clause-made
+returns-in-None-clause-made c =
     let line = c.args.line.now in
     let none : time_of line ≡ None = sym c.in-None.ensures in
     subst (λ t. IfOk c.of_message-in-None.result (λ entry. entry ≡ message_of t line.source line))
     (c.time_text.ensures.text ∙ ap (λ o. unwrap_or o (time_text_of 0)) (sym none))
-    c.of_message-in-None.ensures
+    c.of_message-in-None.ensures.made
