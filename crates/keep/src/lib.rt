@@ -1,13 +1,16 @@
-//! Connections watched by the system, by socket options that std does not offer.
+//! Connections watched by the system, by socket options that std does not offer; and descriptors
+//! that nobody may have by accident.
 //!
 //! This is the one crate with `unsafe`: each call of the C library in it names its option and hands
 //! over a buffer of its own, and the statements of the kit's `libc` ask for no more.
 #![tactic(auto)]
 
 use libc::net as c;
+use std::fs::{File, OpenOptions};
 use std::io;
 use std::net::TcpStream;
-use std::os::fd::AsRawFd;
+use std::os::fd::{AsRawFd, IntoRawFd};
+use std::rt::Files;
 
 /// What the system is asked to find out about an idle connection.
 #[derive(Clone, Copy, Debug, PartialEq, Eq)]
@@ -82,4 +85,21 @@ pub fn watch_on(stream: &TcpStream) -> io::Result<Option<Watch>> {
         idle: u16::try_from(number_of(&idle)).unwrap_or(u16::MAX),
         limit: number_of(&limit),
     }))
+}
+
+/// Opens `/dev/null` as standard input, output and error, each that is closed: so no file or socket
+/// that is opened later gets its number, and what is written to it reaches nobody. It is for the
+/// start of a program, before anything else is opened.
+pub fn fill_standard<R: Files<File = File>>(rt: &R) -> io::Result<()> {
+    for _ in libc::STDIN_FILENO..=libc::STDERR_FILENO {
+        let file = OpenOptions::new()
+            .read(true)
+            .write(true)
+            .open(rt, "/dev/null")?;
+        if file.as_raw_fd() > libc::STDERR_FILENO {
+            return Ok(());
+        }
+        let _ = file.into_raw_fd();
+    }
+    Ok(())
 }

@@ -1,12 +1,14 @@
 //! Connections of clients.
 
 use crate::client::serve_client;
+use crate::connection::Connection;
 use crate::event::Event;
-use crate::log::tell;
-use crate::shared::{Seat, Shared, take_seat};
+use crate::refusals::{tell_counted, tell_refusal};
+use crate::seats::{Seat, take_seat};
+use crate::shared::Shared;
 use std::alloc::Global;
 use std::io::Write;
-use std::net::{Shutdown, SocketAddr, TcpListener, TcpStream};
+use std::net::{SocketAddr, TcpListener, TcpStream};
 use std::rt::Clock;
 use std::sync::{Arc, Wait};
 use std::thread;
@@ -16,47 +18,66 @@ use std::thread::Threads;
 const PROGRAM: &str = "bnc";
 
 /// Tells a client why it is not served, and shuts its connection.
-fn turn_away<R: Eprint + Clock>(
+fn turn_away<R: Wait + Clock>(
     rt: &R,
     shared: &Shared,
-    stream: &TcpStream,
+    connection: &Connection,
     peer: SocketAddr,
     cause: &str,
 ) {
-    let mut stream = stream;
+    let mut stream = connection.stream();
     let _ = stream.set_write_timeout(Some(shared.limits().pause));
     let _ = write!(stream, "ERROR :{cause}\r\n");
-    let _ = stream.shutdown(Shutdown::Both);
-    tell(rt, &PROGRAM, &Event::TurnedAway { peer, cause });
+    connection.hang_up();
+    let event = Event::TurnedAway { peer, cause };
+    tell_refusal(rt, shared, peer.ip(), &PROGRAM, &event);
 }
 
 /// Serves a client in a thread of its own. Where there is none, the client is told so, and it
 /// waits a while.
-fn start_client<R: Threads + Clock + Eprint + Wait + Copy + Send + Drop + 'static>(
+fn start_client<R: Threads + Clock + Wait + Copy + Send + Drop + 'static>(
     rt: R,
     alloc: Global,
     shared: &Arc<Shared>,
-    seat: Seat,
-    stream: TcpStream,
+    seat: Seat<R>,
+    connection: &Connection,
     peer: SocketAddr,
 ) {
-    let (Ok(spare), Ok(theirs)) = (stream.try_clone(), Arc::try_clone(shared)) else {
-        turn_away(&rt, shared, &stream, peer, "no memory");
-        return thread::sleep(&rt, shared.limits().pause);
+    let (Ok(given), Ok(theirs)) = (connection.share(), Arc::try_clone(shared)) else {
+        return turn_away(&rt, shared, connection, peer, "no memory");
     };
     let started = thread::spawn(&rt, move || {
-        serve_client(rt, alloc, &theirs, seat, stream, peer)
+        serve_client(rt, alloc, &theirs, seat, given, peer)
     });
     if started.is_err() {
-        turn_away(&rt, shared, &spare, peer, "no memory");
+        turn_away(&rt, shared, connection, peer, "no threads");
         thread::sleep(&rt, shared.limits().pause);
     }
 }
 
+/// Takes a connection, and serves its client where there is a seat for its login.
+fn take_connection<R: Threads + Clock + Wait + Copy + Send + Drop + 'static>(
+    rt: R,
+    alloc: Global,
+    shared: &Arc<Shared>,
+    stream: TcpStream,
+    peer: SocketAddr,
+) {
+    let Ok(connection) = Connection::new(alloc, stream) else {
+        let cause = "no memory";
+        let event = Event::TurnedAway { peer, cause };
+        return tell_refusal(&rt, shared, peer.ip(), &PROGRAM, &event);
+    };
+    match take_seat(rt, shared, peer.ip(), &connection) {
+        Some(seat) => start_client(rt, alloc, shared, seat, &connection, peer),
+        None => turn_away(&rt, shared, &connection, peer, "too many connections"),
+    }
+}
+
 /// Accepts clients, as many as the limits say, and serves each in a thread of its own. One for
-/// whose login there is no place is told `ERROR :too many connections`. Where a connection can't be
+/// whose login there is no seat is told `ERROR :too many connections`. Where a connection can't be
 /// accepted, as without a free descriptor, it waits a while and goes on.
-pub fn accept<R: Threads + Clock + Eprint + Wait + Copy + Send + Drop + 'static>(
+pub fn accept<R: Threads + Clock + Wait + Copy + Send + Drop + 'static>(
     rt: R,
     alloc: Global,
     listener: &TcpListener,
@@ -64,14 +85,14 @@ pub fn accept<R: Threads + Clock + Eprint + Wait + Copy + Send + Drop + 'static>
 ) {
     for _ in 0..shared.limits().accepts {
         match listener.accept() {
-            Ok((stream, peer)) => match take_seat(shared) {
-                Some(seat) => start_client(rt, alloc, shared, seat, stream, peer),
-                None => turn_away(&rt, shared, &stream, peer, "too many connections"),
-            },
+            Ok((stream, peer)) => take_connection(rt, alloc, shared, stream, peer),
             Err(error) => {
-                tell(&rt, &PROGRAM, &Event::CannotAccept(error));
+                shared
+                    .log()
+                    .tell(&rt, &PROGRAM, &Event::CannotAccept(error));
                 thread::sleep(&rt, shared.limits().pause);
             }
         }
+        tell_counted(&rt, shared);
     }
 }

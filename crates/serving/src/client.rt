@@ -2,24 +2,30 @@
 
 use crate::clock::SystemClock;
 use crate::closing::{HangingUp, hang_up};
+use crate::connection::Connection;
 use crate::counted::Counted;
 use crate::event::Event;
 use crate::limits::Limits;
-use crate::log::tell;
+use crate::log::Log;
 use crate::paced::Paced;
-use crate::shared::{Seat, Shared};
+use crate::refusals::tell_refusal;
+use crate::seats::Seat;
+use crate::shared::Shared;
 use crate::shown::Who;
 use crate::timed::Until;
-use hub_threads::Network;
+use client_caps::Caps;
+use hub_threads::{Network, WRITE_CALL};
 use quick_view::QuickView;
 use sessions::{
-    Claim, Ending, Leave, LoggedIn, LoginFault, ServeFault, Unread, deny, let_in, log_in, serve,
+    Claim, Ending, Leave, LoggedIn, LoginFault, ServeFault, Unread, Watcher, deny, let_in, log_in,
+    serve,
 };
 use std::alloc::Global;
 use std::net::{SocketAddr, TcpStream};
 use std::rt::Clock;
 use std::sync::Wait;
 use std::thread::Threads;
+use std::time::{Duration, Instant};
 use std::{io, thread};
 
 /// Sets what holds of the connection from its beginning on.
@@ -28,6 +34,9 @@ fn prepare(stream: &TcpStream, limits: &Limits) -> io::Result<()> {
     stream.set_write_timeout(Some(limits.write))?;
     keep::keep_watch(stream, limits.watch)
 }
+
+/// Why a login was over whose seat another took.
+const GAVE_WAY: &str = "gave way, too many connections";
 
 /// Why a login was over before it was done.
 fn cause_of_login(fault: &LoginFault) -> &'static str {
@@ -65,46 +74,69 @@ fn claimant(claim: &Claim) -> Who<'_> {
 }
 
 /// Does the login of a client, in the time that it has; `None` where it was over before it was
-/// done.
-fn login_of<R: Clock + Eprint>(
+/// done, or the seat was given to another.
+fn login_of<R: Clock + Wait + Copy + Drop>(
     rt: &R,
     alloc: Global,
+    shared: &Shared,
+    seat: &Seat<R>,
     stream: &TcpStream,
     peer: SocketAddr,
-    limits: &Limits,
 ) -> Option<(Claim, Unread)> {
-    let input = stream.try_clone().ok()?;
-    let mut input = Until::start(input, rt, limits.login).ok()?;
+    let mut input = Until::start(stream, rt, seat.time).ok()?;
     let mut out = stream;
     let cause = match log_in(alloc, &mut input, &mut out) {
         Ok(LoggedIn { ending, unread }) => match ending {
-            Ending::Claims(claim) => return Some((claim, unread)),
+            Ending::Claims(claim) if seat.complete() => return Some((claim, unread)),
+            Ending::Claims(_) => GAVE_WAY,
             Ending::Closes => "closed",
         },
+        Err(_) if seat.is_lost() => GAVE_WAY,
         Err(fault) => cause_of_login(&fault),
     };
-    tell(rt, &"bnc", &Event::NoLogin { peer, cause });
+    let event = Event::NoLogin { peer, cause };
+    tell_refusal(rt, shared, peer.ip(), &"bnc", &event);
     None
 }
 
+/// What the log is told of a session while it goes on.
+#[derive(Drop)]
+struct Logging<'a, R: Clock + Wait> {
+    rt: &'a R,
+    log: &'a Log,
+    claim: &'a Claim,
+}
+
+impl<R: Clock + Wait> Watcher for Logging<'_, R> {
+    fn caps_changed(&self, caps: Caps) {
+        self.log.tell(self.rt, &claimant(self.claim), &Event::CapsChanged { caps });
+    }
+}
+
 /// Serves a client that has been let in to a network.
-fn serve_session<R: Threads + Clock + Eprint + Wait + Copy + Send + Drop + 'static>(
+fn serve_session<R: Threads + Clock + Wait + Copy + Send + Drop + 'static>(
     rt: R,
     alloc: Global,
-    stream: TcpStream,
+    connection: &Connection,
     network: &Network<QuickView>,
     claim: &Claim,
     unread: Unread,
+    log: &Log,
 ) -> io::Result<()> {
+    let stream = connection.stream();
     stream.set_read_timeout(None)?;
-    let gate = HangingUp::on(stream.try_clone()?);
-    let Ok((out, count)) = Counted::new(alloc, stream.try_clone()?) else {
-        return Err(io::Error::from(io::ErrorKind::OutOfMemory));
-    };
-    let mut input = Paced::new(&rt, &stream, network);
+    stream.set_write_timeout(Some(Duration::from_millis(WRITE_CALL)))?;
+    let gate = HangingUp::on(connection.share()?);
+    let (out, count) = Counted::new(alloc, connection.share()?)?;
+    let mut input = Paced::new(&rt, stream, network);
     let clock = SystemClock::of(&rt);
+    let watcher = Logging {
+        rt: &rt,
+        log,
+        claim,
+    };
     match serve(
-        rt, alloc, &mut input, out, claim, unread, network, &gate, &clock,
+        rt, alloc, &mut input, out, claim, unread, network, &gate, &clock, &watcher,
     ) {
         Ok((leave, ended)) => {
             let event = Event::Ended {
@@ -112,47 +144,72 @@ fn serve_session<R: Threads + Clock + Eprint + Wait + Copy + Send + Drop + 'stat
                 whole: ended.written.is_ok(),
                 bytes: count.so_far(),
             };
-            tell(&rt, &claimant(claim), &event);
+            log.tell(&rt, &claimant(claim), &event);
         }
-        Err(ServeFault::Memory) => tell(&rt, &claimant(claim), &Event::SessionWithoutMemory),
-        Err(ServeFault::Refused(error)) => tell(&rt, &claimant(claim), &Event::NotAttached(error)),
+        Err(ServeFault::Memory) => log.tell(&rt, &claimant(claim), &Event::SessionWithoutMemory),
+        Err(ServeFault::Refused(error)) => log.tell(
+            &rt,
+            &claimant(claim),
+            &Event::NotAttached(error),
+        ),
         Err(ServeFault::Cut) => {
             let bytes = count.so_far();
-            tell(&rt, &claimant(claim), &Event::Cut { bytes });
+            log.tell(&rt, &claimant(claim), &Event::Cut { bytes });
         }
     }
+    connection.hang_up();
     Ok(())
+}
+
+/// Tells a client that its password is wrong, once the time for that is over, which began at a
+/// moment; whatever was done meanwhile takes none of it.
+fn turn_down<R: Clock + Wait>(
+    rt: &R,
+    shared: &Shared,
+    completed: Instant,
+    stream: &TcpStream,
+    claim: &Claim,
+    peer: SocketAddr,
+) {
+    let who = claimant(claim);
+    tell_refusal(rt, shared, peer.ip(), &who, &Event::WrongPassword { peer });
+    let passed = completed.elapsed(rt).unwrap_or(Duration::ZERO);
+    let left = shared.limits().wrong_password.saturating_sub(passed);
+    thread::sleep(rt, left);
+    let mut out = stream;
+    let _ = deny(&mut out);
+    hang_up(stream);
 }
 
 /// Serves a client to its end: its login, in the time that it has, the check against the settings,
 /// and its session. What a wrong password is answered comes after a while; the seat is kept for so
 /// long.
-pub fn serve_client<R: Threads + Clock + Eprint + Wait + Copy + Send + Drop + 'static>(
+pub fn serve_client<R: Threads + Clock + Wait + Copy + Send + Drop + 'static>(
     rt: R,
     alloc: Global,
     shared: &Shared,
-    seat: Seat,
-    stream: TcpStream,
+    seat: Seat<R>,
+    connection: Connection,
     peer: SocketAddr,
 ) {
-    let limits = shared.limits();
-    if prepare(&stream, &limits).is_err() {
+    let stream = connection.stream();
+    let log = shared.log();
+    if prepare(stream, &shared.limits()).is_err() {
         return;
     }
-    let Some((claim, unread)) = login_of(&rt, alloc, &stream, peer, &limits) else {
-        return hang_up(&stream);
+    let Some((claim, unread)) = login_of(&rt, alloc, shared, &seat, stream, peer) else {
+        return connection.hang_up();
+    };
+    let Ok(completed) = Instant::now(&rt) else {
+        return connection.hang_up();
     };
     let Some(network) = let_in(shared.config(), shared.networks(), &claim) else {
-        tell(&rt, &claimant(&claim), &Event::WrongPassword { peer });
-        thread::sleep(&rt, limits.wrong_password);
-        let mut out = &stream;
-        let _ = deny(&mut out);
-        return hang_up(&stream);
+        return turn_down(&rt, shared, completed, stream, &claim, peer);
     };
     drop(seat);
     let caps = claim.caps;
-    tell(&rt, &claimant(&claim), &Event::LoggedIn { peer, caps });
-    if serve_session(rt, alloc, stream, network, &claim, unread).is_err() {
-        tell(&rt, &claimant(&claim), &Event::SessionWithoutMemory);
+    log.tell(&rt, &claimant(&claim), &Event::LoggedIn { peer, caps });
+    if serve_session(rt, alloc, &connection, network, &claim, unread, log).is_err() {
+        log.tell(&rt, &claimant(&claim), &Event::SessionWithoutMemory);
     }
 }

@@ -2,18 +2,23 @@
 
 use client_caps::Moment;
 use std::rt::Clock;
-use std::time::{SystemTime, UNIX_EPOCH};
+use std::time::{Instant, SystemTime, UNIX_EPOCH};
 
 /// The system's time.
 #[derive(Clone, Copy)]
 pub struct SystemClock<'a, C> {
     clock: &'a C,
+    // when it was made; `None` where the clock could not be read
+    start: Option<Instant>,
 }
 
 impl<'a, C: Clock> SystemClock<'a, C> {
     /// That of a runtime.
     pub fn of(clock: &'a C) -> SystemClock<'a, C> {
-        SystemClock { clock }
+        SystemClock {
+            clock,
+            start: Instant::now(clock).ok(),
+        }
     }
 }
 
@@ -26,6 +31,18 @@ impl<C: Clock> hub_threads::Clock for SystemClock<'_, C> {
         match now.duration_since(UNIX_EPOCH) {
             Ok(since) => Moment(u64::try_from(since.as_millis()).unwrap_or(u64::MAX)),
             Err(_) => Moment(0),
+        }
+    }
+
+    /// How many milliseconds have gone by since it was made, by the monotonic clock; 0 where that
+    /// can't be read.
+    fn ticks(&self) -> u64 {
+        let Some(start) = self.start else {
+            return 0;
+        };
+        match start.elapsed(self.clock) {
+            Ok(since) => u64::try_from(since.as_millis()).unwrap_or(u64::MAX),
+            Err(_) => 0,
         }
     }
 }

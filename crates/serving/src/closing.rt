@@ -1,5 +1,6 @@
 //! The end of a connection.
 
+use crate::connection::Connection;
 use hub_threads::{Gate, Point};
 use std::alloc::AllocError;
 use std::net::{Shutdown, TcpStream};
@@ -10,38 +11,33 @@ pub fn hang_up(stream: &TcpStream) {
     let _ = stream.shutdown(Shutdown::Both);
 }
 
-/// The gate of a session. It holds nobody. When it or a copy of it is dropped, as the writer's
-/// thread does at its end, it shuts the connection: so the reader of a session that was cut, or to
-/// which nothing can be written, ends too.
+/// The gate of a session. It holds nobody. When the session's writer has ended, it shuts the
+/// connection: so the reader of a session that was cut, or to which nothing can be written, ends
+/// too. A writer that was given nothing to write leaves the connection as it is.
+#[derive(Drop)]
 pub struct HangingUp {
-    stream: TcpStream,
+    connection: Connection,
 }
 
 impl HangingUp {
     /// The gate of a writer to this connection.
-    pub fn on(stream: TcpStream) -> HangingUp {
-        HangingUp { stream }
+    pub fn on(connection: Connection) -> HangingUp {
+        HangingUp { connection }
     }
 }
 
 impl Gate for HangingUp {
-    fn pass(&self, _point: Point) {}
-}
-
-impl Clone for HangingUp {
-    /// `AllocError` where there is no descriptor for another handle of the connection.
-    fn clone(&self) -> Result<HangingUp, AllocError> {
-        match self.stream.try_clone() {
-            Ok(stream) => Ok(HangingUp { stream }),
-            Err(_) => Err(AllocError),
+    fn pass(&self, point: Point) {
+        if point == Point::AtEnd {
+            self.connection.hang_up();
         }
     }
 }
 
-impl Drop for HangingUp {
-    fn drop(self) {
-        let HangingUp { stream } = self;
-        hang_up(&stream);
-        drop(stream);
+impl Clone for HangingUp {
+    fn clone(&self) -> Result<HangingUp, AllocError> {
+        Ok(HangingUp {
+            connection: self.connection.share()?,
+        })
     }
 }

@@ -1,26 +1,26 @@
 //! The thread that dials a network, takes part in its registration, and reads it.
 
 use crate::clock::SystemClock;
-use crate::closing::hang_up;
+use crate::connection::Connection;
 use crate::event::Event;
 use crate::limits::Limits;
 use crate::link::Link;
-use crate::log::tell;
 use crate::recalling::Recalling;
 use crate::rejoining::rejoin;
 use crate::shared::{Served, Shared};
 use crate::timed::{OnSilence, Patient, Until};
 use hub_threads::{
-    FreeGate, InletEnd, Network, OutletEnd, ReadEnd, Reading, Stopper, Written, put_lines, read_in,
-    write_out,
+    FreeGate, InletEnd, Network, OutletEnd, ReadEnd, Reading, Stopper, WRITE_CALL, Written,
+    put_lines, read_in, write_out,
 };
-use irc_line::{Line, Splitter};
+use irc_line::Line;
 use quick_view::QuickView;
 use std::alloc::Global;
 use std::net::{Net, TcpListener, TcpStream, ToSocketAddrs};
 use std::rt::Clock;
 use std::sync::Wait;
 use std::thread::Threads;
+use std::time::Duration;
 use std::{io, thread};
 use upstream::{DialFault, Dialled, Duplex, Welcomed};
 
@@ -44,17 +44,17 @@ fn connect<R: Net<Listener = TcpListener, Stream = TcpStream>>(
     Err(last)
 }
 
-/// Another handle of a connection, read until the limit of a registration is over.
+/// A connection, read until the limit of a registration is over.
 fn until_registered<'a, R: Clock>(
     rt: &'a R,
     alloc: Global,
-    stream: &TcpStream,
+    stream: &'a TcpStream,
     limits: &Limits,
-) -> io::Result<Duplex<Recalling<Until<TcpStream, &'a R>>, TcpStream>> {
-    let reader = Until::start(stream.try_clone()?, rt, limits.registration)?;
+) -> io::Result<Duplex<Recalling<Until<'a, R>>, &'a TcpStream>> {
+    let reader = Until::start(stream, rt, limits.registration)?;
     Ok(Duplex {
         reader: Recalling::new(alloc, reader),
-        writer: stream.try_clone()?,
+        writer: stream,
     })
 }
 
@@ -96,11 +96,15 @@ impl<R: Wait> OnSilence for KeepAlive<'_, R> {
     }
 }
 
-/// Writes the packets of a hub to the network, until it is told to stop or a write fails. The
-/// connection is shut then.
-fn write_to<R: Wait>(rt: &R, stream: &TcpStream, outlet: OutletEnd) -> OutletEnd {
-    let Written { end, .. } = write_out(rt, outlet, stream, &FreeGate, u64::MAX);
-    hang_up(stream);
+/// Writes the packets of a hub to the network, until it is told to stop, a write fails, or nothing
+/// was taken for 30 s. The connection is shut then.
+fn write_to<R: Wait + Drop>(rt: R, connection: Connection, outlet: OutletEnd) -> OutletEnd {
+    // fails only with a connection to which nothing can be written
+    let _ = connection
+        .stream()
+        .set_write_timeout(Some(Duration::from_millis(WRITE_CALL)));
+    let Written { end, out, .. } = write_out(&rt, outlet, connection, &FreeGate, u64::MAX);
+    out.hang_up();
     end
 }
 
@@ -112,55 +116,66 @@ struct Parting {
     said: Option<Vec<u8>>,
 }
 
-/// Reads the network to the connection's end, and then stops the writer and shuts it.
+/// Puts the lines of the welcome, reads the network to the connection's end, and then stops the
+/// writer and shuts it.
 fn read_from<R: Wait + Clock>(
     rt: &R,
     alloc: Global,
     served: &Served<'_>,
-    stream: &TcpStream,
-    splitter: Splitter,
+    connection: &Connection,
+    welcomed: Welcomed,
     inlet: InletEnd,
     stopper: &Stopper,
 ) -> (InletEnd, Parting) {
+    let Welcomed { splitter, lines } = welcomed;
+    let mut inlet = inlet;
+    let clock = SystemClock::of(rt);
+    put_lines(rt, &mut inlet, lines, hub_threads::Clock::now(&clock));
     let alive = KeepAlive {
         rt,
         network: served.network,
     };
-    let patient = Patient::new(stream, alive, served.limits.silences);
+    let patient = Patient::new(connection.stream(), alive, served.limits.silences);
     let mut reader = Recalling::new(alloc, patient);
-    let clock = SystemClock::of(rt);
     let reading = read_in(rt, alloc, &mut reader, splitter, inlet, &FreeGate, &clock);
     stopper.stop();
-    hang_up(stream);
+    connection.hang_up();
     let Reading { end, ended } = reading;
     let said = reader.parting(alloc);
     (end, Parting { ended, said })
 }
 
 /// Serves a connection to its end: the lines from the welcome on go to the hub, and what the hub
-/// has for the network goes to it. Answers the link, and how the connection ended.
-fn run<R: Threads + Wait + Clock + Sync>(
+/// has for the network goes to it. Answers the link, and how the connection ended; `None` where
+/// there was no thread to write with, so that it was given up before anything came of it.
+fn run<R: Threads + Wait + Clock + Copy + Send + Drop + 'static>(
     rt: &R,
     alloc: Global,
     served: &Served<'_>,
-    stream: &TcpStream,
+    connection: &Connection,
+    theirs: Connection,
     welcomed: Welcomed,
     link: Link,
-) -> (Link, Parting) {
+) -> (Link, Option<Parting>) {
     let Link {
-        mut inlet,
+        inlet,
         outlet,
         stopper,
     } = link;
-    let Welcomed { splitter, lines } = welcomed;
-    let now = hub_threads::Clock::now(&SystemClock::of(rt));
-    put_lines(rt, &mut inlet, lines, now);
-    let told = &stopper;
-    let (outlet, (inlet, parting)) = thread::join(
-        rt,
-        move || write_to(rt, stream, outlet),
-        move || read_from(rt, alloc, served, stream, splitter, inlet, told),
-    );
+    let own = *rt;
+    let write = move || write_to(own, theirs, outlet);
+    let (outlet, inlet, parting) = match thread::spawn(rt, write) {
+        Ok(writer) => {
+            let reading = read_from(rt, alloc, served, connection, welcomed, inlet, &stopper);
+            (writer.join(rt), reading.0, Some(reading.1))
+        }
+        Err(refused) => {
+            // told to stop, it hands the end back at once
+            stopper.stop();
+            connection.hang_up();
+            ((refused.value)(), inlet, None)
+        }
+    };
     outlet.go_on();
     let link = Link {
         inlet,
@@ -190,19 +205,21 @@ fn cause_of(ended: ReadEnd) -> &'static str {
 }
 
 /// Tells that a connection has ended, and what the network said then.
-fn tell_loss<R: Clock + Eprint>(rt: &R, served: &Served<'_>, parting: &Parting) {
+fn tell_loss<R: Clock + Wait>(rt: &R, served: &Served<'_>, parting: &Parting) {
     let event = Event::Lost {
         cause: cause_of(parting.ended),
         said: parting.said.as_deref(),
         retry: served.limits.retry.as_secs(),
     };
-    tell(rt, &served.who, &event);
+    served.tell(rt, &event);
 }
 
-/// Dials once, and serves the connection to its end.
-fn dial<
-    R: Threads + Wait + Clock + Eprint + Net<Listener = TcpListener, Stream = TcpStream> + Sync,
->(rt: &R, alloc: Global, served: &Served<'_>, link: Link) -> Link {
+/// Connects to a network and registers there; tells where that fails.
+fn come_in<R: Wait + Clock + Net<Listener = TcpListener, Stream = TcpStream>>(
+    rt: &R,
+    alloc: Global,
+    served: &Served<'_>,
+) -> Option<(TcpStream, Welcomed)> {
     let address = served.settings.address();
     let retry = served.limits.retry.as_secs();
     let stream = match connect(rt, address, &served.limits) {
@@ -213,27 +230,59 @@ fn dial<
                 error,
                 retry,
             };
-            tell(rt, &served.who, &event);
-            return link;
+            served.tell(rt, &event);
+            return None;
         }
     };
-    let welcomed = match register(rt, alloc, served, &stream) {
-        Ok(welcomed) => welcomed,
+    match register(rt, alloc, served, &stream) {
+        Ok(welcomed) => Some((stream, welcomed)),
         Err((fault, said)) => {
             let said = said.as_deref();
-            tell(
-                rt,
-                &served.who,
-                &Event::NotRegistered { fault, said, retry },
-            );
-            return link;
+            served.tell(rt, &Event::NotRegistered { fault, said, retry });
+            None
         }
+    }
+}
+
+/// Dials once, and serves the connection to its end.
+fn dial<
+    R: Threads
+        + Wait
+        + Clock
+        + Net<Listener = TcpListener, Stream = TcpStream>
+        + Copy
+        + Send
+        + Drop
+        + 'static,
+>(rt: &R, alloc: Global, served: &Served<'_>, link: Link) -> Link {
+    let Some((stream, welcomed)) = come_in(rt, alloc, served) else {
+        return link;
     };
+    let connection = Connection::new(alloc, stream);
+    let shared = connection.and_then(|one| Ok((one.share()?, one)));
+    let Ok((theirs, connection)) = shared else {
+        served.tell(
+            rt,
+            &Event::ConnectionWithoutMemory {
+                retry: served.limits.retry.as_secs(),
+            },
+        );
+        return link;
+    };
+    let address = served.settings.address();
     let nick = nick_in(welcomed.lines.as_slice());
-    tell(rt, &served.who, &Event::Connected { address, nick });
-    rejoin(rt, alloc, served, &stream);
-    let (link, parting) = run(rt, alloc, served, &stream, welcomed, link);
-    tell_loss(rt, served, &parting);
+    served.tell(rt, &Event::Connected { address, nick });
+    rejoin(rt, alloc, served, connection.stream());
+    let (link, parting) = run(rt, alloc, served, &connection, theirs, welcomed, link);
+    match parting {
+        Some(parting) => tell_loss(rt, served, &parting),
+        None => served.tell(
+            rt,
+            &Event::NoWriter {
+                retry: served.limits.retry.as_secs(),
+            },
+        ),
+    }
     link
 }
 
@@ -241,7 +290,14 @@ fn dial<
 /// as often as the limits say, with the time between two dials. It is dialled once its hub has
 /// taken the loss of the last connection; what waited for that is dropped.
 pub fn stay_connected<
-    R: Threads + Wait + Clock + Eprint + Net<Listener = TcpListener, Stream = TcpStream> + Sync,
+    R: Threads
+        + Wait
+        + Clock
+        + Net<Listener = TcpListener, Stream = TcpStream>
+        + Copy
+        + Send
+        + Drop
+        + 'static,
 >(rt: &R, alloc: Global, shared: &Shared, at: usize, link: Link) {
     let Some(served) = shared.served(at) else {
         return;

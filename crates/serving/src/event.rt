@@ -3,7 +3,7 @@
 use crate::shown::{Held, Parting, Shown};
 use client_caps::Caps;
 use hub_core::AttachError;
-use std::net::SocketAddr;
+use std::net::{IpAddr, SocketAddr};
 use std::{fmt, io};
 use upstream::DialFault;
 
@@ -55,6 +55,11 @@ pub enum Event<'a> {
         /// Its capabilities.
         caps: Caps,
     },
+    /// A client holds other capabilities than before.
+    CapsChanged {
+        /// Those that it holds now.
+        caps: Caps,
+    },
     /// A client's password was wrong, or there is no such user or network.
     WrongPassword {
         /// Where it comes from.
@@ -94,6 +99,23 @@ pub enum Event<'a> {
         /// Why.
         cause: &'a str,
     },
+    /// Connections were refused, and not each was told.
+    Refused {
+        /// Where they came from; `None` for several addresses together.
+        from: Option<IpAddr>,
+        /// How many.
+        count: u64,
+    },
+    /// There was no memory for a connection to a network.
+    ConnectionWithoutMemory {
+        /// The seconds to the next dial.
+        retry: u64,
+    },
+    /// There was no thread to write to a network with, so its connection was given up.
+    NoWriter {
+        /// The seconds to the next dial.
+        retry: u64,
+    },
 }
 
 impl Event<'_> {
@@ -122,6 +144,14 @@ impl Event<'_> {
                     "connection lost: {cause}{said}; dials again in {retry} s"
                 )
             }
+            Event::ConnectionWithoutMemory { retry } => write!(
+                f,
+                "connection given up: out of memory; dials again in {retry} s"
+            ),
+            Event::NoWriter { retry } => write!(
+                f,
+                "connection given up: no thread to write with; dials again in {retry} s"
+            ),
             Event::PumpWithoutMemory => write!(f, "out of memory, tries again"),
             Event::PumpSpent => write!(f, "message numbers spent, takes no more"),
             _ => Ok(()),
@@ -135,6 +165,7 @@ impl fmt::Display for Event<'_> {
             Event::LoggedIn { peer, caps } => {
                 write!(f, "logged in from {peer}, {}", Held(*caps))
             }
+            Event::CapsChanged { caps } => write!(f, "changed its capabilities, {}", Held(*caps)),
             Event::WrongPassword { peer } => write!(f, "wrong password from {peer}"),
             Event::NoLogin { peer, cause } => write!(f, "no login from {peer}: {cause}"),
             Event::NotAttached(error) => write!(f, "not attached: {error}"),
@@ -152,6 +183,10 @@ impl fmt::Display for Event<'_> {
             Event::SessionWithoutMemory => write!(f, "out of memory or threads"),
             Event::CannotAccept(error) => write!(f, "cannot accept: {error}"),
             Event::TurnedAway { peer, cause } => write!(f, "turned {peer} away: {cause}"),
+            Event::Refused { from, count } => match from {
+                Some(from) => write!(f, "refused {count} more connections of {from}"),
+                None => write!(f, "refused {count} more connections of other addresses"),
+            },
             _ => self.write_of_network(f),
         }
     }

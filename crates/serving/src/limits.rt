@@ -11,9 +11,16 @@ pub struct Limits {
     pub accepts: u64,
     /// How many connections may wait for their login at once.
     pub logins: u64,
-    /// From a connection's first byte to the end of its login.
+    /// How many of these one address may have.
+    pub logins_of_address: u64,
+    /// Whether an address of the loopback range may have as many as there are: behind a TLS proxy
+    /// all clients come from there.
+    pub exempts_loopback: bool,
+    /// From a connection's beginning to the end of its login.
     pub login: Duration,
-    /// From a wrong password to its answer.
+    /// The same for a login that begins while half as many wait as may.
+    pub crowded_login: Duration,
+    /// From the line that completes a login to the answer to a wrong password.
     pub wrong_password: Duration,
     /// After a connection could not be accepted, or no thread be started for it.
     pub pause: Duration,
@@ -46,7 +53,10 @@ impl Limits {
         Limits {
             accepts: u64::MAX,
             logins: 256,
+            logins_of_address: 16,
+            exempts_loopback: true,
             login: Duration::from_secs(60),
+            crowded_login: Duration::from_secs(15),
             wrong_password: Duration::from_secs(1),
             pause: Duration::from_millis(100),
             write: Duration::from_secs(30),

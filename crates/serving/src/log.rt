@@ -1,15 +1,169 @@
-//! Lines on standard error, each begun with the time in UTC.
+//! The log: lines on standard error, each begun with the time in UTC. Who tells something waits for
+//! no write: a thread of its own writes the lines.
 
 use crate::clock::SystemClock;
 use crate::shown::Shown;
 use client_caps::time_text;
-use std::fmt;
+use std::alloc::{AllocError, Global};
+use std::collections::VecDeque;
+use std::io::Write;
 use std::rt::Clock;
+use std::sync::{Mutex, Wait};
+use std::thread::Parker;
+use std::{fmt, io};
 
-/// Writes `TIME WHO: WHAT` and LF, in one write where it has at most 1,024 bytes. A line that can't
-/// be written is lost, and no more.
-pub fn tell<R: Eprint + Clock, T: fmt::Display, U: fmt::Display>(rt: &R, who: &T, what: &U) {
-    let now = time_text(hub_threads::Clock::now(&SystemClock::of(rt)));
-    let now = Shown(&now);
-    let _ = eprintln!(rt; "{now} {who}: {what}");
+/// How many lines wait at most to be written.
+const LINES: usize = 1_024;
+
+/// A line, and how many were lost right before it.
+#[derive(Drop)]
+struct Told {
+    lost: u64,
+    // none where it only tells how many were lost
+    text: Option<String>,
+}
+
+/// What waits to be written.
+#[derive(Drop)]
+struct Waiting {
+    lines: VecDeque<Told>,
+    // how many were lost since the last line that waits
+    lost: u64,
+    is_over: bool,
+}
+
+/// What the thread that writes does next.
+#[derive(Drop)]
+enum Next {
+    Write(Told),
+    Sleep,
+    End,
+}
+
+/// The log of the service. At most 1,024 lines wait to be written. Those that come while so many
+/// wait are lost, and so is one that can't be written; the log then tells how many were lost.
+#[derive(Drop)]
+pub struct Log {
+    alloc: Global,
+    waiting: Mutex<Waiting>,
+    // wakes the thread that writes
+    writer: Parker,
+}
+
+/// What time it is, as it stands in the log.
+fn now<R: Clock>(rt: &R) -> [u8; 24] {
+    time_text(hub_threads::Clock::now(&SystemClock::of(rt)))
+}
+
+impl Waiting {
+    /// Puts a line behind those that wait, where there is room for it; else it is lost.
+    fn put(&mut self, text: Option<String>) {
+        let text = text.filter(|_| self.lines.len() < LINES);
+        if text.is_none() {
+            self.lost = self.lost.saturating_add(1);
+            return;
+        }
+        let lost = self.lost;
+        match self.lines.push_back(Told { lost, text }) {
+            Ok(()) => self.lost = 0,
+            Err(_) => self.lost = lost.saturating_add(1),
+        }
+    }
+
+    /// Takes the next line, or how many were lost behind the last.
+    fn next(&mut self) -> Next {
+        if let Some(told) = self.lines.pop_front() {
+            return Next::Write(told);
+        }
+        if self.lost > 0 {
+            let lost = self.lost;
+            self.lost = 0;
+            return Next::Write(Told { lost, text: None });
+        }
+        if self.is_over { Next::End } else { Next::Sleep }
+    }
+}
+
+impl Log {
+    /// A log in which nothing waits.
+    pub fn new(alloc: Global) -> Result<Log, AllocError> {
+        Ok(Log {
+            alloc,
+            waiting: Mutex::new(Waiting {
+                lines: VecDeque::with_capacity(alloc, LINES)?,
+                lost: 0,
+                is_over: false,
+            }),
+            writer: Parker::new(),
+        })
+    }
+
+    /// Tells something of somebody, in a line `TIME WHO: WHAT`. It waits for no write.
+    pub fn tell<R: Wait + Clock, T: fmt::Display, U: fmt::Display>(
+        &self,
+        rt: &R,
+        who: &T,
+        what: &U,
+    ) {
+        let now = now(rt);
+        let now = Shown(&now);
+        let text = format!(in self.alloc; "{now} {who}: {what}\n").ok();
+        self.waiting.lock(rt).put(text);
+        self.writer.unpark();
+    }
+
+    /// Has the thread that writes end once nothing waits.
+    pub fn end<R: Wait>(&self, rt: &R) {
+        self.waiting.lock(rt).is_over = true;
+        self.writer.unpark();
+    }
+
+    /// What the thread that writes does next. The lock is held for that step alone.
+    fn next<R: Wait>(&self, rt: &R) -> Next {
+        self.waiting.lock(rt).next()
+    }
+
+    /// Writes the lines to `out`, each in one write, until the log has ended and nothing waits. For
+    /// one thread at a time.
+    pub fn write_to<R: Wait + Clock, W: Write>(&self, rt: &R, out: &mut W) {
+        for _ in rt.forever() {
+            match self.next(rt) {
+                Next::Write(told) => write_told(rt, out, &told),
+                Next::Sleep => self.writer.park(rt),
+                Next::End => return,
+            }
+        }
+        unreachable!()
+    }
+}
+
+/// Writes a line, and before it how many were lost. What can't be written is lost, and no more.
+fn write_told<R: Clock, W: Write>(rt: &R, out: &mut W, told: &Told) {
+    if told.lost > 0 {
+        let now = now(rt);
+        let now = Shown(&now);
+        let lost = told.lost;
+        let _ = write!(out, "{now} bnc: {lost} lines of the log were lost\n");
+    }
+    if let Some(text) = &told.text {
+        let _ = out.write_all(text.as_str().as_bytes());
+    }
+}
+
+/// Standard error, as what the log is written to.
+#[derive(Clone, Copy)]
+pub(crate) struct StandardError<'a, R: Eprint>(pub(crate) &'a R);
+
+impl<R: Eprint> Write for StandardError<'_, R> {
+    fn write(&mut self, buf: &[u8]) -> io::Result<usize> {
+        match str::from_utf8(buf) {
+            Ok(text) => eprint!(self.0; "{text}")?,
+            Err(_) => return Err(io::Error::from(io::ErrorKind::InvalidData)),
+        }
+        Ok(buf.len())
+    }
+
+    fn flush(&mut self) -> io::Result<()> {
+        Ok(())
+    }
 }

@@ -1,23 +1,31 @@
 //! What all threads share.
 
+use crate::event::Event;
 use crate::limits::Limits;
 use crate::link::{Link, network_with_link};
+use crate::log::Log;
+use crate::refusals::Refusals;
+use crate::seats::Seats;
 use crate::shown::Who;
 use bnc_config::{Config, NetworkConfig, Place};
 use hub_threads::Network;
 use quick_view::QuickView;
 use std::alloc::{AllocError, Global};
-use std::sync::Arc;
+use std::rt::Clock;
+use std::sync::Wait;
 use std::sync::atomic::{AtomicU64, Ordering};
 
-/// What all threads share: the settings, the networks, and how many connections log in.
+/// What all threads share: the settings, the networks, the log, and the connections that log in.
 #[derive(Drop)]
 pub struct Shared {
     config: Config,
     limits: Limits,
+    log: Log,
     networks: Vec<(Place, Network<QuickView>)>,
-    // how many connections wait for their login
-    logins: AtomicU64,
+    // the connections that wait for their login
+    seats: Seats,
+    // what the log told of connections that were refused
+    refusals: Refusals,
     // how many networks are still dialled
     dialled: AtomicU64,
 }
@@ -33,17 +41,14 @@ pub struct Served<'a> {
     pub network: &'a Network<QuickView>,
     /// How long things may take.
     pub limits: Limits,
+    /// Where it is told what happens.
+    pub log: &'a Log,
 }
 
-/// The right to log in, of which there are so many at once. Dropping it gives it back.
-pub struct Seat {
-    shared: Arc<Shared>,
-}
-
-impl Drop for Seat {
-    fn drop(self) {
-        let Seat { shared } = self;
-        shared.logins.fetch_sub(1, Ordering::SeqCst);
+impl Served<'_> {
+    /// Tells something of this network.
+    pub fn tell<R: Wait + Clock>(&self, rt: &R, event: &Event) {
+        self.log.tell(rt, &self.who, event)
     }
 }
 
@@ -68,8 +73,10 @@ impl Shared {
         let shared = Shared {
             config,
             limits,
+            log: Log::new(alloc)?,
             networks,
-            logins: AtomicU64::new(0),
+            seats: Seats::new(alloc),
+            refusals: Refusals::new(alloc)?,
             dialled,
         };
         Ok((shared, links))
@@ -85,14 +92,29 @@ impl Shared {
         self.limits
     }
 
+    /// Where it is told what happens.
+    pub fn log(&self) -> &Log {
+        &self.log
+    }
+
     /// The networks, each with its place in the settings.
     pub fn networks(&self) -> &[(Place, Network<QuickView>)] {
         self.networks.as_slice()
     }
 
     /// How many connections wait for their login.
-    pub fn logins(&self) -> u64 {
-        self.logins.load(Ordering::SeqCst)
+    pub fn logins<R: Wait>(&self, rt: &R) -> u64 {
+        self.seats.count(rt)
+    }
+
+    /// The seats for logins.
+    pub(crate) fn seats(&self) -> &Seats {
+        &self.seats
+    }
+
+    /// What the log told of connections that were refused.
+    pub(crate) fn refusals(&self) -> &Refusals {
+        &self.refusals
     }
 
     /// The network at this place among the networks, from 0.
@@ -109,6 +131,7 @@ impl Shared {
             settings,
             network,
             limits: self.limits,
+            log: &self.log,
         })
     }
 
@@ -121,19 +144,4 @@ impl Shared {
     pub(crate) fn is_over(&self) -> bool {
         self.dialled.load(Ordering::SeqCst) == 0
     }
-}
-
-/// A seat, or `None` where as many as may log in at once do so.
-pub fn take_seat(shared: &Arc<Shared>) -> Option<Seat> {
-    let most = shared.limits.logins;
-    let shared = Arc::try_clone(shared).ok()?;
-    let taken = shared
-        .logins
-        .fetch_update(Ordering::SeqCst, Ordering::SeqCst, move |taken| {
-            if taken < most { Some(taken + 1) } else { None }
-        });
-    if taken.is_err() {
-        return None;
-    }
-    Some(Seat { shared })
 }

@@ -2,7 +2,7 @@
 
 use std::io;
 use std::io::{ErrorKind, Read};
-use std::net::OpenStream;
+use std::net::TcpStream;
 use std::rt::Clock;
 use std::time::{Duration, Instant};
 
@@ -51,19 +51,19 @@ impl<I: Read + Drop, S: OnSilence + Drop> Read for Patient<I, S> {
 }
 
 /// A reader over a connection that fails from a moment on. It sets the connection's limit to a
-/// read, which all handles of the connection share.
+/// read, which holds of the connection in every hand.
 #[derive(Drop)]
-pub struct Until<I: Read + OpenStream + Drop, C: Clock + Drop> {
-    input: I,
-    clock: C,
+pub struct Until<'a, C: Clock> {
+    input: &'a TcpStream,
+    clock: &'a C,
     start: Instant,
     limit: Duration,
 }
 
-impl<I: Read + OpenStream + Drop, C: Clock + Drop> Until<I, C> {
+impl<'a, C: Clock> Until<'a, C> {
     /// A reader that fails once this time is over, from now on.
-    pub fn start(input: I, clock: C, limit: Duration) -> io::Result<Until<I, C>> {
-        let start = Instant::now(&clock)?;
+    pub fn start(input: &'a TcpStream, clock: &'a C, limit: Duration) -> io::Result<Until<'a, C>> {
+        let start = Instant::now(clock)?;
         Ok(Until {
             input,
             clock,
@@ -73,9 +73,9 @@ impl<I: Read + OpenStream + Drop, C: Clock + Drop> Until<I, C> {
     }
 }
 
-impl<I: Read + OpenStream + Drop, C: Clock + Drop> Read for Until<I, C> {
+impl<C: Clock> Read for Until<'_, C> {
     fn read(&mut self, buf: &mut [u8]) -> io::Result<usize> {
-        let left = self.limit.saturating_sub(self.start.elapsed(&self.clock)?);
+        let left = self.limit.saturating_sub(self.start.elapsed(self.clock)?);
         if left.is_zero() {
             return Err(io::Error::from(ErrorKind::TimedOut));
         }
