@@ -1,14 +1,17 @@
 //! What a client that comes is told of the network, by both views.
 
+ghost use Rattle.std.specs.List.{AllByRecursion};
+ghost use Rattle.history.specs.Entry.{IsWrittenEntry};
+
 use crate::clients::asked;
-use crate::playback::history_of;
+use crate::said::SaidLines;
 use crate::views::{Rows, check_after};
 use history::Entry;
 use net_view::NetworkView;
 use std::alloc::Global;
 use std::process::Abort;
 use std::test::Fail;
-use welcome::burst;
+use welcome::{burst, burst_from, state_part};
 
 /// A welcome, our JOIN, and what the network says of the channel and of one person.
 const TOLD: [&[u8]; 10] = [
@@ -30,10 +33,17 @@ fn told<V: NetworkView>(
     view: &V,
     names: &[u8],
     missed: &[&Entry],
-) -> Result<Vec<u8>, Fail> {
+) -> Result<Vec<u8>, Fail>
+    requires { AllByRecursion (λ entry. IsWrittenEntry entry.now) missed.now }
+{
     let caps = asked(names)?;
     if view.ready() {
         let packet = burst(alloc, view, caps, missed)?;
+        let state = state_part(alloc, view, caps)?;
+        let over = burst_from(alloc, &state, view, caps, missed)?;
+        if over.bytes() != packet.bytes() || over.line_count() != packet.line_count() {
+            return Ok(Vec::from_slice(alloc, b"another burst over the state part")?);
+        }
         Ok(Vec::from_slice(alloc, packet.bytes())?)
     } else {
         Ok(Vec::from_slice(alloc, b"not ready")?)
@@ -43,14 +53,15 @@ fn told<V: NetworkView>(
 /// Messages that were missed; capabilities, and what is told.
 #[derive(Clone, Copy)]
 struct Arrivals<'a> {
-    missed: &'a [&'a Entry],
+    said: &'a SaidLines,
     rows: &'a [(&'a [u8], &'a [u8])],
 }
 
 impl Rows for Arrivals<'_> {
     fn check<R: AllocGlobal + Abort, V: NetworkView>(&self, rt: &R, view: &V) -> Result<(), Fail> {
+        let missed = self.said.missed(rt.alloc(), None)?;
         for (names, wanted) in self.rows {
-            let text = told(rt.alloc(), view, names, self.missed)?;
+            let text = told(rt.alloc(), view, names, &missed)?;
             assert!(rt; text.as_slice() == *wanted);
         }
         Ok(())
@@ -64,12 +75,8 @@ fn check_told<R: AllocGlobal + Abort>(
     said: &[&[u8]],
     rows: &[(&[u8], &[u8])],
 ) -> Result<(), Fail> {
-    let history = history_of(rt.alloc(), said)?;
-    let missed = history.missed(rt.alloc(), None)?;
-    let arrivals = Arrivals {
-        missed: &missed,
-        rows,
-    };
+    let said = SaidLines::of(rt.alloc(), said)?;
+    let arrivals = Arrivals { said: &said, rows };
     check_after(rt, texts, &arrivals)
 }
 

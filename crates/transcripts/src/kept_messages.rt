@@ -2,7 +2,7 @@
 
 use crate::lines::line;
 use client_caps::{Moment, time_text};
-use history::{AdmitError, CapacityError, Entry, History, Marks, PushError, Spent, is_message};
+use history::{AdmitError, CapacityError, Entry, History, Marks, PushError, is_message};
 use std::alloc::Global;
 use std::process::Abort;
 use std::test::Fail;
@@ -14,7 +14,7 @@ fn entry_of(alloc: Global, text: &[u8]) -> Result<Option<Entry>, Fail> {
 }
 
 /// Adds the message of a line.
-fn add(alloc: Global, history: &mut History, text: &[u8]) -> Result<Result<u64, Spent>, Fail> {
+fn add(alloc: Global, history: &mut History, text: &[u8]) -> Result<Result<u64, PushError>, Fail> {
     let entry = entry_of(alloc, text)?.ok_or("a message")?;
     Ok(history.add(entry))
 }
@@ -51,7 +51,7 @@ fn gets_the_last_number(alloc: Global, history: &mut History, text: &[u8]) -> Re
 
 /// Whether there is no number for the message of a line.
 fn gets_no_number(alloc: Global, history: &mut History, text: &[u8]) -> Result<bool, Fail> {
-    Ok(matches!(add(alloc, history, text)?, Err(Spent)))
+    Ok(matches!(add(alloc, history, text)?, Err(PushError::Spent)))
 }
 
 /// Whether one message is kept, with the greatest number there is.

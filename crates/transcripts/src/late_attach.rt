@@ -1,6 +1,7 @@
 //! Late attach from both sides: what a client reads from all the lines that it was sent, beside
 //! what the whole transcript says, less what a client without a capability can't know.
 
+mod changes;
 mod inspircd;
 mod known;
 mod ngircd;

@@ -11,6 +11,8 @@ mod clients;
 #[cfg(test)]
 mod kept_messages;
 #[cfg(test)]
+mod kept_targets;
+#[cfg(test)]
 mod late_attach;
 #[cfg(test)]
 mod lines;
@@ -28,6 +30,8 @@ mod quick;
 mod read_back;
 #[cfg(test)]
 mod reports;
+#[cfg(test)]
+mod said;
 #[cfg(test)]
 mod settings;
 #[cfg(test)]

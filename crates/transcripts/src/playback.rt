@@ -1,28 +1,18 @@
 //! The messages that a client missed, as it is sent them.
 
+ghost use Rattle.std.specs.List.{AllByRecursion};
+ghost use Rattle.history.specs.Entry.{IsWrittenEntry};
+
 use crate::clients::asked;
-use crate::lines::line;
+use crate::said::SaidLines;
 use crate::views::{Rows, check_after};
-use client_caps::{Caps, Moment, time_text};
-use history::{Entry, History};
+use client_caps::Caps;
+use history::Entry;
 use net_view::NetworkView;
 use std::alloc::Global;
 use std::process::Abort;
 use std::test::Fail;
 use welcome::playback;
-
-/// A history of the messages of these lines; they come second by second.
-pub(crate) fn history_of(alloc: Global, rows: &[&[u8]]) -> Result<History, Fail> {
-    let mut history = History::new(alloc, 500, 1)?;
-    let mut moment = Moment(0);
-    for text in rows {
-        moment = Moment(moment.0.saturating_add(1000));
-        let time = time_text(moment);
-        let entry = Entry::of_message(alloc, &time, &line(alloc, text)?)?;
-        let _number = history.add(entry.ok_or("a message")?);
-    }
-    Ok(history)
-}
 
 /// What a client with these capabilities is played of these messages.
 fn played<V: NetworkView>(
@@ -30,7 +20,9 @@ fn played<V: NetworkView>(
     view: &V,
     caps: Caps,
     missed: &[&Entry],
-) -> Result<Vec<u8>, Fail> {
+) -> Result<Vec<u8>, Fail>
+    requires { AllByRecursion (λ entry. IsWrittenEntry entry.now) missed.now }
+{
     let packet = playback(alloc, view, caps, missed)?;
     Ok(Vec::from_slice(alloc, packet.bytes())?)
 }
@@ -38,14 +30,16 @@ fn played<V: NetworkView>(
 /// Messages that were missed; capabilities, and what is played.
 #[derive(Clone, Copy)]
 struct Playbacks<'a> {
-    missed: &'a [&'a Entry],
+    said: &'a SaidLines,
+    mark: Option<u64>,
     rows: &'a [(&'a [u8], &'a [u8])],
 }
 
 impl Rows for Playbacks<'_> {
     fn check<R: AllocGlobal + Abort, V: NetworkView>(&self, rt: &R, view: &V) -> Result<(), Fail> {
+        let missed = self.said.missed(rt.alloc(), self.mark)?;
         for (names, wanted) in self.rows {
-            let text = played(rt.alloc(), view, asked(names)?, self.missed)?;
+            let text = played(rt.alloc(), view, asked(names)?, &missed)?;
             assert!(rt; text.as_slice() == *wanted);
         }
         Ok(())
@@ -60,10 +54,10 @@ fn check_played<R: AllocGlobal + Abort>(
     mark: Option<u64>,
     rows: &[(&[u8], &[u8])],
 ) -> Result<(), Fail> {
-    let history = history_of(rt.alloc(), said)?;
-    let missed = history.missed(rt.alloc(), mark)?;
+    let said = SaidLines::of(rt.alloc(), said)?;
     let playbacks = Playbacks {
-        missed: &missed,
+        said: &said,
+        mark,
         rows,
     };
     check_after(rt, texts, &playbacks)
@@ -209,5 +203,18 @@ fn messages_above_a_mark(rt: HostRuntime) -> Result<(), Fail> {
         &MESSAGES_ABOVE_A_MARK_TEXTS,
         Some(1),
         &MESSAGES_ABOVE_A_MARK,
+    )
+}
+
+/// Who missed nothing is played nothing.
+#[test]
+fn no_message_was_missed(rt: HostRuntime) -> Result<(), Fail> {
+    let nothing: [(&[u8], &[u8]); 2] = [(b"", b""), (b"batch server-time", b"")];
+    check_played(
+        &rt,
+        &[b":s 001 Me :hi", b":Me!m@h JOIN #c"],
+        &[],
+        None,
+        &nothing,
     )
 }

@@ -48,8 +48,13 @@ fn tokens_after(alloc: Global, texts: &[&[u8]]) -> Result<Vec<u8>, Fail> {
     Ok(tokens)
 }
 
-const TOKENS_IN_ORDER: [(&[u8], &[u8]); 6] = [
+const TOKENS_IN_ORDER: [(&[u8], &[u8]); 8] = [
     (b":s 005 Me A=1 B -A A=2 C= =x :text", b"B A=2 C= "),
+    (
+        b":s 005 Me A B=1 -A C A=3 -A A=4 D A=5 -C :text",
+        b"B=1 A=5 D ",
+    ),
+    (b":s 005 Me A -B B -A A -A -C B=2 :text", b"B=2 "),
     (
         b":s 005 Me A=1 B A=y=z - NAMESX a :are supported",
         b"A=y=z B NAMESX a ",

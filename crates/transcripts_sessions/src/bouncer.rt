@@ -3,7 +3,7 @@
 use crate::peer::Peer;
 use bnc_config::Config;
 use keep::Watch;
-use serving::{Limits, Shared, accept, start_networks};
+use serving::{Limits, Shared, accept, start_log, start_networks};
 use std::alloc::Global;
 use std::net::{Net, SocketAddr, TcpListener, TcpStream};
 use std::rt::Clock;
@@ -23,6 +23,7 @@ pub struct Bouncer {
     /// What its threads share.
     pub shared: Arc<Shared>,
     threads: Vec<JoinHandle<()>>,
+    log: JoinHandle<()>,
 }
 
 /// Limits for tests: so many clients, and so many dials.
@@ -30,7 +31,10 @@ pub fn limits(accepts: u64, dials: u64) -> Limits {
     Limits {
         accepts,
         logins: 8,
+        logins_of_address: 4,
+        exempts_loopback: true,
         login: Duration::from_secs(10),
+        crowded_login: Duration::from_secs(10),
         wrong_password: Duration::from_millis(1),
         pause: Duration::from_millis(1),
         write: Duration::from_secs(10),
@@ -126,21 +130,30 @@ pub fn start<
     let network = TcpListener::bind(&rt, "127.0.0.1:0")?;
     let (shared, mut threads) = serve_network(rt, alloc, limits, network.local_addr()?)?;
     let address = serve_clients(rt, alloc, &shared, &mut threads)?;
+    let log = start_log(rt, &shared)?;
     Ok(Bouncer {
         network,
         address,
         shared,
         threads,
+        log,
     })
 }
 
 impl Bouncer {
     /// Waits until it has done all that it was to do.
-    pub fn join<R: Threads>(self, rt: &R) {
-        let Bouncer { threads, .. } = self;
+    pub fn join<R: Threads + Wait>(self, rt: &R) {
+        let Bouncer {
+            shared,
+            threads,
+            log,
+            ..
+        } = self;
         for thread in threads {
             thread.join(rt);
         }
+        shared.log().end(rt);
+        log.join(rt);
     }
 
     /// Takes the next connection of the bouncer, and takes part in its registration up to the

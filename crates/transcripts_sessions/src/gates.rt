@@ -57,6 +57,11 @@ impl Door {
         comes_to_be(rt, &self.reached)
     }
 
+    /// Whether the writer may go on.
+    pub(crate) fn is_open(&self) -> bool {
+        self.opened.load(Ordering::SeqCst)
+    }
+
     /// Whether a writer went on without being let.
     pub(crate) fn was_forced(&self) -> bool {
         self.given_up.load(Ordering::SeqCst)
@@ -104,7 +109,8 @@ impl Gate for Steps {
     }
 }
 
-/// A clock that goes on by 1 ms each time it is looked at.
+/// A clock that goes on by 1 ms each time it is looked at for how long something takes. Its moment
+/// stands still.
 #[derive(Drop)]
 pub(crate) struct Stepping(AtomicU64);
 
@@ -121,7 +127,32 @@ impl Stepping {
 
 impl Clock for Stepping {
     fn now(&self) -> Moment {
-        Moment(self.0.fetch_add(1, Ordering::SeqCst))
+        Moment(0)
+    }
+
+    fn ticks(&self) -> u64 {
+        self.0.fetch_add(1, Ordering::SeqCst)
+    }
+}
+
+/// A clock that goes on by 1 ms each twentieth time it is looked at for how long something takes: a
+/// pump is patient for a second with it, on a busy machine too.
+#[derive(Drop)]
+pub(crate) struct Dragging(AtomicU64);
+
+impl Dragging {
+    pub(crate) fn new() -> Dragging {
+        Dragging(AtomicU64::new(0))
+    }
+}
+
+impl Clock for Dragging {
+    fn now(&self) -> Moment {
+        Moment(0)
+    }
+
+    fn ticks(&self) -> u64 {
+        self.0.fetch_add(1, Ordering::SeqCst) / 20
     }
 }
 
@@ -132,5 +163,9 @@ pub(crate) struct Still;
 impl Clock for Still {
     fn now(&self) -> Moment {
         Moment(0)
+    }
+
+    fn ticks(&self) -> u64 {
+        0
     }
 }

@@ -5,6 +5,7 @@ mod events;
 mod garden;
 mod replies;
 mod scripts;
+mod state_parts;
 
 use crate::hub_rows::events::WELCOME;
 use crate::hub_rows::replies::{push_count, push_line};
@@ -207,7 +208,7 @@ const LINES_THAT_ARE_ANSWERED: [&[u8]; 8] = [
     b"detach 99",
 ];
 
-const LINES_THAT_ARE_ANSWERED_TOLD: [&[u8]; 11] = [
+const LINES_THAT_ARE_ANSWERED_TOLD: [&[u8]; 13] = [
     b"session 0",
     b"answered",
     b"answered",
@@ -216,8 +217,10 @@ const LINES_THAT_ARE_ANSWERED_TOLD: [&[u8]; 11] = [
     b"answered",
     b"quit",
     b"no session",
-    b":bnc CAP Me NAK batch",
-    b":bnc CAP Me LIST :",
+    b":bnc CAP Me ACK batch",
+    b":bnc 353 Me = #c Me",
+    b":bnc 366 Me #c :End of NAMES list",
+    b":bnc CAP Me LIST batch",
     b":bnc PONG bnc a",
 ];
 
@@ -229,6 +232,120 @@ fn lines_that_are_answered(rt: HostRuntime) -> Result<(), Fail> {
         Story { of: 0, ..STORY },
         &LINES_THAT_ARE_ANSWERED,
         &LINES_THAT_ARE_ANSWERED_TOLD,
+    )
+}
+
+const CAPABILITIES_THAT_CHANGE: [&[u8]; 9] = [
+    b"up :s 353 Me = #c :Me @+bob",
+    b"up :bob!b@h ACCOUNT bobacc",
+    b"attach - - 8",
+    b"said 0 CAP REQ :multi-prefix account-notify extended-join",
+    b"said 0 CAP REQ -multi-prefix",
+    b"said 0 CAP REQ -multi-prefix",
+    b"said 0 CAP REQ sasl",
+    b"up :s MODE #c -o bob",
+    b"said 0 CAP REQ -multi-prefix",
+];
+
+const CAPABILITIES_THAT_CHANGE_TOLD: [&[u8]; 20] = [
+    b"session 0",
+    b"answered",
+    b"answered",
+    b"answered",
+    b"answered",
+    b"answered",
+    b":bnc CAP Me ACK :multi-prefix account-notify extended-join",
+    b":bnc 353 Me = #c :@+bob Me",
+    b":bnc 366 Me #c :End of NAMES list",
+    b":bob ACCOUNT bobacc",
+    b":Me ACCOUNT *",
+    b":bnc CAP Me ACK -multi-prefix",
+    b":bnc 353 Me = #c :@bob Me",
+    b":bnc 366 Me #c :End of NAMES list",
+    b":bob ACCOUNT bobacc",
+    b":Me ACCOUNT *",
+    b":bnc CAP Me ACK -multi-prefix",
+    b":bnc CAP Me NAK sasl",
+    b":s MODE #c -o bob",
+    b":bnc CAP Me ACK -multi-prefix",
+];
+
+/// Capabilities that change are followed by a catch-up, those that stay by none.
+#[test]
+fn capabilities_that_change(rt: HostRuntime) -> Result<(), Fail> {
+    check(
+        &rt,
+        Story { of: 0, ..STORY },
+        &CAPABILITIES_THAT_CHANGE,
+        &CAPABILITIES_THAT_CHANGE_TOLD,
+    )
+}
+
+const AN_ACCOUNT_THAT_WENT_UNSEEN: [&[u8]; 7] = [
+    b"up :s 353 Me = #c :Me @+bob",
+    b"up :bob!b@h ACCOUNT bobacc",
+    b"attach - - 8",
+    b"said 0 CAP REQ :multi-prefix account-notify extended-join",
+    b"said 0 CAP REQ -account-notify",
+    b"up :bob!b@h ACCOUNT *",
+    b"said 0 CAP REQ account-notify",
+];
+
+const AN_ACCOUNT_THAT_WENT_UNSEEN_TOLD: [&[u8]; 17] = [
+    b"session 0",
+    b"answered",
+    b"answered",
+    b"answered",
+    b":bnc CAP Me ACK :multi-prefix account-notify extended-join",
+    b":bnc 353 Me = #c :@+bob Me",
+    b":bnc 366 Me #c :End of NAMES list",
+    b":bob ACCOUNT bobacc",
+    b":Me ACCOUNT *",
+    b":bnc CAP Me ACK -account-notify",
+    b":bnc 353 Me = #c :@+bob Me",
+    b":bnc 366 Me #c :End of NAMES list",
+    b":bnc CAP Me ACK account-notify",
+    b":bnc 353 Me = #c :@+bob Me",
+    b":bnc 366 Me #c :End of NAMES list",
+    b":bob ACCOUNT *",
+    b":Me ACCOUNT *",
+];
+
+/// A client that did not hear of a logout is told of it when it asks for accounts again.
+#[test]
+fn an_account_that_went_unseen(rt: HostRuntime) -> Result<(), Fail> {
+    check(
+        &rt,
+        Story { of: 0, ..STORY },
+        &AN_ACCOUNT_THAT_WENT_UNSEEN,
+        &AN_ACCOUNT_THAT_WENT_UNSEEN_TOLD,
+    )
+}
+
+const REQUESTS_WITHOUT_TAGS: [&[u8]; 3] = [
+    b"attach server-time - 8",
+    b"said 0 CAP REQ",
+    b"said 0 CAP REQ batch",
+];
+
+const REQUESTS_WITHOUT_TAGS_TOLD: [&[u8]; 7] = [
+    b"session 0",
+    b"answered",
+    b"answered",
+    b":bnc CAP Me ACK :",
+    b":bnc CAP Me ACK batch",
+    b":bnc 353 Me = #c Me",
+    b":bnc 366 Me #c :End of NAMES list",
+];
+
+/// A request of no name is granted, and neither ACK nor catch-up has a tag.
+#[test]
+fn requests_without_tags(rt: HostRuntime) -> Result<(), Fail> {
+    check(
+        &rt,
+        Story { of: 0, ..STORY },
+        &REQUESTS_WITHOUT_TAGS,
+        &REQUESTS_WITHOUT_TAGS_TOLD,
     )
 }
 

@@ -24,6 +24,8 @@ mod hub_rows;
 #[cfg(test)]
 mod log_lines;
 #[cfg(test)]
+mod log_writing;
+#[cfg(test)]
 mod login;
 #[cfg(test)]
 mod pasting;
@@ -46,6 +48,12 @@ mod served;
 #[cfg(test)]
 mod session;
 #[cfg(test)]
+mod slow;
+#[cfg(test)]
+mod slow_streams;
+#[cfg(test)]
 mod stage;
+#[cfg(test)]
+mod strangers;
 #[cfg(test)]
 mod streams;

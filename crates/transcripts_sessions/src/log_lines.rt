@@ -40,6 +40,10 @@ fn what_the_log_tells(rt: HostRuntime) -> Result<(), Fail> {
             "logged in from 127.0.0.1:5000, multi-prefix batch",
         ),
         (
+            Event::CapsChanged { caps },
+            "changed its capabilities, multi-prefix batch",
+        ),
+        (
             Event::WrongPassword { peer },
             "wrong password from 127.0.0.1:5000",
         ),

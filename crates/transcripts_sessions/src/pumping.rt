@@ -17,6 +17,7 @@ use std::alloc::Global;
 use std::process::Abort;
 use std::sync::Wait;
 use std::test::Fail;
+use std::time::{Duration, Instant};
 
 /// Pumps so often, with a clock that stands still and a gate that holds nobody.
 fn pump<V: NetworkView + Drop, R: Wait>(
@@ -25,7 +26,7 @@ fn pump<V: NetworkView + Drop, R: Wait>(
     network: &Network<V>,
     turns: u64,
 ) -> PumpEnd {
-    pump_loop(rt, alloc, network, &FreeGate, &Still, turns)
+    pump_loop(rt, alloc, network, &FreeGate, &Still, turns, 0)
 }
 
 /// Each item is sent to each session, and the turns go on while nothing comes.
@@ -161,10 +162,10 @@ fn time_is_given_once<V: NetworkView + Drop, R: AllocGlobal + Wait + Abort>(
     // behind these it has room for two packets of twelve
     put_messages(rt.alloc(), stage, 9)?;
     let clock = Stepping::new();
-    let ended = pump_loop(rt, rt.alloc(), &stage.network, &FreeGate, &clock, 9);
+    let ended = pump_loop(rt, rt.alloc(), &stage.network, &FreeGate, &clock, 9, 0);
     assert!(rt; ended == PumpEnd::Turns && clock.looks() == 0);
     put_messages(rt.alloc(), stage, 3)?;
-    let ended = pump_loop(rt, rt.alloc(), &stage.network, &FreeGate, &clock, 3);
+    let ended = pump_loop(rt, rt.alloc(), &stage.network, &FreeGate, &clock, 3, 0);
     assert!(rt; ended == PumpEnd::Turns && clock.looks() == 51);
     Ok(())
 }
@@ -283,9 +284,31 @@ fn refused_on_and_on<V: NetworkView + Drop, R: AllocGlobal + Wait + Abort>(
     let (_, mut end) = attach(rt, rt.alloc(), &stage.network, b"", 8)?;
     put(rt.alloc(), &mut stage.end, &TOPIC)?;
     let gate = Steps::new();
-    let ended = pump_loop(rt, rt.alloc(), &stage.network, &gate, &Still, 5_000);
+    let ended = pump_loop(rt, rt.alloc(), &stage.network, &gate, &Still, 5_000, 0);
     assert!(rt; ended == PumpEnd::Memory && gate.count() == 1_000);
     the_topic_is_sent_late(rt, &stage.network, &mut end, 2)
+}
+
+/// A view that is refused memory on and on: the pump rests after each refusal, here for 1 ms, and
+/// ends after 1,000.
+#[test]
+fn a_pump_rests_after_each_refusal(rt: HostRuntime) -> Result<(), Fail> {
+    let mut stage = refusing(rt.alloc(), u64::MAX)?;
+    put_and_pump(&rt, &mut stage, &JOINED, 4)?;
+    put(rt.alloc(), &mut stage.end, &TOPIC)?;
+    let began = Instant::now(&rt)?;
+    let ended = pump_loop(
+        &rt,
+        rt.alloc(),
+        &stage.network,
+        &FreeGate,
+        &Still,
+        u64::MAX,
+        1,
+    );
+    assert!(rt; ended == PumpEnd::Memory);
+    assert!(rt; began.elapsed(&rt)? >= Duration::from_millis(900));
+    Ok(())
 }
 
 /// The pump ends at the first message for which there is no number.
@@ -301,7 +324,7 @@ pub(crate) fn no_number_is_left<V: NetworkView + Drop, R: AllocGlobal + Wait + A
 ) -> Result<(), Fail> {
     put_messages(rt.alloc(), stage, 2)?;
     let gate = Steps::new();
-    let ended = pump_loop(rt, rt.alloc(), &stage.network, &gate, &Still, 5_000);
+    let ended = pump_loop(rt, rt.alloc(), &stage.network, &gate, &Still, 5_000, 0);
     assert!(rt; ended == PumpEnd::Spent && gate.count() == 2);
     assert!(rt; pump(rt, rt.alloc(), &stage.network, 9) == PumpEnd::Spent);
     Ok(())

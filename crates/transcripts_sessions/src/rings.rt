@@ -161,7 +161,7 @@ fn pump<R: Threads + Wait + Send + Copy + 'static>(
 
 /// Pumps without an end to its turns.
 fn pumped<V: NetworkView + Drop, R: Wait>(rt: &R, alloc: Global, network: &Network<V>) -> PumpEnd {
-    pump_loop(rt, alloc, network, &FreeGate, &Still, u64::MAX)
+    pump_loop(rt, alloc, network, &FreeGate, &Still, u64::MAX, 0)
 }
 
 /// Whether the network has told of a channel.

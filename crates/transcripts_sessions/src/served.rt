@@ -1,16 +1,18 @@
 //! Clients over streams in memory, from the login to the end of the session.
 
 use crate::gates::Still;
+use crate::slow_streams::{Gone, flag};
 use crate::stage::{Stage, stage_after};
 use bnc_config::{Config, Place};
+use client_caps::Caps;
 use hub_threads::{FreeGate, Network, OutletEnd};
 use quick_view::QuickView;
-use sessions::{Served, serve_session};
+use sessions::{Ending, LoggedIn, Served, Watcher, log_in, serve, serve_session};
 use std::alloc::Global;
-use std::io;
-use std::io::{ErrorKind, Write};
+use std::io::Write;
 use std::process::Abort;
 use std::sync::Wait;
+use std::sync::atomic::{AtomicU64, Ordering};
 use std::test::Fail;
 use std::thread::Threads;
 
@@ -198,24 +200,11 @@ fn a_network_that_is_not_ready(rt: HostRuntime) -> Result<(), Fail> {
     )
 }
 
-/// A writer that takes nothing.
-#[derive(Drop)]
-struct Gone;
-
-impl Write for Gone {
-    fn write(&mut self, _buf: &[u8]) -> io::Result<usize> {
-        Err(io::Error::from(ErrorKind::BrokenPipe))
-    }
-
-    fn flush(&mut self) -> io::Result<()> {
-        Ok(())
-    }
-}
-
-/// Serves a client that says this and takes nothing; whether its session was cut.
-fn is_cut<R: Threads + Wait + Send + Copy + 'static>(
+/// Serves a client that says this, over this writer; whether its session was cut.
+pub(crate) fn is_cut<W: Write + Send + Drop + 'static, R: Threads + Wait + Send + Copy + 'static>(
     rt: R,
     alloc: Global,
+    out: W,
     mut said: &[u8],
 ) -> Result<bool, Fail> {
     let config = Config::read(alloc, SETTINGS.as_bytes())?;
@@ -226,7 +215,7 @@ fn is_cut<R: Threads + Wait + Send + Copy + 'static>(
     };
     let networks = [(place, network)];
     let served = serve_session(
-        rt, alloc, &mut said, Gone, &config, &networks, &FreeGate, &Still,
+        rt, alloc, &mut said, out, &config, &networks, &FreeGate, &Still,
     )?;
     match served {
         Served::Cut => Ok(true),
@@ -235,7 +224,7 @@ fn is_cut<R: Threads + Wait + Send + Copy + 'static>(
 }
 
 /// A login, and behind it more questions than wait for a client and than its writer takes at once.
-fn many_questions(alloc: Global) -> Result<Vec<u8>, Fail> {
+pub(crate) fn many_questions(alloc: Global) -> Result<Vec<u8>, Fail> {
     let mut said = Vec::from_slice(alloc, LOGIN.as_bytes())?;
     for _ in 0..1_000 {
         said.extend_from_slice(b"PING x\r\n")?;
@@ -246,7 +235,67 @@ fn many_questions(alloc: Global) -> Result<Vec<u8>, Fail> {
 
 #[test]
 fn a_session_that_takes_nothing_is_cut(rt: HostRuntime) -> Result<(), Fail> {
+    let out = Gone {
+        dropped: flag(rt.alloc())?,
+    };
     let said = many_questions(rt.alloc())?;
-    assert!(rt; is_cut(rt, rt.alloc(), said.as_slice())?);
+    assert!(rt; is_cut(rt, rt.alloc(), out, said.as_slice())?);
+    Ok(())
+}
+
+/// Counts how often capabilities change.
+#[derive(Drop)]
+struct Changes {
+    count: AtomicU64,
+}
+
+impl Watcher for Changes {
+    fn caps_changed(&self, caps: Caps) {
+        if caps.batch {
+            self.count.fetch_add(1, Ordering::SeqCst);
+        }
+    }
+}
+
+/// Serves a client of ann's that says this, told to a watcher; what it was sent in its session.
+fn watched_text<R: Threads + Wait + Send + Copy + 'static>(
+    rt: R,
+    alloc: Global,
+    said: &str,
+    changes: &Changes,
+) -> Result<Vec<u8>, Fail> {
+    let (network, _sent) = network_of(&rt, alloc, &HEARD)?;
+    let text = format!(in alloc; "{LOGIN}{said}")?;
+    let mut input = text.as_str().as_bytes();
+    let mut out: Vec<u8> = Vec::new(alloc);
+    let Ok(LoggedIn { ending, unread }) = log_in(alloc, &mut input, &mut out) else {
+        return Err("it logs in".into());
+    };
+    let Ending::Claims(claim) = ending else {
+        return Err("it claims".into());
+    };
+    match serve(
+        rt, alloc, &mut input, out, &claim, unread, &network, &FreeGate, &Still, changes,
+    ) {
+        Ok((_, ended)) => Ok(ended.out),
+        Err(_) => Err("it is served".into()),
+    }
+}
+
+/// A change of capabilities is told once; a request that changes nothing, or is refused, is not.
+#[test]
+fn capabilities_that_change_are_told(rt: HostRuntime) -> Result<(), Fail> {
+    let said = "CAP REQ batch\r\nCAP REQ batch\r\nCAP REQ sasl\r\nCAP LIST\r\nQUIT\r\n";
+    let changes = Changes {
+        count: AtomicU64::new(0),
+    };
+    let found = watched_text(rt, rt.alloc(), said, &changes)?;
+    let want = format!(in rt.alloc();
+        "{BURST}:bnc CAP Me ACK batch\r\n\
+        :bnc 353 Me = #c :@bob +eve Me\r\n:bnc 366 Me #c :End of NAMES list\r\n\
+        :bnc CAP Me ACK batch\r\n:bnc CAP Me NAK sasl\r\n:bnc CAP Me LIST batch\r\n"
+    )?;
+    assert!(&rt; found.as_slice() == want.as_str().as_bytes());
+    assert!(&rt; changes.count.load(Ordering::SeqCst) == 1);
     Ok(())
 }

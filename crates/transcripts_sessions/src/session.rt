@@ -27,7 +27,7 @@ fn take_all<R: Wait + Clock>(
     alloc: Global,
     network: &Network<QuickView>,
 ) -> Result<(), Fail> {
-    match pump_loop(rt, alloc, network, &FreeGate, &SystemClock::of(rt), 8) {
+    match pump_loop(rt, alloc, network, &FreeGate, &SystemClock::of(rt), 8, 0) {
         PumpEnd::Turns => Ok(()),
         PumpEnd::Memory | PumpEnd::Spent => Err("the pump ended".into()),
     }

@@ -9,6 +9,7 @@ use client_caps::{Caps, Moment};
 use hub_core::Setup;
 use hub_ends::MemoryOutlet;
 use hub_runs::{Event, Run, run};
+use irc_line::Line;
 use net_view::{Item, NetworkView};
 use quick_view::QuickView;
 use std::alloc::{AllocError, Global};
@@ -22,16 +23,41 @@ fn up(alloc: Global, text: &[u8]) -> Result<Event, AllocError> {
     Ok(Event::Up(bytes, Moment(0)))
 }
 
-/// The lines of a session, and among them the client that comes.
-fn events_of(alloc: Global, session: &[&[u8]], client: Client) -> Result<Vec<Event>, Fail> {
-    let mut events = Vec::new(alloc);
-    let (before, since) = session.split_at(client.late.min(session.len()));
-    for text in before {
-        events.push(up(alloc, text)?)?;
+/// The request by which a client with some capabilities comes to hold others.
+fn request(alloc: Global, old: Caps, new: Caps) -> Result<Event, Fail> {
+    let mut text = Vec::from_slice(alloc, b"CAP REQ :")?;
+    for place in 0..6 {
+        if old.holds(place) != new.holds(place) {
+            if old.holds(place) {
+                text.push(b'-')?;
+            }
+            text.extend_from_slice(Caps::name(place).ok_or("six names")?)?;
+            text.push(b' ')?;
+        }
     }
-    events.push(Event::Attach(client.caps, None, 64))?;
-    for text in since {
-        events.push(up(alloc, text)?)?;
+    let line = Line::read(alloc, &text)?.ok_or("a line")?;
+    Ok(Event::Said(0, line, Moment(0)))
+}
+
+/// The lines of a session, among them the client that comes, and behind as many lines as the last
+/// client came after, its request for the capabilities of that one.
+fn events_of(
+    alloc: Global,
+    session: &[&[u8]],
+    first: Client,
+    last: Client,
+) -> Result<Vec<Event>, Fail> {
+    let mut events = Vec::new(alloc);
+    for place in 0..session.len() + 1 {
+        if place == first.late {
+            events.push(Event::Attach(first.caps, None, 64))?;
+        }
+        if place == last.late && last.caps != first.caps {
+            events.push(request(alloc, first.caps, last.caps)?)?;
+        }
+        if let Some(text) = session.get(place) {
+            events.push(up(alloc, text)?)?;
+        }
     }
     Ok(events)
 }
@@ -63,7 +89,8 @@ fn received_by<V: NetworkView + Drop>(
     alloc: Global,
     view: V,
     session: &[&[u8]],
-    client: Client,
+    first: Client,
+    last: Client,
 ) -> Result<Vec<Item>, Fail>
     requires { V.view view ≡ empty_view }
 {
@@ -72,7 +99,7 @@ fn received_by<V: NetworkView + Drop>(
         first_number: 1,
         first_session: 0,
     };
-    let events = events_of(alloc, session, client)?;
+    let events = events_of(alloc, session, first, last)?;
     let run = run(alloc, view, setup, 8, &events)?;
     first_sent(alloc, &run)
 }
@@ -84,7 +111,19 @@ pub(super) fn received(
     client: Client,
 ) -> Result<Vec<Item>, Fail> {
     let view = QuickView::new(alloc)?;
-    received_by(alloc, view, session, client)
+    received_by(alloc, view, session, client, client)
+}
+
+/// The lines that the client was sent which came as the first and then asked for the capabilities
+/// of the last, after as many lines of the network.
+pub(super) fn received_by_one_that_changed(
+    alloc: Global,
+    session: &[&[u8]],
+    first: Client,
+    last: Client,
+) -> Result<Vec<Item>, Fail> {
+    let view = QuickView::new(alloc)?;
+    received_by(alloc, view, session, first, last)
 }
 
 /// What the client reads of these lines, by a view to which nothing came.

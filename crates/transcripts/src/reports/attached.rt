@@ -184,6 +184,7 @@ static MESSAGES_FOR_A_CHANNEL_AND_FOR_US: [Row; 2] = [
             SETTINGS,
             CHANNEL,
             ":bnc BATCH +h0 chathistory #c
+@batch=h0 :bob!b@h PRIVMSG #c m1
 @batch=h0 :bob!b@h PRIVMSG #c m2
 @batch=h0 :bob!b@h PRIVMSG #c m3
 :bnc BATCH -h0
@@ -200,6 +201,7 @@ static MESSAGES_FOR_A_CHANNEL_AND_FOR_US: [Row; 2] = [
             SETTINGS,
             CHANNEL,
             ":bnc BATCH +h0 chathistory #c
+@batch=h0;time=1970-01-01T00:00:00.000Z :bob!b@h PRIVMSG #c m1
 @batch=h0;time=1970-01-01T00:00:00.000Z :bob!b@h PRIVMSG #c m2
 @batch=h0;time=1970-01-01T00:00:00.000Z :bob!b@h PRIVMSG #c m3
 :bnc BATCH -h0
