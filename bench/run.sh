@@ -1,8 +1,8 @@
 #!/usr/bin/env bash
 # Runs a program of this folder over the repository's crates:
 #
-#   run.sh hub_alone SESSIONS LINES   what a delivery costs a hub alone
-#   run.sh by_place < LINES           what it costs to read all members by place
+#   run.sh hub_alone SESSIONS LINES CHANNELS   what a delivery and an attach cost a hub alone
+#   run.sh by_place < LINES                    what it costs to read all members by place
 #
 # The gate reads each .rt file of the repository, and the programs are no crates of it. So their
 # files stand here as text, and are built in the folder BNC_BENCH, or else ~/bnc_bench, beside copies
