@@ -3,6 +3,7 @@
 #
 #   run.sh hub_alone SESSIONS LINES CHANNELS   what a delivery and an attach cost a hub alone
 #   run.sh by_place < LINES                    what it costs to read all members by place
+#   run.sh kept CAPACITY TARGETS               what the messages that are kept cost
 #
 # The gate reads each .rt file of the repository, and the programs are no crates of it. So their
 # files stand here as text, and are built in the folder BNC_BENCH, or else ~/bnc_bench, beside copies
@@ -26,9 +27,10 @@ if [ ! -d "$there" ]; then
     {
         echo "hub_alone: client_caps hub_core hub_ends hub_threads irc_line net_view quick_view rtrb welcome"
         echo "by_place: irc_line net_view quick_view"
+        echo "kept: client_caps history irc_line"
     } >> "$there/crates.txt"
 fi
-for name in hub_alone by_place; do
+for name in hub_alone by_place kept; do
     mkdir -p "$there/crates/$name/src"
     for file in "$here/$name"/*.rt.txt; do
         cp "$file" "$there/crates/$name/src/$(basename "$file" .txt)"

@@ -231,9 +231,9 @@ impl<A: Allocator + Copy + Drop> History<A> {
         Ok(number)
     }
 
-    /// Keeps a message of these texts, which may be any, and answers its number, as `add` does. `Spent` comes exactly
-    /// where there is no number left, and before memory is asked for. After an error the history is
-    /// unchanged.
+    /// Keeps a message of these texts, which may be any, and answers its number, as `add` does.
+    /// `Spent` comes exactly if there is no number left, and before memory is asked for. After an
+    /// error the history is unchanged.
     pub fn push(
         &mut self,
         time: &[u8],
