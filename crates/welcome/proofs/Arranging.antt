@@ -31,7 +31,7 @@ key_in v e = key_by v.settings e.target
 abbrev pub AreKeyed : View → List (Text × Channel) → Type 0
 AreKeyed v cs = AllByRecursion (λ (c : Text × Channel). key_by v.settings c.1.name ≡ c.0) cs
 
-abbrev names_in : List (Text × Channel) → List Text
+abbrev pub names_in : List (Text × Channel) → List Text
 names_in cs = map (λ (c : Text × Channel). c.1.name) cs
 
 abbrev in_groups : View → List EntryParts → List (Text × Channel) → List (List EntryParts)

@@ -1,24 +1,21 @@
 -- Entries are put into the groups of their channels.
-use Rattle.std.proofs.Common.{◌≡◌, ℕ, zero, suc, ◌+◌, ◌<◌, ◌≤◌, inl, inr, Bool, true, false, List}
+use Rattle.std.proofs.Common.{◌≡◌, ℕ, zero, suc, ◌+◌, ◌<◌, ◌≤◌, inl, inr, List}
 use Rattle.std.proofs.Common.{[], ◌∷◌, ◌++◌}
 use Rattle.std.proofs.Common.{Option, Some, None, refl, sym, ap, ◌∙◌, arith, map, take, drop}
-use Rattle.std.proofs.Common.{length, cond, get_or, subst}
-use Rattle.std.proofs.Common.{◌↔◌, slice_index_or, slice_set}
-use Rattle.std.specs.Prelude.{IsTrue, option_to_list}
-use Rattle.std.specs.List.{AllByRecursion, fold, slice_get}
+use Rattle.std.proofs.Common.{length, get_or}
+use Rattle.std.proofs.Common.{slice_index_or, slice_set}
+use Rattle.std.specs.Prelude.{option_to_list}
+use Rattle.std.specs.List.{fold, slice_get}
 use Rattle.std.specs.Borrow.{Bor}
 use Rattle.std.specs.Option.{option_map}
 use Rattle.std.specs.FinMap as fin
-use Rattle.std.proofs.lemmas.List.{length-map, map-append, map_more, take_more}
+use Rattle.std.proofs.lemmas.List.{length-map, map-append, map_more}
 use Rattle.std.proofs.lemmas.List.Sums.{fold_push}
 use Rattle.std.proofs.lemmas.Option.{slice_get_cases}
-use Rattle.irc_names.specs.CaseMapping.{AreOneName, key_of}
 use Rattle.irc_names.specs.declared.case_mapping.CaseMapping.{CaseMapping}
 use Rattle.irc_support.specs.Text.{Text}
-use Rattle.net_view.specs.Names.{same}
 use Rattle.net_view.specs.View.{Channel, View}
 use Rattle.net_view.specs.Readers.{channel_shown}
-use Rattle.net_view.proofs.Keys.{is_same, same_refl}
 use Rattle.history.specs.Entry.{EntryParts}
 use Rattle.welcome.specs.Arranged.{channel_names_of, grouped_by, place_among, push_at}
 use Rattle.welcome.proofs.Places.{take_next}
@@ -49,17 +46,6 @@ name_next v i before now is e =
     ∙ twice (slice_get (fin.entries v.channels) i)))
     ∙ sym (take_next (channel_names_of v) i)
 
--- ---- the place of a target
-
-same_is : (mapping : CaseMapping) (a b : Text) (r : Bool)
-    → (IsTrue r ↔ AreOneName mapping a b) → same (key_of mapping a) (key_of mapping b) ≡ r
-same_is mapping a b true h =
-    ap (λ k. same (key_of mapping a) k) (sym (h.0 refl)) ∙ same_refl (key_of mapping a)
-same_is mapping a b false h = by (same (key_of mapping a) (key_of mapping b)) refl where
-  by : (s : Bool) → same (key_of mapping a) (key_of mapping b) ≡ s → s ≡ false
-  by true e = sym (h.1 (is_same (key_of mapping a) (key_of mapping b) e))
-  by false e = refl
-
 -- the texts that these are lent of
 abbrev pub texts_of : List (Bor Text) → List Text
 texts_of names = map (λ (name : Bor Text). name.now) names
@@ -72,34 +58,6 @@ dropped f (x ∷ xs) (suc i) d within =
     let next : suc (i + 1) ≡ suc i + 1 = omega arith in
     dropped f xs i d (omega (within, arith))
     ∙ ap (λ k. f (slice_index_or xs i d) ∷ drop k (map f (x ∷ xs))) next
-
--- whether the name at a place is the target's decides
-pub place_here : (mapping : CaseMapping) (target : Text) (names : List (Bor Text)) (i all : ℕ)
-    (d : Bor Text) (is_one : Bool) → i < length names
-    → i + place_among mapping target (drop i (texts_of names)) ≡ all →
-    (IsTrue is_one ↔ AreOneName mapping target (slice_index_or names i d).now)
-    → is_one ≡ true → i ≡ all
-place_here mapping target names i all d is_one within is h one =
-    let rest : List Text = drop (i + 1) (texts_of names) in
-    let first : place_among mapping target (drop i (texts_of names)) ≡ 0 =
-    ap (place_among mapping target) (dropped (λ (name : Bor Text). name.now) names i d within)
-    ∙ ap (λ b. cond b 0 (place_among mapping target rest + 1))
-    (same_is mapping target (slice_index_or names i d).now is_one h ∙ one) in
-    omega (first, is, arith)
-
-pub place_later : (mapping : CaseMapping) (target : Text) (names : List (Bor Text)) (i all : ℕ)
-    (d : Bor Text) (is_one : Bool) → i < length names
-    → i + place_among mapping target (drop i (texts_of names)) ≡ all →
-    (IsTrue is_one ↔ AreOneName mapping target (slice_index_or names i d).now)
-    → is_one ≡ false → (i + 1) + place_among mapping target (drop (i + 1) (texts_of names)) ≡ all
-place_later mapping target names i all d is_one within is h other =
-    let rest : List Text = drop (i + 1) (texts_of names) in
-    let later : place_among mapping target (drop i (texts_of names))
-    ≡ place_among mapping target rest + 1 =
-    ap (place_among mapping target) (dropped (λ (name : Bor Text). name.now) names i d within)
-    ∙ ap (λ b. cond b 0 (place_among mapping target rest + 1))
-    (same_is mapping target (slice_index_or names i d).now is_one h ∙ other) in
-    omega (later, is, arith)
 
 -- ---- the group at a place
 

@@ -1,14 +1,15 @@
 -- The playback by the steps in which it is arranged and written.
-use Rattle.std.specs.Prelude.{ℕ, zero, suc, ◌+◌, not, if◌then◌else◌, List, [], ◌∷◌, ◌++◌, map}
+use Rattle.std.specs.Prelude.{◌≡◌, ℕ, zero, suc, ◌+◌, not, if◌then◌else◌, List, [], ◌∷◌, ◌++◌, map}
 use Rattle.std.specs.Prelude.{filter}
 use Rattle.std.specs.Prelude.{codes, length, slice_index_or}
-use Rattle.std.specs.List.{fold}
+use Rattle.std.specs.List.{AllByRecursion, fold}
+use Rattle.std.specs.declared.cmp.Ordering.TheVariants.{Less}
 use Rattle.std.specs.FinMap as fin
 use Rattle.irc_line.specs.Line.{Parts}
 use Rattle.irc_names.specs.CaseMapping.{key_of}
 use Rattle.irc_names.specs.declared.case_mapping.CaseMapping.{CaseMapping}
 use Rattle.irc_support.specs.Text.{Text}
-use Rattle.net_view.specs.Names.{same}
+use Rattle.net_view.specs.Names.{bytes_cmp, same}
 use Rattle.net_view.specs.View.{Channel, View}
 use Rattle.history.specs.Entry.{EntryParts}
 use Rattle.client_caps.specs.declared.caps.Caps.{Caps}
@@ -27,6 +28,13 @@ place_among mapping target [] = 0
 place_among mapping target (name ∷ names) =
     if same (key_of mapping target) (key_of mapping name) then 0
     else place_among mapping target names + 1
+
+-- these names stand in the order of their keys, and no two are one name
+abbrev pub AreInKeyOrder : CaseMapping → List Text → Type 0
+AreInKeyOrder mapping [] = Unit {0}
+AreInKeyOrder mapping (name ∷ names) =
+    AllByRecursion (λ later. bytes_cmp (key_of mapping name) (key_of mapping later) ≡ Less) names
+    × AreInKeyOrder mapping names
 
 -- each entry in the group at the place of its target, and last the group of all others
 abbrev pub grouped_by : CaseMapping → List Text → List EntryParts → List (List EntryParts)

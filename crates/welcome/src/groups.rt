@@ -4,12 +4,16 @@ ghost use Rattle.std.specs.Prelude.{◌≡◌, ◌<◌, ◌≤◌, ◌+◌, ◌+
 ghost use Rattle.std.specs.Prelude.{option_to_list};
 ghost use Rattle.std.specs.Option.{option_map};
 ghost use Rattle.net_view.specs.Readers.{channel_shown};
-ghost use Rattle.welcome.specs.Arranged.{channel_names_of, grouped_by, place_among, push_at};
+ghost use Rattle.irc_names.specs.CaseMapping.{key_of};
+ghost use Rattle.net_view.specs.Names.{bytes_cmp};
+ghost use Rattle.welcome.specs.Arranged.{AreInKeyOrder, channel_names_of, grouped_by};
+ghost use Rattle.welcome.specs.Arranged.{place_among, push_at};
 
 use history::Entry;
 use irc_names::CaseMapping;
 use net_view::{NetworkView, OutOfMemory};
 use std::alloc::Allocator;
+use std::cmp::Ordering;
 
 /// Adds the name of the channel at place `i`; nothing from `channel_count` on.
 fn push_name<'v, V: NetworkView, A: Allocator>(
@@ -42,18 +46,23 @@ pub fn channel_names<'v, V: NetworkView, A: Allocator>(
     Ok(names)
 }
 
-/// The place of the channel that the target names, counted from 0; the count of the names where it
-/// is none of them.
+/// The place of the channel that the target names, counted from 0; the count of the names if it is
+/// none of them. The names stand in key order, so it is searched for in time of order log N.
 fn place_of(mapping: CaseMapping, names: &[&[u8]], target: &[u8]) -> usize
+    requires { AreInKeyOrder mapping (map (λ name. name.now) names.now) }
     ensures place { result ≡ place_among mapping target.now (map (λ name. name.now) names.now) }
     ensures within { result ≤ length names.now }
 {
-    for (place, name) in names.iter().enumerate() {
-        if mapping.same(target, name) {
-            return place;
-        }
+    let found = names.binary_search_by(
+        |name: &&[u8]| -> Ordering
+            ensures { result
+                ≡ bytes_cmp (key_of mapping name.now.now) (key_of mapping target.entry.now) }
+        { mapping.order(name, target) },
+    );
+    match found {
+        Ok(place) => place,
+        Err(_) => names.len(),
     }
-    names.len()
 }
 
 /// A group without entries for each name, and one more.
@@ -88,13 +97,15 @@ fn push_at<'e, A: Allocator, B: Allocator>(
 }
 
 /// The entries by the channels that they are for, in the order of the names and each group oldest
-/// first, and last those that are for none of them. Each target is looked up once.
+/// first, and last those that are for none of them. Each target is looked up once among the names,
+/// which stand in key order.
 pub fn grouped<'e, A: Allocator + Copy, B: Allocator>(
     alloc: A,
     mapping: CaseMapping,
     names: &[&[u8]],
     entries: &[&'e Entry<B>],
 ) -> Result<Vec<Vec<&'e Entry<B>, A>, A>, OutOfMemory>
+    requires { AreInKeyOrder mapping (map (λ name. name.now) names.now) }
     ensures { IfOk result (λ groups. map (λ group. map (λ entry. entry.now) group.items)
         groups.items ≡ grouped_by mapping (map (λ name. name.now) names.now)
         (map (λ entry. entry.now) entries.now)) }

@@ -1,9 +1,23 @@
-use Rattle.std.proofs.Common.{◌≡◌, ◌<◌, ap, sym, ◌∙◌, map, length, arith}
+use Rattle.std.proofs.Common.{◌≡◌, ◌<◌, ap, subst, sym, ◌∙◌, map, length, arith}
 use Rattle.std.proofs.lemmas.Result.{on_ok_weaker}
+use Rattle.std.specs.FinMap as fin
 use Rattle.irc_support.specs.Settings.{mapping_of}
+use Rattle.welcome.specs.Arranged.{AreInKeyOrder}
 use Rattle.welcome.proofs.BacklogsSaid.{keyed_of, playback_said}
 use Rattle.welcome.proofs.Grouping.{has_place, texts_of}
+use Rattle.welcome.proofs.PlaceFound.{keyed_order}
 use Rattle.welcome.proofs.backlog.push_playback.Goals as goal
+
+pub grouped-requires : goal.grouped-requires
+grouped-requires g c =
+    let v = g.V.NetworkView.view c.args.view.now in
+    let source = c.comes_from_lines.ensures in
+    subst (λ m. AreInKeyOrder m (texts_of c.deref.result.now))
+    (sym (c.mapping.ensures ∙ ap mapping_of c.support.ensures))
+    (subst (AreInKeyOrder (mapping_of v.settings))
+    (sym (ap texts_of c.deref.ensures.value ∙ c.in_ok-names.ensures))
+    (keyed_order v (fin.entries v.channels) (fin.entries_sorted v.channels)
+    (keyed_of v source.0 source.2)))
 
 pub push_groups-requires : goal.push_groups-requires
 push_groups-requires g c =

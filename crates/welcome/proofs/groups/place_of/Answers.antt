@@ -1,15 +1,17 @@
-use Rattle.welcome.specs.Arranged.{place_among}
-use Rattle.welcome.proofs.Grouping.{place_here, place_later, texts_of}
+use Rattle.std.proofs.lemmas.Fn.{always_returns_same}
+use Rattle.welcome.proofs.PlaceFound.{found_nowhere, found_there, lies}
 use Rattle.welcome.proofs.groups.place_of.Goals as goal
 
-pub returns-then-same-clause-place : goal.returns-then-same-clause-place
-returns-then-same-clause-place c =
-    place_here c.args.mapping c.args.target.now c.args.names.now c.loop-place.place
-    (place_among c.args.mapping c.args.target.now (texts_of c.args.names.now)) _ c.same.result
-    c.loop-place-test.true c.loop-place.invariant c.same.ensures c.if-same.true
+pub returns-in-Ok-clause-place : goal.returns-in-Ok-clause-place
+returns-in-Ok-clause-place c =
+    found_there c.args.mapping c.args.target.now c.args.names.now c.in-Ok.place c.args.target
+    c.requires c.in-Ok.ensures.bound
+    (c.in-Ok.ensures.position (lies c.args.mapping c.args.target.now)
+    (always_returns_same _ _ _ (λ a r f' k. (k.met.1, λ i. (k.met.0.0 i, k.met.0.1 i)))) c.args.target)
 
-pub loop-place-preserved : goal.loop-place-preserved
-loop-place-preserved c =
-    place_later c.args.mapping c.args.target.now c.args.names.now c.loop-place.place
-    (place_among c.args.mapping c.args.target.now (texts_of c.args.names.now)) _ c.same.result
-    c.loop-place-test.true c.loop-place.invariant c.same.ensures c.if-same.false
+pub returns-in-Err-clause-place : goal.returns-in-Err-clause-place
+returns-in-Err-clause-place c =
+    found_nowhere c.args.mapping c.args.target.now c.args.names.now c.in-Err.field-0 c.args.target
+    c.requires c.in-Err.ensures.bound
+    (c.in-Err.ensures.position (lies c.args.mapping c.args.target.now)
+    (always_returns_same _ _ _ (λ a r f' k. (k.met.1, λ i. (k.met.0.0 i, k.met.0.1 i)))))
