@@ -11,4 +11,5 @@ pub mod Forwarded
 pub mod Drained
 pub mod Answered
 pub mod Freed
+pub mod LostBack
 pub mod LostChannels

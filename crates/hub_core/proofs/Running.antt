@@ -1,17 +1,16 @@
 -- The running fact goes on.
 use Rattle.std.proofs.Common.{◌≡◌, ◌+◌, ◌-◌, ◌<◌, ◌^◌, ℕ, List, [], ◌∷◌, ◌++◌, refl, sym, ap, ◌∙◌}
 use Rattle.std.proofs.Common.{arith, Option, None, Some, Bool, false, map, length, take, subst, inl}
-use Rattle.std.proofs.Common.{inr, append-nil, reverse, length-append, option_to_list, cond}
+use Rattle.std.proofs.Common.{inr, append-nil, length-append, option_to_list, cond}
 use Rattle.std.proofs.Common.{is_some}
-use Rattle.std.proofs.lemmas.List.{map-append, reverse-append, take_all, take-append-le}
+use Rattle.std.proofs.lemmas.List.{map-append, take_all, take-append-le}
 use Rattle.std.proofs.lemmas.Grind.{flat_map-append}
-use Rattle.std.specs.FinMap.{empty, entries, len-empty, len-entries}
-use Rattle.net_view.specs.Names.{bytes_cmp}
+use Rattle.std.specs.FinMap.{empty}
 use Rattle.irc_line.specs.Line.{Parts}
 use Rattle.irc_support.specs.Text.{Text}
 use Rattle.net_view.specs.Agrees.{Agrees}
-use Rattle.net_view.specs.Arrival.{Arrival, Received, Lost}
-use Rattle.net_view.specs.View.{Channel, View, view_of, view_back, empty_view}
+use Rattle.net_view.specs.Arrival.{Arrival}
+use Rattle.net_view.specs.View.{View, view_of, empty_view}
 use Rattle.net_view.proofs.StepLaw.{view_start}
 use Rattle.client_caps.specs.Caps.{held}
 use Rattle.client_caps.specs.Moment.{time_text_of}
@@ -28,8 +27,8 @@ use Rattle.std.proofs.Common.{unwrap_or}
 use Rattle.std.specs.Option.{option_or, option_map_or}
 use Rattle.net_view.specs.LookBack.{last_in}
 use Rattle.hub_core.specs.Online.{is_online, says_online}
-use Rattle.hub_core.specs.LostChannels.{Joining, before_loss, channels_of_view, lost_by}
-use Rattle.hub_core.specs.LostChannels.{lost_channels}
+use Rattle.hub_core.specs.LostChannels.{Joinings, lost_channels}
+use Rattle.hub_core.proofs.LostBack.{no_loss}
 use Rattle.hub_core.proofs.Prepared.{map_length}
 use Rattle.hub_core.specs.Running.{Fits, EachFits, IsRunning, AreNumbered, lines_sent}
 use Rattle.hub_core.specs.Running.{content, content_heard, content_said, messages_of}
@@ -81,19 +80,7 @@ heard_still done x now e =
 
 -- ---- a new hub
 
-none_there : {A : Type 0} (xs : List A) → length xs ≡ 0 → xs ≡ []
-none_there [] e = refl
-none_there (x ∷ xs) e = cc
-
--- before the first loss there is nothing to join again
-no_loss : lost_channels [] ≡ []
-unfolding view_of
-no_loss =
-    ap channels_of_view view_start
-    ∙ ap (map _) (none_there (entries empty) (sym (len-entries empty)
-    ∙ len-empty bytes_cmp Channel))
-
-pub started_runs : (h : HubState) (v : View) (lost : List Joining) (capacity : ℕ) → lost ≡ []
+pub started_runs : (h : HubState) (v : View) (lost : Joinings) (capacity : ℕ) → lost ≡ empty
     → h.taken ≡ [] → h.held ≡ None → h.sessions ≡ []
     → v ≡ empty_view → h.upstream.sent ≡ [] → h.first < 2 ^ 64
     → h.history ≡ no_messages capacity h.first → IsRunning h v false lost
@@ -186,7 +173,7 @@ pub record Goes (alone : Bool) (h h' : HubState) (x : Came) : Type 0 where
   pub comes : Comes alone h.held h.ahead x h'.ahead
 
 module _ (alone : Bool) (h h' : HubState) (x : Came) (v : View) (online : Bool)
-    {lost : List Joining} (g : Goes alone h h' x) (run : IsRunning h v online lost) where
+    {lost : Joinings} (g : Goes alone h h' x) (run : IsRunning h v online lost) where
   now : h'.taken ≡ less h.taken h.held ++ x ∷ []
   now = next_taken alone h.taken h.held h.ahead x h'.taken h'.ahead run.held_last g.taken g.comes
 
@@ -196,7 +183,7 @@ module _ (alone : Bool) (h h' : HubState) (x : Came) (v : View) (online : Bool)
       ap (λ k. arrivals (less h'.taken k)) e ∙ heard_more (less h.taken h.held) x h'.taken now
 
   -- it was dealt with
-  pub goes_on : (outlet : Bool) (w : View) (online' : Bool) (lost' : List Joining)
+  pub goes_on : (outlet : Bool) (w : View) (online' : Bool) (lost' : Joinings)
       → h'.held ≡ None
       → w ≡ view_of (heard h ++ x.0 ∷ []) → online' ≡ is_online (heard h ++ x.0 ∷ [])
       → lost' ≡ lost_channels (heard h ++ x.0 ∷ [])
@@ -233,10 +220,10 @@ module _ (alone : Bool) (h h' : HubState) (x : Came) (v : View) (online : Bool)
       }
 
   -- it is held
-  pub holds_on : (w : View) → w ≡ v → h'.held ≡ Some x → h'.sessions ≡ h.sessions
-      → h'.history ≡ h.history → h'.first ≡ h.first → h'.upstream.sent ≡ h.upstream.sent
-      → IsRunning h' w online lost
-  holds_on w same e s k f u =
+  pub holds_on : (w : View) (lost' : Joinings) → w ≡ v → lost' ≡ lost → h'.held ≡ Some x
+      → h'.sessions ≡ h.sessions → h'.history ≡ h.history → h'.first ≡ h.first
+      → h'.upstream.sent ≡ h.upstream.sent → IsRunning h' w online lost'
+  holds_on w lost' same still e s k f u =
       let l : less h'.taken h'.held ≡ less h.taken h.held =
       ap (less h'.taken) e
       ∙ (ap (λ k. less k (Some x)) now ∙ less_some (less h.taken h.held) x x) in
@@ -246,7 +233,7 @@ module _ (alone : Bool) (h h' : HubState) (x : Came) (v : View) (online : Bool)
             ∙ ap (λ k. less h'.taken h'.held ++ option_to_list k) (sym e));
         view_is = same ∙ (run.view_is ∙ ap view_of (sym a));
         online_is = run.online_is ∙ ap is_online (sym a);
-        lost_is = run.lost_is ∙ ap lost_channels (sym a);
+        lost_is = still ∙ (run.lost_is ∙ ap lost_channels (sym a));
         fit = subst (λ k. EachFits k h'.sessions) (sym same)
             (subst (λ k. EachFits v k) (sym s) run.fit);
         numbered = numbered_alike h h' (said_alike h h' l (ap (filter_map content_said) u)) f k
@@ -280,20 +267,6 @@ online_more items x =
       go None b = refl
       go (Some a) b = refl
 
--- ---- the channels to be joined again
-
-reverse_more : {A : Type 0} (xs : List A) (x : A) → reverse (xs ++ x ∷ []) ≡ x ∷ reverse xs
-reverse_more xs x = reverse-append xs (x ∷ [])
-
-pub lost_more : (items : List Arrival) (x : Arrival)
-    → unwrap_or (lost_by (view_of items) x) (lost_channels items) ≡ lost_channels (items ++ x ∷ [])
-unfolding view_of
-lost_more items (Received line) =
-    ap (λ l. channels_of_view (view_back (before_loss l)))
-    (sym (reverse_more items (Received line)))
-lost_more items Lost =
-    ap (λ l. channels_of_view (view_back (before_loss l))) (sym (reverse_more items Lost))
-
 -- ---- counts
 
 pub left_states : {S : Type 0} (state : S → SessionState) (xs ys : List S) (ss : List SessionState)
@@ -320,7 +293,7 @@ fits_at v [] s ts h = h.0
 fits_at v (r ∷ ss) s ts h = fits_at v ss s ts h.1
 
 -- other sessions of the same hub
-pub with_sessions : (h h' : HubState) (v : View) (online : Bool) {lost : List Joining}
+pub with_sessions : (h h' : HubState) (v : View) (online : Bool) {lost : Joinings}
     → IsRunning h v online lost
     → h'.taken ≡ h.taken → h'.held ≡ h.held → h'.history ≡ h.history → h'.first ≡ h.first
     → filter_map content_said h'.upstream.sent ≡ filter_map content_said h.upstream.sent
@@ -341,7 +314,7 @@ with_sessions h h' v online run t e k f u fit =
     }
 
 -- the burst is read as the view
-pub attached_fits : (alone : Bool) (h : HubState) (v : View) (online : Bool) {lost : List Joining}
+pub attached_fits : (alone : Bool) (h : HubState) (v : View) (online : Bool) {lost : Joinings}
     (caps : Caps) (name : Option (List ℕ)) (mark : Option ℕ) (id : ℕ) (o o' : OutletState)
     → IsRunning h v online lost → v.ready ≡ true → o.sent ≡ [] → o.closed ≡ None
     → Took alone o (burst_of v caps (missed_by mark h.history)) o'
@@ -381,7 +354,7 @@ pushed_states state xs ys zs s e f =
     ap (map state) (f ∙ ap (λ l. l ++ s ∷ []) e) ∙ map-append state xs (s ∷ [])
 
 -- a line was sent to the network, and a message to the sessions
-pub said_on : (h h' : HubState) (v : View) (online : Bool) {lost : List Joining}
+pub said_on : (h h' : HubState) (v : View) (online : Bool) {lost : Joinings}
     (e : Option EntryParts) (p : List Parts) → IsRunning h v online lost
     → h'.taken ≡ h.taken → h'.held ≡ h.held
     → h'.history ≡ with_entry h.history e → h'.first ≡ h.first

@@ -13,7 +13,7 @@ use Rattle.history.specs.Messages.{AreWrittenMessages, Messages, numbered}
 use Rattle.hub_ends.specs.Came.{Came}
 use Rattle.irc_support.specs.Text.{Text}
 use Rattle.hub_core.specs.Online.{is_online}
-use Rattle.hub_core.specs.LostChannels.{Joining, lost_channels}
+use Rattle.hub_core.specs.LostChannels.{Joinings, lost_channels}
 use Rattle.hub_core.specs.Pumping.{entry_for}
 use Rattle.hub_core.specs.States.{SessionState, HubState, less, heard}
 
@@ -68,7 +68,7 @@ pub record AreNumbered (all : List (List Text)) (first : ℕ) (h : Messages) : T
 
 -- the running fact, of a hub with this view, which is online or not, and with these channels for
 -- joining again
-pub record IsRunning (h : HubState) (v : View) (online : Bool) (lost : List Joining) : Type 0 where
+pub record IsRunning (h : HubState) (v : View) (online : Bool) (lost : Joinings) : Type 0 where
   -- a held item is the last one that was taken
   pub held_last : h.taken ≡ less h.taken h.held ++ option_to_list h.held
   -- the view is that of the items taken, but for a held one

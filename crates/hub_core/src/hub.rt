@@ -6,13 +6,14 @@ ghost use Rattle.net_view.specs.View.{empty_view};
 ghost use Rattle.history.specs.Messages.{is_capacity};
 
 use crate::image_table::Made;
-use crate::lost::LostChannel;
+use crate::lost::{LostChannel, LostChannels};
 use crate::session::{Session, place_of};
 use crate::state_parts::StatePart;
 use client_caps::{Caps, Moment};
 use history::{CapacityError, History, Marks};
 use hub_ends::{Inlet, Outlet, SessionId};
 use net_view::{Item, NetworkView, OutOfMemory};
+use network_tables::Table;
 use std::alloc::Global;
 use std::marker::Model;
 use thiserror::Error;
@@ -84,8 +85,8 @@ pub struct Hub<V: NetworkView + Drop, I: Inlet, O: Outlet> {
     pub(crate) images: u64,
     // what was made for the sets of capabilities of the last item
     pub(crate) made: Vec<Made>,
-    // the channels at the last loss that was taken
-    pub(crate) lost: Vec<LostChannel>,
+    // the channels that losses took from us, to be joined again
+    pub(crate) lost: LostChannels,
     // the state parts of the view, for the sets of capabilities that were asked for since it changed
     pub(crate) parts: Vec<StatePart>,
 }
@@ -97,7 +98,7 @@ impl<V: NetworkView + Drop, I: Inlet, O: Outlet> Model for Hub<V, I, O> {
     ghost use Rattle.hub_core.specs.Codes.{hub_code};
     ghost use Rattle.hub_core.specs.LostChannels.{joining};
     ghost use Rattle.hub_core.specs.StateParts.{AreStateParts};
-    ghost use Rattle.std.specs.Prelude.{map};
+    ghost use Rattle.network_tables.specs.Shown.{shown};
 
     ghost Value = { HubState };
 
@@ -106,7 +107,7 @@ impl<V: NetworkView + Drop, I: Inlet, O: Outlet> Model for Hub<V, I, O> {
     ghost view = { hub_of I.taken I.ahead O.sent O.closed O.capacity O.free };
 
     ghost invariant = { λ h. IsRunning (hub_of I.taken I.ahead O.sent O.closed O.capacity O.free h)
-        (V.view h.view) h.online (map joining h.lost.items) ×
+        (V.view h.view) h.online (shown joining h.lost.all) ×
         AreStateParts (V.view h.view) h.parts.items };
 }
 
@@ -116,6 +117,8 @@ impl<V: NetworkView + Drop, I: Inlet, O: Outlet> Hub<V, I, O> {
     ghost use Rattle.hub_core.specs.Running.{IsRunning};
     ghost use Rattle.hub_core.specs.Insides.{outlet_of};
     ghost use Rattle.hub_core.specs.LostChannels.{joining, lost_channels};
+    ghost use Rattle.std.specs.FinMap as fin;
+    ghost use Rattle.std.specs.Prelude.{length, slice_get};
     ghost use Rattle.hub_core.specs.Upkeep.{LendsOutlet, TellsCaps};
 
     /// A hub of these parts, without sessions, messages or client names. `BadCapacity` comes
@@ -153,7 +156,7 @@ impl<V: NetworkView + Drop, I: Inlet, O: Outlet> Hub<V, I, O> {
             marks,
             images: 0,
             made: Vec::new(alloc),
-            lost: Vec::new(alloc),
+            lost: Table::new(alloc),
             parts: Vec::new(alloc),
         })
     }
@@ -209,13 +212,24 @@ impl<V: NetworkView + Drop, I: Inlet, O: Outlet> Hub<V, I, O> {
         Some(self.sessions[place].caps)
     }
 
-    /// The channels that we were on when the connection was lost last, with their keys, in the
-    /// order of the keys of their names: those of the view before the last loss that was taken. No
-    /// channel before the first loss.
-    pub fn lost_channels(&self) -> &[LostChannel]
-        ensures { map joining result.now ≡ lost_channels (heard self.now) }
+    /// How many channels are to be joined again: those that we were on when a connection was lost,
+    /// without those that we have joined or left since then.
+    pub fn lost_channel_count(&self) -> usize
+        ensures { result ≡ length (fin.entries (lost_channels (heard self.now))) }
     {
-        &self.lost
+        self.lost.len()
+    }
+
+    /// The channel to be joined again at place `i`, in the order of the keys of their names, with
+    /// its own key as it was at the loss; `None` from `lost_channel_count` on.
+    pub fn lost_channel_at(&self, i: usize) -> Option<&LostChannel>
+        ensures { option_map (λ channel. joining channel.now) result
+            ≡ option_map (λ e. e.1) (slice_get (fin.entries (lost_channels (heard self.now))) i) }
+    {
+        match self.lost.at(i) {
+            Some((_key, channel)) => Some(channel),
+            None => None,
+        }
     }
 
     /// How many images were made: for each line pumped, and for each message forwarded, one for

@@ -1,24 +1,50 @@
-//! The channels that we were on when the connection was lost.
+//! The channels that we were on when a connection was lost, to be joined again.
 
-ghost use Rattle.std.specs.Prelude.{◌≡◌, ◌≤◌, ◌+◌, ◌++◌, IfOk, OnOk, map, option_map};
-ghost use Rattle.std.specs.Prelude.{option_to_list};
+ghost use Rattle.std.specs.Prelude.{◌≡◌, ◌≤◌, ◌+◌, ◌++◌, IfOk, OnOk, IfSome, map, option_map};
+ghost use Rattle.std.specs.Prelude.{None, T, length, option_to_list};
 ghost use Rattle.std.specs.List.{slice_get};
-ghost use Rattle.std.specs.Option.{option_and_then, unwrap_or};
-ghost use Rattle.net_view.specs.Arrival.{arrival_of};
+ghost use Rattle.std.specs.Option.{option_and_then};
+ghost use Rattle.std.specs.FinMap as fin;
+ghost use Rattle.irc_support.specs.Settings.{key_by};
+ghost use Rattle.irc_support.specs.Text.{Text};
+ghost use Rattle.net_view.specs.Arrival.{Received, arrival_of};
+ghost use Rattle.net_view.specs.Names.{bytes_cmp};
 ghost use Rattle.net_view.specs.Readers.{channel_shown};
-ghost use Rattle.hub_core.specs.LostChannels.{channels_of_view, joining, key_of_channel, lost_by};
+ghost use Rattle.net_view.specs.Step.{standing_of};
+ghost use Rattle.net_view.specs.Transcript.{is_us};
+ghost use Rattle.network_tables.specs.Shown.{shown};
+ghost use Rattle.hub_core.specs.LostChannels.{channels_of_view, is_settled, joining, keyed};
+ghost use Rattle.hub_core.specs.LostChannels.{key_of_channel, lost_by, lost_then, put_all};
+ghost use Rattle.hub_core.specs.LostChannels.{settles};
 
 use crate::attach::copy_of;
-use net_view::{Item, NetworkView, OutOfMemory};
+use irc_line::Line;
+use net_view::{Item, NetworkView, OutOfMemory, Telling, told};
+use network_tables::{Entry, Sought, Table};
 use std::alloc::Global;
 
-/// A channel that we were on when the connection was lost.
+/// A channel that we were on when a connection was lost.
 #[derive(Drop)]
 pub struct LostChannel {
     /// Its name.
     pub name: Vec<u8>,
     /// Its key, the parameter of its mode `k`, where it had one (RFC 2811, section 4.2.10).
     pub key: Option<Vec<u8>>,
+}
+
+/// The channels that are to be joined again, by the keys of their names.
+pub type LostChannels = Table<LostChannel, Global>;
+
+/// One of them, as it is to be kept.
+pub type LostEntry = Box<Entry<LostChannel, Global>>;
+
+/// Which of the channels to be joined again a line takes off: it is our own JOIN, PART or QUIT, or
+/// a KICK of us.
+#[derive(Clone, Copy)]
+pub enum Settled<'a> {
+    Nothing,
+    One(Sought<'a>),
+    All,
 }
 
 /// The place after `j`, where this letter stands: letters rise, so it is no greater than 256.
@@ -48,24 +74,31 @@ fn channel_key<V: NetworkView>(view: &V, i: usize) -> Option<&[u8]>
 /// Adds the channel at place `i`, where there is one.
 fn push_channel<V: NetworkView>(
     alloc: Global,
-    channels: &mut Vec<LostChannel>,
+    channels: &mut Vec<LostEntry>,
     view: &V,
     i: usize,
 ) -> Result<(), OutOfMemory>
-    ensures { OnOk result (map joining channels.new.items ≡ map joining channels.old.items
+    ensures { OnOk result (map (λ e. keyed e.value) channels.new.items ≡ map (λ e. keyed e.value) channels.old.items
         ++ option_to_list (slice_get (channels_of_view (V.view view.now)) i)) }
 {
+    view.comes_from_lines();
     if let Some(channel) = view.channel_at(i) {
+        let folded = view.support().mapping().key(alloc, channel.name)?;
         let name = channel.name.to_vec(alloc)?;
         let key = copy_of(alloc, channel_key(view, i))?;
-        channels.push(LostChannel { name, key })?;
+        let entry = Entry {
+            key: folded,
+            value: LostChannel { name, key },
+            near: usize::MAX,
+        };
+        channels.push(Box::new(alloc, entry)?)?;
     }
     Ok(())
 }
 
 /// The channels of a view.
-fn channels_of<V: NetworkView>(alloc: Global, view: &V) -> Result<Vec<LostChannel>, OutOfMemory>
-    ensures { IfOk result (λ channels. map joining channels.items
+fn channels_of<V: NetworkView>(alloc: Global, view: &V) -> Result<Vec<LostEntry>, OutOfMemory>
+    ensures { IfOk result (λ channels. map (λ e. keyed e.value) channels.items
         ≡ channels_of_view (V.view view.now)) }
 {
     let mut channels = Vec::new(alloc);
@@ -75,27 +108,125 @@ fn channels_of<V: NetworkView>(alloc: Global, view: &V) -> Result<Vec<LostChanne
     Ok(channels)
 }
 
-/// The channels that an item takes from us: of a loss those of the view before it.
+/// The channels that an item takes from us, with room made for them: of a loss those of the view
+/// before it.
 pub fn lost_by<V: NetworkView>(
     alloc: Global,
     view: &V,
     item: &Item,
-) -> Result<Option<Vec<LostChannel>>, OutOfMemory>
-    ensures { IfOk result (λ lost. option_map (λ channels. map joining channels.items) lost
+    lost: &mut LostChannels,
+) -> Result<Option<Vec<LostEntry>>, OutOfMemory>
+    ensures all { lost.new.all ≡ lost.old.all }
+    ensures new { IfOk result (λ new. option_map (λ channels. map (λ e. keyed e.value) channels.items) new
         ≡ lost_by (V.view view.now) (arrival_of item.now)) }
+    ensures room { IfOk result (λ new.
+        IfSome new (λ channels. length channels.items ≤ lost.new.spare)) }
 {
     match item {
         Item::Line(_) => Ok(None),
-        Item::Lost => Ok(Some(channels_of(alloc, view)?)),
+        Item::Lost => {
+            let channels = channels_of(alloc, view)?;
+            lost.reserve(channels.len())?;
+            Ok(Some(channels))
+        }
     }
 }
 
-/// Puts new channels in the place of the old ones, where there are new ones.
-pub fn renew(channels: &mut Vec<LostChannel>, new: Option<Vec<LostChannel>>)
-    ensures { map joining channels.new.items ≡ unwrap_or
-        (option_map (λ channels. map joining channels.items) new) (map joining channels.old.items) }
+/// Whether the nick is ours.
+fn is_us<V: NetworkView>(view: &V, nick: &[u8]) -> bool
+    ensures { result ≡ is_us (standing_of (V.view view.now))
+        (key_by (V.view view.now).settings nick.now) }
 {
-    if let Some(new) = new {
-        *channels = new;
+    match view.own() {
+        Some(own) => view.support().mapping().order(own, nick).is_eq(),
+        None => false,
+    }
+}
+
+/// Which channels a line takes off.
+fn settled_by_line<'a, V: NetworkView>(view: &V, line: &'a Line) -> Settled<'a>
+    ensures { (c : Text) → is_settled result c ≡ settles (V.view view.now) (Received line.now) c }
+{
+    let mapping = view.support().mapping();
+    match told(line) {
+        Telling::Joined { channel, who, .. } => {
+            if is_us(view, who) && view.support().is_channel(channel) {
+                Settled::One(Sought::Name(mapping, channel))
+            } else {
+                Settled::Nothing
+            }
+        }
+        Telling::Parted { channel, who } | Telling::Kicked { channel, who } => {
+            if is_us(view, who) {
+                Settled::One(Sought::Name(mapping, channel))
+            } else {
+                Settled::Nothing
+            }
+        }
+        Telling::Quits { who } => {
+            if is_us(view, who) {
+                Settled::All
+            } else {
+                Settled::Nothing
+            }
+        }
+        _ => Settled::Nothing,
+    }
+}
+
+/// Which of these channels an item takes off, by the view before it.
+pub fn settled_by<'a, V: NetworkView>(view: &V, item: &'a Item, lost: &LostChannels) -> Settled<'a>
+    ensures { (c : Text) →
+        lost_then None (is_settled result c) c (fin.get (shown joining lost.now.all) c)
+        ≡ lost_then None (settles (V.view view.now) (arrival_of item.now) c) c
+        (fin.get (shown joining lost.now.all) c) }
+{
+    if lost.len() == 0 {
+        return Settled::Nothing;
+    }
+    match item {
+        Item::Line(line) => settled_by_line(view, line),
+        Item::Lost => Settled::Nothing,
+    }
+}
+
+/// Takes channels off.
+fn forget(lost: &mut LostChannels, settled: Settled<'_>)
+    ensures { (c : Text) → fin.get (shown joining lost.new.all) c
+        ≡ lost_then None (is_settled settled.entry c) c
+        (fin.get (shown joining lost.old.all) c) }
+{
+    match settled {
+        Settled::Nothing => {}
+        Settled::One(channel) => {
+            let _ = lost.remove(channel);
+        }
+        Settled::All => lost.clear(),
+    }
+}
+
+/// Adds channels, for which there is room, each in the place of one of the same key.
+fn add(lost: &mut LostChannels, new: Vec<LostEntry>)
+    requires { length new.items ≤ lost.old.spare }
+    ensures { shown joining lost.new.all ≡ put_all (shown joining lost.old.all)
+        (map (λ e. keyed e.value) new.items) }
+{
+    for channel in new {
+        lost.insert(channel);
+    }
+}
+
+/// Takes channels off, or else adds these, for which there is room.
+pub fn renew(lost: &mut LostChannels, settled: Settled<'_>, new: Option<Vec<LostEntry>>)
+    requires room { IfSome new (λ channels. length channels.items ≤ lost.old.spare) }
+    requires order { IfSome new (λ channels. T (fin.is_sorted bytes_cmp
+        (map (λ e. keyed e.value) channels.items))) }
+    ensures { (c : Text) → fin.get (shown joining lost.new.all) c
+        ≡ lost_then (option_map (λ channels. map (λ e. keyed e.value) channels.items) new)
+        (is_settled settled.entry c) c (fin.get (shown joining lost.old.all) c) }
+{
+    match new {
+        Some(new) => add(lost, new),
+        None => forget(lost, settled),
     }
 }

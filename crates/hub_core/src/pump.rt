@@ -1,6 +1,6 @@
 //! What comes from the network goes to the sessions.
 
-ghost use Rattle.std.specs.Prelude.{ℕ, ◌≡◌, ◌<◌, ◌++◌, ◌∷◌, ◌+◌, ◌↔◌, [], None, Some, Option};
+ghost use Rattle.std.specs.Prelude.{ℕ, ◌≡◌, ◌<◌, ◌≤◌, ◌++◌, ◌∷◌, ◌+◌, ◌↔◌, [], None, Some, Option};
 ghost use Rattle.std.specs.Prelude.{IsSome};
 ghost use Rattle.std.specs.Prelude.{IfErr, IfOk, IfSome, IfNone, IsErrOf, OnErr, OnOk};
 ghost use Rattle.std.specs.Prelude.{cond, is_some, option_map, length, map};
@@ -14,7 +14,7 @@ ghost use Rattle.history.specs.Entry.{IsWrittenEntry};
 ghost use Rattle.hub_ends.specs.Came.{came};
 ghost use Rattle.hub_core.specs.Given.{Took, all_sets_but, given_but, packet_for};
 ghost use Rattle.hub_core.specs.Insides.{outlet_of, state_of, states_of};
-ghost use Rattle.hub_core.specs.LostChannels.{joining, lost_by};
+ghost use Rattle.hub_core.specs.LostChannels.{keyed, lost_by};
 ghost use Rattle.hub_core.specs.Online.{is_welcome, says_online};
 ghost use Rattle.hub_core.specs.Pumping.{Comes, Pumps, Puts, Spends, counted, entry_for};
 ghost use Rattle.hub_core.specs.Pumping.{images_for, pong_for, with_entry};
@@ -22,7 +22,7 @@ ghost use Rattle.hub_core.specs.Pumping.{images_for, pong_for, with_entry};
 use crate::deliver::deliver;
 use crate::hub::{Hub, HubError, Pumped};
 use crate::image_table::Made;
-use crate::lost::{LostChannel, lost_by, renew};
+use crate::lost::{LostChannels, LostEntry, lost_by, renew, settled_by};
 use crate::prepare::prepare;
 use crate::session::Session;
 use crate::state_parts::{drop_if_short, drop_outdated};
@@ -203,7 +203,7 @@ pub fn images_of(item: &Item, made: &Vec<Made>) -> u64
 }
 
 /// Makes what an item from the network leads to: that for the sessions, the answer to a PING, and
-/// the channels to be joined again.
+/// the channels that are to be joined again from here on, for which room is made.
 fn prepare_arrival<V: NetworkView, O: Outlet>(
     alloc: Global,
     view: &V,
@@ -212,13 +212,17 @@ fn prepare_arrival<V: NetworkView, O: Outlet>(
     item: &Item,
     moment: Moment,
     made: &mut Vec<Made>,
-) -> Result<(Option<Entry>, Option<Packet>, Option<Vec<LostChannel>>), HubError>
+    lost: &mut LostChannels,
+) -> Result<(Option<Entry>, Option<Packet>, Option<Vec<LostEntry>>), HubError>
     ensures states { states_of O.sent O.closed O.capacity O.free sessions.new.items
         ≡ states_of O.sent O.closed O.capacity O.free sessions.old.items }
     ensures made { IfOk result (λ r. (r.0 ≡ entry_for (arrival_of item.now, moment.0)) ×
         (r.1 ≡ pong_for (arrival_of item.now)) ×
-        (option_map (λ channels. map joining channels.items) r.2
+        (option_map (λ channels. map (λ e. keyed e.value) channels.items) r.2
         ≡ lost_by (V.view view.now) (arrival_of item.now))) }
+    ensures all { lost.new.all ≡ lost.old.all }
+    ensures room { IfOk result (λ r.
+        IfSome r.2 (λ channels. length channels.items ≤ lost.new.spare)) }
     ensures written { IfOk result (λ r. IfSome r.0 IsWrittenEntry) }
     ensures coming { OnOk result (AllByRecursion (λ s. s.coming
         ≡ given_but None (packet_for (V.view view.now) (arrival_of item.now, moment.0))
@@ -231,8 +235,8 @@ fn prepare_arrival<V: NetworkView, O: Outlet>(
 {
     let entry = prepare_item(alloc, view, sessions, history, item, moment, None, made)?;
     let pong = pong_of(alloc, item)?;
-    let lost = lost_by(alloc, view, item)?;
-    Ok((entry, pong, lost))
+    let new = lost_by(alloc, view, item, lost)?;
+    Ok((entry, pong, new))
 }
 
 impl<V: NetworkView + Drop, I: Inlet, O: Outlet> Hub<V, I, O> {
@@ -251,7 +255,7 @@ impl<V: NetworkView + Drop, I: Inlet, O: Outlet> Hub<V, I, O> {
         let Some((item, moment)) = next_item(&mut self.held, &mut self.inlet) else {
             return Ok(Pumped::Nothing);
         };
-        let (entry, pong, lost) = match prepare_arrival(
+        let (entry, pong, new) = match prepare_arrival(
             self.alloc,
             &self.view,
             &mut self.sessions,
@@ -259,6 +263,7 @@ impl<V: NetworkView + Drop, I: Inlet, O: Outlet> Hub<V, I, O> {
             &item,
             moment,
             &mut self.made,
+            &mut self.lost,
         ) {
             Ok(made) => made,
             Err(e) => {
@@ -272,6 +277,7 @@ impl<V: NetworkView + Drop, I: Inlet, O: Outlet> Hub<V, I, O> {
             drop_if_short(&mut self.parts, e);
             return Err(e);
         }
+        let settled = settled_by(&self.view, &item, &self.lost);
         // A message is no state line, so the view takes it: here nothing was kept.
         if let Err(_) = self.view.take(&item) {
             self.held = Some((item, moment));
@@ -281,7 +287,7 @@ impl<V: NetworkView + Drop, I: Inlet, O: Outlet> Hub<V, I, O> {
         drop_outdated(&mut self.parts, &item);
         self.images = self.images.saturating_add(images_of(&item, &self.made));
         self.online = online_after(self.online, &item);
-        renew(&mut self.lost, lost);
+        renew(&mut self.lost, settled, new);
         put(&mut self.upstream, pong);
         let cut = deliver(&mut self.sessions);
         Ok(Pumped::Taken { cut })

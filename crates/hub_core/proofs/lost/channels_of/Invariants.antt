@@ -1,7 +1,8 @@
 use Rattle.std.proofs.Common.{◌≡◌, map, take}
-use Rattle.hub_core.specs.LostChannels.{channels_of_view, joining}
+use Rattle.hub_core.specs.LostChannels.{channels_of_view, keyed}
 use Rattle.hub_core.proofs.lost.channels_of.Given as goal
 
 abbrev pub invariant-loop-i : goal.invariant-loop-i
 invariant-loop-i g l =
-    map joining l.channels.items ≡ take l.i (channels_of_view (g.V.NetworkView.view l.view))
+    map (λ e. keyed e.value) l.channels.items
+    ≡ take l.i (channels_of_view (g.V.NetworkView.view l.view))

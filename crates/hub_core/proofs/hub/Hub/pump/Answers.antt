@@ -1,8 +1,12 @@
-use Rattle.std.proofs.Common.{◌≡◌, ◌∷◌, [], ◌++◌, unwrap_or, ◌∙◌, ◌+◌, refl, sym, ap, subst, length}
+use Rattle.std.proofs.Common.{◌≡◌, ◌∷◌, [], ◌++◌, ◌∙◌, ◌+◌, refl, sym, ap, subst, length}
 use Rattle.std.proofs.Common.{map, None}
 use Rattle.std.specs.Option.{option_map, option_map_or}
 use Rattle.hub_core.specs.Online.{says_online}
-use Rattle.hub_core.specs.LostChannels.{joining, lost_by, lost_channels}
+use Rattle.std.specs.FinMap as fin
+use Rattle.network_tables.specs.Shown.{shown}
+use Rattle.hub_core.specs.LostChannels.{Joinings, is_settled, joining, lost_by, lost_channels}
+use Rattle.hub_core.specs.LostChannels.{lost_then, settles}
+use Rattle.hub_core.proofs.LostBack.{lost_are, settled_as, sorted_new}
 use Rattle.net_view.specs.View.{view_of}
 use Rattle.hub_ends.specs.Came.{Came, came}
 use Rattle.hub_core.specs.declared.session.Session.{Session}
@@ -19,7 +23,7 @@ use Rattle.hub_core.specs.Pumping.{Takes, Puts, pong_for, with_entry, images_for
 use Rattle.hub_core.proofs.Numbers.{puts_unsaid}
 use Rattle.hub_core.proofs.Prepared.{map_length}
 use Rattle.hub_core.proofs.Unread.{no_entry, nothing_kept}
-use Rattle.hub_core.proofs.Running.{goes_on, holds_on, lost_more, online_more, left_states}
+use Rattle.hub_core.proofs.Running.{goes_on, holds_on, online_more, left_states}
 use Rattle.hub_core.proofs.hub.Hub.pump.Goals as goal
 use Rattle.hub_core.proofs.hub.Hub.pump.Given
 
@@ -27,7 +31,8 @@ pub invariant_of-self-in-Err : goal.invariant_of-self-in-Err
 invariant_of-self-in-Err g c = (
   holds_on g.I.Inlet.alone _ _ _ _ _
       record { taken = c.in-Some.ensures.taken; comes = c.in-Some.ensures.ahead }
-      c.self.invariant.0 _ refl refl c.prepare_arrival.ensures.states refl refl refl,
+      c.self.invariant.0 _ _ refl (ap (shown joining) c.prepare_arrival.ensures.all) refl
+      c.prepare_arrival.ensures.states refl refl refl,
   c.drop_if_short.ensures _ c.self.invariant.1,
 )
 
@@ -35,8 +40,8 @@ pub invariant_of-self-in-Err-keep : goal.invariant_of-self-in-Err-keep
 invariant_of-self-in-Err-keep g c = (
   holds_on g.I.Inlet.alone _ _ _ _ _
       record { taken = c.in-Some.ensures.taken; comes = c.in-Some.ensures.ahead }
-      c.self.invariant.0 _ refl refl c.prepare_arrival.ensures.states c.in-Err-keep.ensures.same
-      refl refl,
+      c.self.invariant.0 _ _ refl (ap (shown joining) c.prepare_arrival.ensures.all) refl
+      c.prepare_arrival.ensures.states c.in-Err-keep.ensures.same refl refl,
   c.drop_if_short-in-Err-keep.ensures _ c.self.invariant.1,
 )
 
@@ -48,7 +53,8 @@ invariant_of-self-in-Err-take g c =
     (λ f. let refused = c.in-Err-take.ensures.free f in absurd cc) in (
       holds_on g.I.Inlet.alone _ _ _ _ _
           record { taken = c.in-Some.ensures.taken; comes = c.in-Some.ensures.ahead }
-          c.self.invariant.0 _ c.in-Err-take.ensures.kept refl c.prepare_arrival.ensures.states
+          c.self.invariant.0 _ _ c.in-Err-take.ensures.kept
+          (ap (shown joining) c.prepare_arrival.ensures.all) refl c.prepare_arrival.ensures.states
           (nothing_kept item c.self.inside.history c.keep.new.history need
           (c.in_default-keep.ensures.ok
           ∙ ap (with_entry c.self.inside.history) c.in-Ok.ensures.made.0)) refl refl,
@@ -85,6 +91,11 @@ returns-in-Err-take g c =
       };
     }
 
+pub renew-requires-clause-order : goal.renew-requires-clause-order
+renew-requires-clause-order g c =
+    sorted_new (g.V.NetworkView.view c.self.inside.view)
+    (came (c.in-Some.item, c.in-Some.moment)).0 _ _ c.in-Ok.ensures.made.2
+
 module _ (g : Given.Over) (c : goal.Joined-item g) where
   abbrev state : Session g.row.O.Denot → SessionState
   state = state_of g.O.Outlet.sent g.O.Outlet.closed g.O.Outlet.capacity g.O.Outlet.free
@@ -111,7 +122,7 @@ module _ (g : Given.Over) (c : goal.Joined-item g) where
         marks = c.self.inside.marks;
         images = c.saturating_add-self-inside.result;
         made = c.prepare_arrival.new.made;
-        lost = c.renew.new.channels;
+        lost = c.renew.new.lost;
         parts = c.drop_outdated.new.parts;
       }
 
@@ -136,16 +147,24 @@ answered g c =
     subst (λ p. Puts g.O.Outlet.alone (old g c).upstream p (new g c).upstream)
     c.in-Ok.ensures.made.1 c.put.ensures
 
-lost_then : (g : Given.Over) (c : goal.Joined-item g)
-    → map joining c.renew.new.channels.items ≡ lost_channels (heard (old g c) ++ (item g c).0 ∷ [])
-lost_then g c =
-    c.renew.ensures
-    ∙ ap (λ o. unwrap_or o (map joining c.self.inside.lost.items)) c.in-Ok.ensures.made.2
-    ∙ ap (unwrap_or (lost_by (g.V.NetworkView.view c.self.inside.view) (item g c).0))
-    c.self.invariant.0.lost_is
-    ∙ ap (λ v. unwrap_or (lost_by v (item g c).0) (lost_channels (heard (old g c))))
-    c.self.invariant.0.view_is
-    ∙ lost_more (heard (old g c)) (item g c).0
+left : (g : Given.Over) (c : goal.Joined-item g)
+    → shown joining c.renew.new.lost.all ≡ lost_channels (heard (old g c) ++ (item g c).0 ∷ [])
+left g c =
+    let v = g.V.NetworkView.view c.self.inside.view in
+    let before : Joinings = shown joining c.self.inside.lost.all in
+    let same : shown joining c.prepare_arrival.new.lost.all ≡ before =
+    ap (shown joining) c.prepare_arrival.ensures.all in
+    let here : before ≡ lost_channels (heard (old g c)) = c.self.invariant.0.lost_is in
+    lost_are (heard (old g c)) (item g c).0 (shown joining c.renew.new.lost.all) (λ k.
+    let off = is_settled c.settled_by-settled.result k in
+    c.renew.ensures k
+    ∙ ap (λ new. lost_then new off k (fin.get (shown joining c.prepare_arrival.new.lost.all) k))
+    c.in-Ok.ensures.made.2
+    ∙ settled_as v (item g c).0 k off _ (c.settled_by-settled.ensures k)
+    ∙ ap (λ m. lost_then (lost_by v (item g c).0) (settles v (item g c).0 k) k (fin.get m k))
+    (same ∙ here)
+    ∙ ap (λ w. lost_then (lost_by w (item g c).0) (settles w (item g c).0 k) k
+    (fin.get (lost_channels (heard (old g c))) k)) c.self.invariant.0.view_is)
 
 pub invariant_of-self-2 : goal.invariant_of-self-2
 invariant_of-self-2 g c = (
@@ -157,7 +176,7 @@ invariant_of-self-2 g c = (
       ∙ (ap (λ b. option_map_or (λ said. said) (says_online (item g c).0) b)
       c.self.invariant.0.online_is
       ∙ online_more (heard (old g c)) (item g c).0))
-      (lost_then g c)
+      (left g c)
       (delivered g c)
       (c.in_default-keep.ensures.ok ∙ ap (with_entry c.self.inside.history) c.in-Ok.ensures.made.0)
       refl
