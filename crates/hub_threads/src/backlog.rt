@@ -13,13 +13,13 @@ use std::io::Write;
 use welcome::Packet;
 
 /// How many bytes of more than one packet are written in one go at most, while writes take all.
-pub(crate) const ROOM: usize = 65_536;
+pub(crate) const ROOM: usize = 8_192;
 
 /// How many bytes of packets wait at most behind a write that lags.
 const LIMIT: usize = 1_048_576;
 
 /// Packets to be written, in the order in which they were taken. While each write takes all that it
-/// is given, there is room for 64 KiB, and no memory is taken. After one that did not, there is room
+/// is given, there is room for 8 KiB, and no memory is taken. After one that did not, there is room
 /// for 1 MiB until all is written. A packet with more bytes than there is room for, and with nothing
 /// before it, is written from where it is.
 #[derive(Drop)]
@@ -174,7 +174,7 @@ impl Backlog {
         }
     }
 
-    /// Gives back what an empty batch has of memory over 64 KiB, if there is memory for that.
+    /// Gives back what an empty batch has of memory over 8 KiB, if there is memory for that.
     fn shrink(&mut self)
         requires { self.old.batch.items ≡ [] }
         ensures { rest_of self.new ≡ rest_of self.old }

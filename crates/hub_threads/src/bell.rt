@@ -10,9 +10,6 @@ use std::time::Duration;
 /// How many milliseconds a worker sleeps at most that has a finite count of turns.
 const SHORT_SLEEP: u64 = 1;
 
-/// How many microseconds a worker rests at most.
-const REST: u64 = 1_000;
-
 /// What one worker sleeps on, and others wake it by: a ring that comes before it sleeps keeps it
 /// awake. With a flag, which the pump of a network raises while it waits for room in an outlet, and
 /// which is raised for a writer to tell it to stop. One worker at a time sleeps on it.
@@ -60,9 +57,10 @@ impl Bell {
         }
     }
 
-    /// Rests until it is rung, at most 1 ms. A worker that rests looks for work by itself then.
-    pub(crate) fn rest<R: Wait>(&self, rt: &R) {
-        self.parker.park_timeout(rt, Duration::from_micros(REST));
+    /// Rests until it is rung, at most this many microseconds. A worker that rests looks for work by
+    /// itself then.
+    pub(crate) fn rest<R: Wait>(&self, rt: &R, micros: u64) {
+        self.parker.park_timeout(rt, Duration::from_micros(micros));
     }
 
     /// Says that the worker is about to sleep: it looks for work once more, and whoever gives it

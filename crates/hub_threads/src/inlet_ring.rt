@@ -15,19 +15,30 @@ use rtrb::{Consumer, Producer, PushError, RingBuffer};
 use std::alloc::Global;
 use std::sync::{Arc, Wait};
 
+/// The other end of the ring, in which it waits to be emptied by whoever puts.
+type Left = Consumer<(Item, Moment)>;
+
 /// The end that items are put into, each with the moment at which it came. Dropping it wakes the
-/// pump.
+/// pump. Once the other end is dropped nobody takes what is put: this end then takes it out itself,
+/// so that whoever puts waits for nobody.
 pub struct InletEnd {
     producer: Producer<(Item, Moment)>,
+    // brings what the other end took from, once that is dropped
+    leavings: Consumer<Left>,
+    // what it brought
+    left: Option<Left>,
     // wakes the pump
     pump: SharedBell,
     // wakes the thread that has this end
     reader: SharedBell,
 }
 
-/// The end that a hub takes items from.
+/// The end that a hub takes items from. Dropping it hands what it took from to the other end, and
+/// wakes the thread that has that.
 pub struct RingInlet {
     consumer: Consumer<(Item, Moment)>,
+    // takes it to the other end, with a slot that stays free till then
+    leavings: Producer<Left>,
     // wakes the thread that has the other end
     reader: SharedBell,
 }
@@ -36,10 +47,14 @@ impl Drop for InletEnd {
     fn drop(self) {
         let InletEnd {
             producer,
+            leavings,
+            left,
             pump,
             reader,
         } = self;
         drop(producer);
+        drop(left);
+        drop(leavings);
         pump.ring();
         drop(pump);
         drop(reader);
@@ -48,8 +63,13 @@ impl Drop for InletEnd {
 
 impl Drop for RingInlet {
     fn drop(self) {
-        let RingInlet { consumer, reader } = self;
-        drop(consumer);
+        let RingInlet {
+            consumer,
+            mut leavings,
+            reader,
+        } = self;
+        let _ = leavings.push(consumer);
+        drop(leavings);
         reader.ring();
         drop(reader);
     }
@@ -70,16 +90,29 @@ pub fn inlet(
     let reader = shared_bell(alloc)?;
     let theirs = Arc::try_clone(&reader)?;
     let (producer, consumer) = RingBuffer::new(alloc, capacity)?;
+    let (leaving, leavings) = RingBuffer::new(alloc, 1)?;
     let end = InletEnd {
         producer,
+        leavings,
+        left: None,
         pump,
         reader,
     };
     let inlet = RingInlet {
         consumer,
+        leavings: leaving,
         reader: theirs,
     };
     Ok((end, inlet))
+}
+
+/// Takes out all that there is.
+fn empty(left: &mut Left) {
+    for _ in 0..left.capacity() {
+        if left.pop().is_err() {
+            return;
+        }
+    }
 }
 
 impl InletEnd {
@@ -116,14 +149,30 @@ impl InletEnd {
         self.pump.ring();
     }
 
+    /// Takes out what nobody will take, where the other end was dropped; whether it was.
+    fn empty_left(&mut self) -> bool
+        ensures { put_of self.new ≡ put_of self.old }
+    {
+        if let Ok(left) = self.leavings.pop() {
+            self.left = Some(left);
+        }
+        match &mut self.left {
+            Some(left) => {
+                empty(left);
+                true
+            }
+            None => false,
+        }
+    }
+
     /// Wakes the pump, and sleeps until it has taken half of what the ring holds; not at all where
-    /// there is room already.
+    /// there is room already, or the other end was dropped, which makes room.
     pub(crate) fn wait_for_room<R: Wait>(&mut self, rt: &R)
         ensures { put_of self.new ≡ put_of self.old }
     {
         self.pump.ring();
         self.reader.nod();
-        if self.producer.is_full() {
+        if self.producer.is_full() && !self.empty_left() {
             self.reader.sleep(rt, u64::MAX);
         }
         self.reader.rise();

@@ -196,11 +196,11 @@ impl OutletEnd {
         self.writer.rise();
     }
 
-    /// Rests after a write, so that what comes meanwhile goes in one write: at most 1 ms, and until
-    /// half of the ring waits. Not at all once the closing item was taken.
-    pub(crate) fn rest<R: Wait>(&self, rt: &R) {
-        if self.closed.is_none() {
-            self.writer.rest(rt);
+    /// Rests after a write, so that what comes meanwhile goes in one write: at most this many
+    /// microseconds, and until half of the ring waits. Not at all once the closing item was taken.
+    pub(crate) fn rest<R: Wait>(&self, rt: &R, micros: u64) {
+        if micros > 0 && self.closed.is_none() {
+            self.writer.rest(rt, micros);
         }
     }
 

@@ -14,7 +14,7 @@ use rtrb::RingBuffer;
 use std::alloc::Global;
 use std::sync::Arc;
 
-/// Both ends of one ring, for this many packets at a time, and 64 KiB of room to write from. Who
+/// Both ends of one ring, for this many packets at a time, and 8 KiB of room to write from. Who
 /// sleeps on `pump` with its flag up is woken when a packet is taken and no further one is known.
 /// `OutOfMemory` is told where an allocation was refused, and for no other cause.
 pub fn outlet(

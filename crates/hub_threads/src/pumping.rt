@@ -19,7 +19,7 @@ use std::time::Duration;
 pub const REFUSED_REST: u64 = 10;
 
 /// How many refusals for memory there may be in succession.
-const REFUSALS: u32 = 1_000;
+pub const REFUSALS: u32 = 1_000;
 
 /// Why a pump ended.
 #[derive(Clone, Copy, Debug, PartialEq, Eq)]

@@ -15,7 +15,7 @@ const CALLS: u32 = 750;
 pub(crate) struct Slowness {
     // calls in succession that took nothing
     idle: u32,
-    // calls that left something while the session was cut
+    // calls since the session was cut; what is left for it then takes less than half of those
     late: u32,
 }
 
@@ -26,15 +26,15 @@ impl Slowness {
     }
 
     /// Counts a call. Whether the writer gives up: after a call that failed, after 30 s in which no
-    /// byte was taken, and once the session is cut, after 30 s in which its reader was slow.
+    /// byte was taken, and once the session is cut, after 30 s whatever was taken.
     pub(crate) fn is_too_much(&mut self, call: Call, is_cut: bool) -> bool {
         match call {
             Call::Failed => return true,
-            Call::Interrupted => return false,
+            Call::Interrupted => {}
             Call::Whole | Call::Part => self.idle = 0,
             Call::Blocked => self.idle = self.idle.saturating_add(1),
         }
-        if is_cut && call != Call::Whole {
+        if is_cut {
             self.late = self.late.saturating_add(1);
         }
         self.idle >= CALLS || self.late >= CALLS

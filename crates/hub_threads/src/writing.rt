@@ -11,6 +11,7 @@ ghost use Rattle.hub_threads.specs.Writes.{IsOver, IsWritten};
 
 use crate::backlog::Backlog;
 use crate::gate::{Gate, Point};
+use crate::lull::Lull;
 use crate::outlet_end::OutletEnd;
 use crate::slowness::Slowness;
 use std::io::Write;
@@ -111,7 +112,7 @@ fn write_once<W: Write, G: Gate>(
 
 /// Takes packets and writes them, until the closing item was taken, the other end is gone and
 /// nothing is left, a write fails, it is told to stop, or so many takes in succession gave nothing.
-/// What waits in the ring is written in one go, through the room of 64 KiB that the end has, and
+/// What waits in the ring is written in one go, through the room of 8 KiB that the end has, and
 /// then flushed; a packet that is longer is written as it is. So one packet goes out at once.
 ///
 /// A write call that does not take all that it is given, or that takes nothing in its time, is
@@ -121,8 +122,9 @@ fn write_once<W: Write, G: Gate>(
 /// milliseconds, and for a session that was cut if not all was taken within 30 s. A write that is
 /// interrupted is tried again.
 ///
-/// After a write it rests for at most 1 ms, so that what comes meanwhile goes out in one write.
-/// Where no packet waits it sleeps until it is woken: at most 1 ms a time, unless `idle` is
+/// After a write of two packets or more it rests for at most 1 ms, so that what comes meanwhile
+/// goes out in one write, and after one packet for half as long as before, or not at all. If no
+/// packet waits it sleeps until it is woken: at most 1 ms a time, unless `idle` is
 /// 18446744073709551615.
 pub fn write_out<W: Write, G: Gate, R: Wait>(
     rt: &R,
@@ -140,16 +142,20 @@ pub fn write_out<W: Write, G: Gate, R: Wait>(
     let mut out = out;
     let mut backlog = Backlog::new(end.lend_buffer());
     let mut slowness = Slowness::none();
+    let mut lull = Lull::new();
     let mut count = 0u64;
     for _ in rt.forever() {
         match take_packet(&mut end, &mut backlog) {
-            Some(bytes) => count = count.saturating_add(bytes),
+            Some(bytes) => {
+                count = count.saturating_add(bytes);
+                lull.count_packet();
+            }
             None if !backlog.is_empty() => {
                 if !write_once(&mut out, &mut backlog, &mut end, &mut slowness, gate) {
                     return handed_back(end, backlog, out, fresh, Err(WriteFault), gate);
                 }
                 if backlog.is_empty() {
-                    end.rest(rt);
+                    end.rest(rt, lull.after_write());
                 }
             }
             None => {

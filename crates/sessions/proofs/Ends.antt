@@ -1,5 +1,5 @@
 -- How a login ends.
-use Rattle.std.specs.Prelude.{◌≡◌, ℕ, ◌+◌, Bool, true, false, not, ◌&&◌, ◌||◌, ◌==◌, nat_le, length}
+use Rattle.std.specs.Prelude.{◌≡◌, ℕ, ◌+◌, Bool, true, false, ◌||◌, ◌==◌, nat_le, length}
 use Rattle.std.specs.Prelude.{List, [], ◌∷◌, ◌++◌, if◌then◌else◌}
 use Rattle.std.specs.List.{list_any}
 use Rattle.std.proofs.Common.{Option, Some, None, ◌⊎◌, inl, inr, refl, sym, ◌∙◌, arith}
@@ -122,10 +122,3 @@ goes_on before line going quit complete last =
     let few : nat_le 200 (length before) ≡ false = rest.1 in
     let low : nat_le 200 (length before + 1) ≡ false = grind (arith, nat_tests) in
     ended_more before line ∙ rw (none.0, rest.0, quit, complete, low) refl
-
--- what is not complete lacks PASS where all else is there
-pub lacks_where_ready : (ready pass : Bool) → (ready && pass) ≡ false
-    → (ready && not pass) ≡ ready
-lacks_where_ready true true h = cc
-lacks_where_ready true false h = refl
-lacks_where_ready false pass h = refl

@@ -1,7 +1,6 @@
 -- What a login is answered after a list of lines, and how it ends (RFC 2812, section 3.1; IRCv3
--- capability negotiation). The limit of lines, that a login without PASS is told so once, and the
--- texts are our own choice.
-use Rattle.std.specs.Prelude.{Bool, true, false, not, ◌&&◌, ◌||◌, ◌==◌, nat_le, List, [], ◌∷◌}
+-- capability negotiation). The limit of lines and the texts are our own choice.
+use Rattle.std.specs.Prelude.{Bool, true, false, ◌||◌, ◌==◌, nat_le, List, [], ◌∷◌}
 use Rattle.std.specs.Prelude.{◌++◌, codes, length, is_some, Option, Some, None, if◌then◌else◌}
 use Rattle.std.specs.List.{list_any}
 use Rattle.std.specs.Option.{option_and_then, option_to_list}
@@ -13,7 +12,7 @@ use Rattle.client_caps.specs.Answers.{answer_for, asked, asked_text, from_bounce
 use Rattle.client_caps.specs.declared.answers.Asked.{Asked}
 use Rattle.client_caps.specs.declared.answers.Asked.TheVariants.{Nothing}
 use Rattle.sessions.specs.Claims.{ClaimParts, claim_by}
-use Rattle.sessions.specs.Given.{held_in, is_complete, lacks_pass, pass_in, stages, user_in}
+use Rattle.sessions.specs.Given.{held_in, is_complete, pass_in, stages, user_in}
 
 -- lines are sent and it goes on; or it is a claim; or lines are sent and it is over
 pub data Answer : Type 0 where
@@ -35,9 +34,6 @@ not_registered = reply (codes "451") (codes "You have not registered")
 abbrev pub password_incorrect : Parts
 password_incorrect = reply (codes "464") (codes "Password incorrect")
 
-abbrev pub password_required : Parts
-password_required = reply (codes "464") (codes "Password required")
-
 -- what a login is made of
 abbrev pub is_of_login : Parts → Bool
 is_of_login line =
@@ -53,18 +49,9 @@ abbrev pub reply_by : Caps → Parts → Asked → Option Parts
 reply_by held line Nothing = if is_of_login line then None else Some not_registered
 reply_by held line what = answer_for None held (is_granted held line) line what
 
--- that PASS is missing is said once, by the first line after which nothing else is
-abbrev pub is_reminded : List Parts → List Parts → Bool
-is_reminded before after = lacks_pass after && not (list_any lacks_pass (stages before))
-
-abbrev pub reminder : Bool → List Parts
-reminder is_said = if is_said then password_required ∷ [] else []
-
 -- what is sent for a line that does not end the login
 abbrev pub replies : List Parts → Parts → List Parts
-replies before line =
-    option_to_list (reply_by (held_in before) line (asked line))
-    ++ reminder (is_reminded before (before ++ line ∷ []))
+replies before line = option_to_list (reply_by (held_in before) line (asked line))
 
 -- ---- how it ends
 

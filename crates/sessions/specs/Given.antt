@@ -74,10 +74,6 @@ is_ready lines = is_some (nick_in lines) && (is_some (user_in lines) && not (is_
 abbrev pub is_complete : List Parts → Bool
 is_complete lines = is_ready lines && is_some (pass_in lines)
 
--- nothing is missing but PASS
-abbrev pub lacks_pass : List Parts → Bool
-lacks_pass lines = is_ready lines && not (is_some (pass_in lines))
-
 -- the lines so far, after none of them, after the first and so on
 abbrev pub stages : List Parts → List (List Parts)
 stages [] = [] ∷ []

@@ -1,9 +1,8 @@
 -- Where a login stands after a list of lines.
 use Rattle.std.specs.Prelude.{◌≡◌, false, List, length, is_some}
-use Rattle.std.specs.List.{list_any}
 use Rattle.irc_line.specs.Line.{Parts}
 use Rattle.sessions.specs.Claims.{parts_of}
-use Rattle.sessions.specs.Given.{lacks_pass, negotiation_in, nick_in, pass_in, stages, user_in}
+use Rattle.sessions.specs.Given.{negotiation_in, nick_in, pass_in, user_in}
 use Rattle.sessions.specs.Answers.{Answer, sends, claims, closes, has_ended}
 use Rattle.sessions.specs.Progress.{Progress}
 use Rattle.sessions.specs.declared.login.LoginStep.{LoginStep}
@@ -22,7 +21,6 @@ IsAt lines login = record {
   user : login.user ≡ user_in lines;
   pass : login.pass ≡ pass_in lines;
   negotiation : login.negotiation ≡ negotiation_in lines;
-  reminded : login.is_reminded ≡ list_any lacks_pass (stages lines);
   count : login.count ≡ length lines;
 }
 

@@ -48,8 +48,6 @@ pub struct Login {
     user: Option<Vec<u8>>,
     pass: Option<Vec<u8>>,
     negotiation: Negotiation,
-    // whether it was said that PASS is missing
-    is_reminded: bool,
     // how many lines came
     count: usize,
     is_over: bool,
@@ -66,7 +64,6 @@ impl Model for Login {
       user = option_map (λ text. text.items) login.user;
       pass = option_map (λ text. text.items) login.pass;
       negotiation = login.negotiation;
-      is_reminded = login.is_reminded;
       count = login.count;
       is_over = login.is_over;
     } };
@@ -85,7 +82,6 @@ impl Login {
             user: None,
             pass: None,
             negotiation: Negotiation::none(),
-            is_reminded: false,
             count: 0,
             is_over: false,
         }
@@ -165,9 +161,7 @@ impl Login {
     /// | QUIT, or the 200th line | closed, with no line |
     /// | any other | `:bnc 451 * :You have not registered` |
     ///
-    /// The line after which nothing but PASS is missing is answered, once a login, by
-    /// `:bnc 464 * :Password required`. A login that names no network is closed with
-    /// `:bnc 464 * :Password incorrect`.
+    /// A login that names no network is closed with `:bnc 464 * :Password incorrect`.
     pub fn line(&mut self, line: &Line) -> Result<LoginStep, OutOfMemory>
         ensures answer { (before : List Parts) → HasTaken before self.old →
             IfOk result (λ step. answer_of step ≡ answer_to before line.now) }
@@ -193,15 +187,13 @@ impl Login {
             self.is_over = true;
             return Ok(LoginStep::Closed(Vec::new(alloc)));
         }
-        let is_reminded = is_ready & !self.is_reminded;
-        let lines = replies(alloc, self.negotiation.held, line, is_reminded)?;
+        let lines = replies(alloc, self.negotiation.held, line)?;
         let user = copied(alloc, given(line, b"USER"))?;
         let pass = copied(alloc, given(line, b"PASS"))?;
         self.has_nick = self.has_nick_after(line);
         replace(&mut self.user, user);
         replace(&mut self.pass, pass);
         self.negotiation = negotiation;
-        self.is_reminded |= is_ready;
         self.count += 1;
         Ok(LoginStep::Send(lines))
     }

@@ -4,8 +4,8 @@ ghost use Rattle.std.specs.Prelude.{◌≡◌, ◌++◌, ◌∷◌, [], IfOk, Is
 ghost use Rattle.std.specs.Option.{option_to_list};
 ghost use Rattle.irc_line.specs.Writing.{is_writable};
 ghost use Rattle.client_caps.specs.Answers.{asked};
-ghost use Rattle.sessions.specs.Answers.{is_granted, is_of_login, password_incorrect, reminder};
-ghost use Rattle.sessions.specs.Answers.{reply, reply_by};
+ghost use Rattle.sessions.specs.Answers.{is_granted, is_of_login, password_incorrect, reply};
+ghost use Rattle.sessions.specs.Answers.{reply_by};
 
 use crate::OutOfMemory;
 use client_caps::{Asked, Caps, answer, asked_text, read_request};
@@ -55,30 +55,13 @@ fn push_some(lines: &mut Vec<Line>, line: Option<Line>) -> Result<(), OutOfMemor
     Ok(())
 }
 
-/// Adds that PASS is missing, where this is to be said.
-fn push_reminder(alloc: Global, lines: &mut Vec<Line>, is_said: bool) -> Result<(), OutOfMemory>
-    ensures { OnOk result (lines.new.items ≡ lines.old.items ++ reminder is_said) }
-{
-    if is_said {
-        lines.push(reply(alloc, b"464", b"Password required")?)?;
-    }
-    Ok(())
-}
-
-/// What is sent for a line that does not end the login: what it is answered, and, where it is to be
-/// said, that PASS is missing.
-pub(crate) fn replies(
-    alloc: Global,
-    held: Caps,
-    line: &Line,
-    is_reminded: bool,
-) -> Result<Vec<Line>, OutOfMemory>
+/// What is sent for a line that does not end the login.
+pub(crate) fn replies(alloc: Global, held: Caps, line: &Line) -> Result<Vec<Line>, OutOfMemory>
     ensures { IfOk result (λ lines. lines.items
-        ≡ option_to_list (reply_by held line.now (asked line.now)) ++ reminder is_reminded) }
+        ≡ option_to_list (reply_by held line.now (asked line.now))) }
 {
     let mut lines = Vec::new(alloc);
     push_some(&mut lines, reply_to(alloc, held, line)?)?;
-    push_reminder(alloc, &mut lines, is_reminded)?;
     Ok(lines)
 }
 

@@ -1,15 +1,14 @@
-use Rattle.std.proofs.Common.{◌∙◌, ◌≡◌, ◌+◌, ◌++◌, ◌∷◌, [], sym, ap, refl, codes}
+use Rattle.std.proofs.Common.{◌∙◌, ◌≡◌, ◌+◌, ◌++◌, ◌∷◌, [], sym, ap, codes}
 use Rattle.std.proofs.Common.{length-append, List, ℕ, Option}
 use Rattle.net_view.specs.LookBack.{last_in}
 use Rattle.std.specs.Prelude.{is_some}
 use Rattle.std.specs.Option.{option_or}
 use Rattle.std.proofs.lemmas.Bool.{both_ways}
 use Rattle.irc_line.specs.Line.{Parts}
-use Rattle.sessions.specs.Given.{given, lacks_pass, is_ready, pass_in}
+use Rattle.sessions.specs.Given.{given}
 use Rattle.sessions.specs.Progress.{Progress}
 use Rattle.sessions.proofs.Ends.{ended_stays, ends_at_200, ends_complete, goes_on}
-use Rattle.sessions.proofs.Ends.{lacks_where_ready}
-use Rattle.sessions.proofs.LookedBack.{any_stage_more, last_more}
+use Rattle.sessions.proofs.LookedBack.{last_more}
 use Rattle.sessions.proofs.login.Login.line.Goals as goal
 
 -- a text that is replaced by what a line gives
@@ -64,9 +63,6 @@ returns-clause-taken c = λ before taken.
     (λ last. c.if-self-eq199.false (ap (λ (p : Progress). p.count) c.self.view_is ∙ at.count
     ∙ last))
     in
-    let was = ap (λ (p : Progress). p.is_reminded) c.self.view_is ∙ at.reminded in
-    let lacks = lacks_where_ready (is_ready (before ++ line ∷ []))
-    (is_some (pass_in (before ++ line ∷ []))) complete in
     record {
       over = c.if-self.false ∙ sym on;
       going = λ _. record {
@@ -78,7 +74,6 @@ returns-clause-taken c = λ before taken.
             ∙ given_last (codes "PASS") before line _ _ (c.in_ok-pass.ensures ∙ c.given-2.ensures)
             (ap (λ (p : Progress). p.pass) c.self.view_is ∙ at.pass);
         negotiation = now;
-        reminded = rw (was, ready, any_stage_more lacks_pass before line, lacks) refl;
         count = ap (λ n. n + 1) (ap (λ (p : Progress). p.count) c.self.view_is ∙ at.count)
             ∙ sym (length-append before (line ∷ []));
       };
