@@ -6,38 +6,56 @@ use std::io;
 use std::io::{Read, Write};
 use std::net::TcpStream;
 use std::sync::Arc;
+use std::sync::atomic::{AtomicBool, Ordering};
+
+/// A stream, and whether it was shut.
+#[derive(Drop)]
+struct Line {
+    stream: TcpStream,
+    is_shut: AtomicBool,
+}
 
 /// A connection, in as many hands as need be: all of them are one descriptor, which is closed with
 /// the last.
 #[derive(Drop)]
 pub struct Connection {
-    stream: Arc<TcpStream>,
+    line: Arc<Line>,
 }
 
 impl Connection {
     /// The connection that a stream is. `AllocError` where memory is refused; the stream is closed
     /// then.
     pub fn new(alloc: Global, stream: TcpStream) -> Result<Connection, AllocError> {
+        let line = Line {
+            stream,
+            is_shut: AtomicBool::new(false),
+        };
         Ok(Connection {
-            stream: Arc::new(alloc, stream)?,
+            line: Arc::new(alloc, line)?,
         })
     }
 
     /// The same connection in another hand.
     pub fn share(&self) -> Result<Connection, AllocError> {
         Ok(Connection {
-            stream: Arc::try_clone(&self.stream)?,
+            line: Arc::try_clone(&self.line)?,
         })
     }
 
     /// The stream.
     pub fn stream(&self) -> &TcpStream {
-        &self.stream
+        &self.line.stream
     }
 
     /// Shuts it: each read of it, also one that waits, then answers its end, and each write fails.
     pub fn hang_up(&self) {
-        hang_up(&self.stream);
+        self.line.is_shut.store(true, Ordering::SeqCst);
+        hang_up(&self.line.stream);
+    }
+
+    /// Whether it was shut by one of its hands.
+    pub fn is_shut(&self) -> bool {
+        self.line.is_shut.load(Ordering::SeqCst)
     }
 }
 

@@ -8,10 +8,11 @@ use crate::link::Link;
 use crate::recalling::Recalling;
 use crate::rejoining::rejoin;
 use crate::shared::{Served, Shared};
+use crate::slot::Slot;
 use crate::timed::{OnSilence, Patient, Until};
 use hub_threads::{
-    FreeGate, InletEnd, Network, OutletEnd, ReadEnd, Reading, Stopper, WRITE_CALL, Written,
-    put_lines, read_in, write_out,
+    FreeGate, InletEnd, OutletEnd, ReadEnd, Reading, Stopper, WRITE_CALL, Written, put_lines,
+    read_in, write_out,
 };
 use irc_line::Line;
 use quick_view::QuickView;
@@ -87,12 +88,14 @@ fn register<R: Clock>(
 #[derive(Drop)]
 struct KeepAlive<'a, R: Wait> {
     rt: &'a R,
-    network: &'a Network<QuickView>,
+    slot: &'a Slot<QuickView>,
 }
 
 impl<R: Wait> OnSilence for KeepAlive<'_, R> {
     fn silent(&mut self) {
-        let _ = self.network.lock(self.rt).keepalive();
+        if let Some(network) = self.slot.network(self.rt) {
+            let _ = network.lock(self.rt).keepalive();
+        }
     }
 }
 
@@ -133,7 +136,7 @@ fn read_from<R: Wait + Clock>(
     put_lines(rt, &mut inlet, lines, hub_threads::Clock::now(&clock));
     let alive = KeepAlive {
         rt,
-        network: served.network,
+        slot: served.slot,
     };
     let patient = Patient::new(connection.stream(), alive, served.limits.silences);
     let mut reader = Recalling::new(alloc, patient);
@@ -244,6 +247,21 @@ fn come_in<R: Wait + Clock + Net<Listener = TcpListener, Stream = TcpStream>>(
     }
 }
 
+/// Tells that there is no memory for a connection.
+fn without_memory<R: Clock + Wait>(rt: &R, served: &Served<'_>, link: Link) -> Link {
+    let retry = served.limits.retry.as_secs();
+    served.tell(rt, &Event::ConnectionWithoutMemory { retry });
+    link
+}
+
+/// Whether there is a network to dial, and its hub has taken the loss of its last connection.
+fn is_offline<R: Wait>(rt: &R, served: &Served<'_>) -> bool {
+    match served.slot.network(rt) {
+        Some(network) => !network.lock(rt).is_online(),
+        None => false,
+    }
+}
+
 /// Dials once, and serves the connection to its end.
 fn dial<
     R: Threads
@@ -259,21 +277,19 @@ fn dial<
         return link;
     };
     let connection = Connection::new(alloc, stream);
-    let shared = connection.and_then(|one| Ok((one.share()?, one)));
-    let Ok((theirs, connection)) = shared else {
-        served.tell(
-            rt,
-            &Event::ConnectionWithoutMemory {
-                retry: served.limits.retry.as_secs(),
-            },
-        );
-        return link;
+    let shared = connection.and_then(|one| Ok((one.share()?, one.share()?, one)));
+    let Ok((noted, theirs, connection)) = shared else {
+        return without_memory(rt, served, link);
     };
+    if !served.slot.connect(rt, noted) {
+        return without_memory(rt, served, link);
+    }
     let address = served.settings.address();
     let nick = nick_in(welcomed.lines.as_slice());
     served.tell(rt, &Event::Connected { address, nick });
     rejoin(rt, alloc, served, connection.stream());
     let (link, parting) = run(rt, alloc, served, &connection, theirs, welcomed, link);
+    served.slot.disconnect(rt);
     match parting {
         Some(parting) => tell_loss(rt, served, &parting),
         None => served.tell(
@@ -288,7 +304,8 @@ fn dial<
 
 /// Dials the network at this place, from 0, and dials it again whenever the connection has ended,
 /// as often as the limits say, with the time between two dials. It is dialled once its hub has
-/// taken the loss of the last connection; what waited for that is dropped.
+/// taken the loss of the last connection; what waited for that is dropped. One that was begun anew
+/// is dialled by its own link.
 pub fn stay_connected<
     R: Threads
         + Wait
@@ -304,8 +321,8 @@ pub fn stay_connected<
     };
     let mut link = link;
     for _ in 0..served.limits.dials {
-        let is_online = served.network.lock(rt).is_online();
-        if !is_online {
+        link = served.slot.link_of_now(rt, link);
+        if is_offline(rt, &served) {
             link.drop_unsent();
             link = dial(rt, alloc, &served, link);
         }

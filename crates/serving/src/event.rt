@@ -46,6 +46,8 @@ pub enum Event<'a> {
     },
     /// A pump was refused memory again and again, and goes on.
     PumpWithoutMemory,
+    /// A pump was refused memory for too long, so its network is begun anew.
+    BegunAnew,
     /// The numbers of messages are spent, so nothing more is taken from a network.
     PumpSpent,
     /// A client has logged in.
@@ -87,6 +89,11 @@ pub enum Event<'a> {
         whole: bool,
         /// How many bytes were written to its client.
         bytes: u64,
+    },
+    /// A client went that had said lines which were not yet let in.
+    Unsaid {
+        /// How many.
+        lines: u64,
     },
     /// There was no memory or thread for a session.
     SessionWithoutMemory,
@@ -153,6 +160,10 @@ impl Event<'_> {
                 "connection given up: no thread to write with; dials again in {retry} s"
             ),
             Event::PumpWithoutMemory => write!(f, "out of memory, tries again"),
+            Event::BegunAnew => write!(
+                f,
+                "out of memory, begun anew: the messages and marks kept are gone"
+            ),
             Event::PumpSpent => write!(f, "message numbers spent, takes no more"),
             _ => Ok(()),
         }
@@ -179,6 +190,9 @@ impl fmt::Display for Event<'_> {
             } => {
                 let fault = if *whole { "" } else { "cannot write; " };
                 write!(f, "session ended: {cause}; {fault}{bytes} bytes written")
+            }
+            Event::Unsaid { lines } => {
+                write!(f, "lost {lines} lines that the client had not yet said")
             }
             Event::SessionWithoutMemory => write!(f, "out of memory or threads"),
             Event::CannotAccept(error) => write!(f, "cannot accept: {error}"),

@@ -3,6 +3,8 @@
 #![tactic(auto)]
 
 mod accepting;
+mod ahead;
+mod anew;
 mod client;
 mod clock;
 mod closing;
@@ -10,9 +12,11 @@ mod connection;
 mod counted;
 mod dialling;
 mod event;
+mod guests;
 mod limits;
 mod link;
 mod log;
+mod pace;
 mod paced;
 mod pumping;
 mod recalling;
@@ -21,16 +25,21 @@ mod rejoining;
 mod seats;
 mod shared;
 mod shown;
+mod slot;
 mod starting;
 mod timed;
 
 pub use accepting::accept;
+pub use anew::{Start, begin_anew};
 pub use clock::SystemClock;
 pub use event::Event;
 pub use limits::Limits;
 pub use link::{Link, network_with_link};
 pub use log::Log;
+pub use pumping::Pump;
 pub use recalling::Recalling;
+pub use rejoining::JoinLines;
 pub use shared::Shared;
 pub use shown::{Held, Shown, Who};
+pub use slot::Slot;
 pub use starting::{start_log, start_networks};

@@ -40,6 +40,12 @@ pub struct Limits {
     pub silence: Duration,
     /// After so many of these in succession its connection is shut.
     pub silences: u32,
+    /// How many sessions a network has at most, those included whose writer has not ended.
+    pub sessions: u64,
+    /// How many bytes the clients of a network, all together, may say to it at once.
+    pub burst: u64,
+    /// How many bytes a second they may say after that; 0 counts as 1.
+    pub pace: u64,
     /// How many turns a pump makes at a time.
     pub turns: u64,
     /// How many packets may wait for a network, and how many items of it for its hub; 0 counts as
@@ -70,6 +76,9 @@ impl Limits {
             registration: Duration::from_secs(120),
             silence: Duration::from_secs(120),
             silences: 2,
+            sessions: 64,
+            burst: 1_500,
+            pace: 100,
             turns: u64::MAX,
             packets: 256,
         }

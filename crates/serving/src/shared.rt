@@ -1,15 +1,17 @@
 //! What all threads share.
 
 use crate::event::Event;
+use crate::guests::Guests;
 use crate::limits::Limits;
 use crate::link::{Link, network_with_link};
 use crate::log::Log;
 use crate::refusals::Refusals;
 use crate::seats::Seats;
 use crate::shown::Who;
+use crate::slot::Slot;
 use bnc_config::{Config, NetworkConfig, Place};
-use hub_threads::Network;
 use quick_view::QuickView;
+use sessions::Claim;
 use std::alloc::{AllocError, Global};
 use std::rt::Clock;
 use std::sync::Wait;
@@ -21,7 +23,9 @@ pub struct Shared {
     config: Config,
     limits: Limits,
     log: Log,
-    networks: Vec<(Place, Network<QuickView>)>,
+    networks: Vec<(Place, Slot<QuickView>)>,
+    // the clients of each network that are served
+    guests: Vec<(Place, Guests)>,
     // the connections that wait for their login
     seats: Seats,
     // what the log told of connections that were refused
@@ -37,8 +41,8 @@ pub struct Served<'a> {
     pub who: Who<'a>,
     /// Its settings.
     pub settings: &'a NetworkConfig,
-    /// Its hub, behind the lock.
-    pub network: &'a Network<QuickView>,
+    /// Where its hub stands.
+    pub slot: &'a Slot<QuickView>,
     /// How long things may take.
     pub limits: Limits,
     /// Where it is told what happens.
@@ -61,11 +65,13 @@ impl Shared {
         limits: Limits,
     ) -> Result<(Shared, Vec<Link>), AllocError> {
         let mut networks = Vec::new(alloc);
+        let mut guests = Vec::new(alloc);
         let mut links = Vec::new(alloc);
         for user in 0..config.user_count() {
             for network in 0..config.network_count(user) {
                 let (hub, link) = network_with_link(alloc, config.history(), limits.packets)?;
-                networks.push((Place { user, network }, hub))?;
+                networks.push((Place { user, network }, Slot::new(alloc, hub)?))?;
+                guests.push((Place { user, network }, Guests::new(&limits)))?;
                 links.push(link)?;
             }
         }
@@ -75,6 +81,7 @@ impl Shared {
             limits,
             log: Log::new(alloc)?,
             networks,
+            guests,
             seats: Seats::new(alloc),
             refusals: Refusals::new(alloc)?,
             dialled,
@@ -98,13 +105,32 @@ impl Shared {
     }
 
     /// The networks, each with its place in the settings.
-    pub fn networks(&self) -> &[(Place, Network<QuickView>)] {
+    pub fn networks(&self) -> &[(Place, Slot<QuickView>)] {
         self.networks.as_slice()
     }
 
     /// How many connections wait for their login.
     pub fn logins<R: Wait>(&self, rt: &R) -> u64 {
         self.seats.count(rt)
+    }
+
+    /// How many clients of the networks are served, all together. One counts until the thread that
+    /// writes to it has ended.
+    pub fn sessions(&self) -> u64 {
+        let mut count = 0u64;
+        for (_, guests) in &self.guests {
+            count = count.saturating_add(guests.count());
+        }
+        count
+    }
+
+    /// The clients that are served of the network that a client claims; `None` where there is no
+    /// such network.
+    pub(crate) fn guests_of(&self, claim: &Claim) -> Option<&Guests> {
+        let (user, network) = (claim.user.as_slice(), claim.network.as_slice());
+        let place = self.config.find(user, network)?;
+        let found = self.guests.iter().find(|one| one.0 == place)?;
+        Some(&found.1)
     }
 
     /// The seats for logins.
@@ -119,7 +145,7 @@ impl Shared {
 
     /// The network at this place among the networks, from 0.
     pub(crate) fn served(&self, at: usize) -> Option<Served<'_>> {
-        let (place, network) = self.networks.get(at)?;
+        let (place, slot) = self.networks.get(at)?;
         let settings = self.config.network(*place)?;
         let user = self.config.users().get(place.user)?;
         Some(Served {
@@ -129,7 +155,7 @@ impl Shared {
                 network: settings.name(),
             },
             settings,
-            network,
+            slot,
             limits: self.limits,
             log: &self.log,
         })

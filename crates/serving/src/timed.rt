@@ -71,6 +71,14 @@ impl<'a, C: Clock> Until<'a, C> {
             limit,
         })
     }
+
+    /// Whether this time is over.
+    pub(crate) fn is_over(&self) -> bool {
+        match self.start.elapsed(self.clock) {
+            Ok(passed) => passed >= self.limit,
+            Err(_) => false,
+        }
+    }
 }
 
 impl<C: Clock> Read for Until<'_, C> {

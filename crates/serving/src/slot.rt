@@ -1,0 +1,190 @@
+//! The slot in which a network stands, and which stays when the network is begun anew.
+
+use crate::connection::Connection;
+use crate::link::Link;
+use hub_threads::Network;
+use net_view::NetworkView;
+use std::alloc::{AllocError, Global};
+use std::mem;
+use std::sync::{Arc, Mutex, Wait};
+
+/// A client of the network.
+#[derive(Drop)]
+struct Client {
+    number: u64,
+    connection: Connection,
+}
+
+/// What stands in a slot.
+#[derive(Drop)]
+struct Standing<V: NetworkView + Drop> {
+    // none while it is begun anew
+    network: Option<Arc<Network<V>>>,
+    // the link of a network that was begun anew, until the thread that dials takes it
+    link: Option<Link>,
+    // the connection to the network
+    upstream: Option<Connection>,
+    // the clients that were let in to it
+    clients: Vec<Client>,
+    // the number of the next client
+    next: u64,
+}
+
+impl<V: NetworkView + Drop> Standing<V> {
+    /// The network, in another hand.
+    fn network_of_now(&self) -> Option<Arc<Network<V>>> {
+        match &self.network {
+            Some(network) => Arc::try_clone(network).ok(),
+            None => None,
+        }
+    }
+
+    /// The network, for one client more, whose number comes with it.
+    fn enter(&mut self, connection: Connection) -> Option<(Arc<Network<V>>, u64)> {
+        let network = self.network_of_now()?;
+        let number = self.next;
+        self.clients.push(Client { number, connection }).ok()?;
+        self.next = number.wrapping_add(1);
+        Some((network, number))
+    }
+
+    /// Takes out a client.
+    fn leave(&mut self, number: u64) -> Option<Client> {
+        let place = self.clients.iter().position(|one| one.number == number)?;
+        Some(self.clients.remove(place))
+    }
+
+    /// Takes out all that stands here.
+    fn clear(&mut self) -> Standing<V> {
+        let empty = Standing {
+            network: None,
+            link: None,
+            upstream: None,
+            clients: Vec::new(*self.clients.allocator()),
+            next: self.next,
+        };
+        mem::replace(self, empty)
+    }
+}
+
+/// The slot of a network. The network that stands in it is begun anew when memory is refused for
+/// too long; its connections and its link are then those of a network that is gone.
+#[derive(Drop)]
+pub struct Slot<V: NetworkView + Drop> {
+    standing: Mutex<Standing<V>>,
+}
+
+/// A client's stay at the network that stood in a slot when it came. Dropping it ends that.
+pub(crate) struct Stay<'a, V: NetworkView + Drop, R: Wait + Drop> {
+    rt: R,
+    slot: &'a Slot<V>,
+    number: u64,
+    /// The network.
+    pub(crate) network: Arc<Network<V>>,
+}
+
+impl<V: NetworkView + Drop, R: Wait + Drop> Drop for Stay<'_, V, R> {
+    fn drop(self) {
+        let Stay {
+            rt,
+            slot,
+            number,
+            network,
+        } = self;
+        // what is closed or freed by it is so outside the lock
+        let left = slot.standing.lock(&rt).leave(number);
+        drop(left);
+        drop(network);
+    }
+}
+
+impl<V: NetworkView + Drop, R: Wait + Drop> Stay<'_, V, R> {
+    /// Whether the network was begun anew since, so that the client's connection was shut.
+    pub(crate) fn is_over(&self) -> bool {
+        let standing = self.slot.standing.lock(&self.rt);
+        !standing.clients.iter().any(|one| one.number == self.number)
+    }
+}
+
+impl<V: NetworkView + Drop> Slot<V> {
+    /// A slot in which this network stands.
+    pub fn new(alloc: Global, network: Network<V>) -> Result<Slot<V>, AllocError> {
+        Ok(Slot {
+            standing: Mutex::new(Standing {
+                network: Some(Arc::new(alloc, network)?),
+                link: None,
+                upstream: None,
+                clients: Vec::new(alloc),
+                next: 0,
+            }),
+        })
+    }
+
+    /// The network; `None` while it is begun anew.
+    pub fn network<R: Wait>(&self, rt: &R) -> Option<Arc<Network<V>>> {
+        let standing = self.standing.lock(rt);
+        standing.network_of_now()
+    }
+
+    /// Lets a client in, whose connection is shut when the network is begun anew. `None` while that
+    /// is done, or where memory is refused.
+    pub(crate) fn enter<R: Wait + Drop>(
+        &self,
+        rt: R,
+        connection: Connection,
+    ) -> Option<Stay<'_, V, R>> {
+        let entered = self.standing.lock(&rt).enter(connection);
+        let (network, number) = entered?;
+        Some(Stay {
+            rt,
+            slot: self,
+            number,
+            network,
+        })
+    }
+
+    /// The link of the network that stands here: this one, or that of the network begun anew since.
+    pub fn link_of_now<R: Wait>(&self, rt: &R, link: Link) -> Link {
+        let newer = self.standing.lock(rt).link.take();
+        match newer {
+            Some(newer) => newer,
+            None => link,
+        }
+    }
+
+    /// Notes the connection to the network, which is shut when that is begun anew; false where it
+    /// was begun anew since the link was asked for.
+    pub(crate) fn connect<R: Wait>(&self, rt: &R, connection: Connection) -> bool {
+        let mut standing = self.standing.lock(rt);
+        if standing.network.is_none() || standing.link.is_some() {
+            return false;
+        }
+        standing.upstream = Some(connection);
+        true
+    }
+
+    /// Notes that the connection to the network has ended.
+    pub(crate) fn disconnect<R: Wait>(&self, rt: &R) {
+        let gone = self.standing.lock(rt).upstream.take();
+        drop(gone);
+    }
+
+    /// Takes the network out and shuts its connection and those of its clients. What it held is
+    /// freed as soon as their threads have ended.
+    pub(crate) fn clear<R: Wait>(&self, rt: &R) {
+        let gone = self.standing.lock(rt).clear();
+        if let Some(upstream) = &gone.upstream {
+            upstream.hang_up();
+        }
+        for client in &gone.clients {
+            client.connection.hang_up();
+        }
+    }
+
+    /// Puts a network into the slot that was cleared, with its link.
+    pub(crate) fn fill<R: Wait>(&self, rt: &R, network: Arc<Network<V>>, link: Link) {
+        let mut standing = self.standing.lock(rt);
+        standing.network = Some(network);
+        standing.link = Some(link);
+    }
+}
