@@ -1,7 +1,8 @@
 //! Tests alone: tables of lines, names, network settings and settings files as they come, with what
 //! is expected of each; of transcripts as servers send them, with what both views show of them, and
 //! what clients that attach are sent; of messages that are kept; of what the program prints of its
-//! inputs, and the words of its command line.
+//! inputs, and the words of its command line; and of calls whose allocations are refused one after
+//! another.
 #![tactic(auto)]
 
 #[cfg(test)]
@@ -28,6 +29,10 @@ mod playback;
 mod quick;
 #[cfg(test)]
 mod read_back;
+#[cfg(test)]
+mod refused;
+#[cfg(test)]
+mod refusing;
 #[cfg(test)]
 mod reports;
 #[cfg(test)]

@@ -23,7 +23,8 @@ pub struct Bouncer {
     /// What its threads share.
     pub shared: Arc<Shared>,
     threads: Vec<JoinHandle<()>>,
-    log: JoinHandle<()>,
+    // none where the log is for the test to read
+    log: Option<JoinHandle<()>>,
 }
 
 /// Limits for tests: so many clients, and so many dials.
@@ -48,6 +49,9 @@ pub fn limits(accepts: u64, dials: u64) -> Limits {
         registration: Duration::from_secs(10),
         silence: Duration::from_secs(10),
         silences: 2,
+        sessions: 64,
+        burst: 1_000_000,
+        pace: 1_000_000,
         turns: 100,
         packets: 256,
     }
@@ -114,8 +118,8 @@ fn serve_clients<
     Ok(address)
 }
 
-/// Starts the bouncer with these limits.
-pub fn start<
+/// Starts the bouncer with these limits. Its log waits to be read.
+pub fn start_unlogged<
     R: Threads
         + Wait
         + Clock
@@ -130,14 +134,31 @@ pub fn start<
     let network = TcpListener::bind(&rt, "127.0.0.1:0")?;
     let (shared, mut threads) = serve_network(rt, alloc, limits, network.local_addr()?)?;
     let address = serve_clients(rt, alloc, &shared, &mut threads)?;
-    let log = start_log(rt, &shared)?;
     Ok(Bouncer {
         network,
         address,
         shared,
         threads,
-        log,
+        log: None,
     })
+}
+
+/// Starts the bouncer with these limits.
+pub fn start<
+    R: Threads
+        + Wait
+        + Clock
+        + Eprint
+        + Net<Listener = TcpListener, Stream = TcpStream>
+        + Copy
+        + Send
+        + Sync
+        + Drop
+        + 'static,
+>(rt: R, alloc: Global, limits: Limits) -> Result<Bouncer, Fail> {
+    let mut bouncer = start_unlogged(rt, alloc, limits)?;
+    bouncer.log = Some(start_log(rt, &bouncer.shared)?);
+    Ok(bouncer)
 }
 
 impl Bouncer {
@@ -153,7 +174,30 @@ impl Bouncer {
             thread.join(rt);
         }
         shared.log().end(rt);
-        log.join(rt);
+        if let Some(log) = log {
+            log.join(rt);
+        }
+    }
+
+    /// Waits until no client is served, at most some ten seconds; whether none is.
+    pub fn is_left<R: Wait + Clock>(&self, rt: &R) -> bool {
+        for _ in 0..10_000 {
+            if self.shared.sessions() == 0 {
+                return true;
+            }
+            thread::sleep(rt, Duration::from_millis(1));
+        }
+        false
+    }
+
+    /// Waits until it has done all that it was to do, and answers what its log tells. For one whose
+    /// log waits to be read.
+    pub fn logged<R: Threads + Wait + Clock>(self, rt: &R, alloc: Global) -> Result<Vec<u8>, Fail> {
+        let shared = Arc::try_clone(&self.shared)?;
+        self.join(rt);
+        let mut text = Vec::new(alloc);
+        shared.log().write_to(rt, &mut text);
+        Ok(text)
     }
 
     /// Takes the next connection of the bouncer, and takes part in its registration up to the

@@ -7,7 +7,7 @@ use std::net::{Net, TcpListener, TcpStream};
 use std::test::Fail;
 
 /// What a client without capabilities is greeted with.
-const PLAIN: &str = ":bnc 001 ann :Welcome to the bouncer\r\n\
+pub const PLAIN: &str = ":bnc 001 ann :Welcome to the bouncer\r\n\
     :bnc 002 ann :Your host is bnc, running version 1\r\n\
     :bnc 003 ann :This server was created for you\r\n\
     :bnc 004 ann bnc 1 i biklmnopstv\r\n\
@@ -30,7 +30,7 @@ const WITH_ALL_SYMBOLS: &str = ":bnc CAP * ACK multi-prefix\r\n\
     :bnc 366 ann #c :End of NAMES list\r\n";
 
 /// The login of one client of ann, without capabilities.
-const PHONE: &str = "PASS ann@phone/net:bc\r\nNICK x\r\nUSER x 0 * :x\r\n";
+pub const PHONE: &str = "PASS ann@phone/net:bc\r\nNICK x\r\nUSER x 0 * :x\r\n";
 
 /// The login of another, which asks for multi-prefix.
 const DESK: &str = "CAP REQ :multi-prefix\r\nPASS ann@desk/net:bc\r\nNICK x\r\n\
@@ -60,14 +60,14 @@ fn enter(alloc: Global, network: &mut Peer) -> Result<(), Fail> {
 }
 
 /// The network lets the bouncer in, to a channel with bob.
-fn let_in(alloc: Global, bouncer: &Bouncer) -> Result<Peer, Fail> {
+pub fn let_in(alloc: Global, bouncer: &Bouncer) -> Result<Peer, Fail> {
     let mut network = bouncer.registers(alloc)?;
     enter(alloc, &mut network)?;
     Ok(network)
 }
 
 /// A client logs in by one PASS, and is greeted so.
-fn come<R: Net<Listener = TcpListener, Stream = TcpStream>>(
+pub fn come<R: Net<Listener = TcpListener, Stream = TcpStream>>(
     rt: &R,
     alloc: Global,
     bouncer: &Bouncer,
@@ -197,4 +197,45 @@ fn lose_and_dial_again<R: Net<Listener = TcpListener, Stream = TcpStream>>(
     let mut desk = come(rt, alloc, bouncer, DESK, WITH_ALL_SYMBOLS)?;
     join_and_lose(alloc, network, &mut desk)?;
     made_anew(alloc, bouncer, &mut desk)
+}
+
+/// The bouncer is on #c, and on two channels more, of which one has a key, and the connection is
+/// lost.
+fn lose_three_channels(alloc: Global, bouncer: &Bouncer) -> Result<(), Fail> {
+    let mut network = let_in(alloc, bouncer)?;
+    network.say(":ann!a@h JOIN #d\r\n:ann!a@h JOIN #e\r\n:s MODE #e +k key\r\n")?;
+    settle(alloc, &mut network)
+}
+
+/// The bouncer asks for the two channels that its settings don't name, and the connection is lost.
+fn ask_in_vain(alloc: Global, bouncer: &Bouncer) -> Result<(), Fail> {
+    let mut network = bouncer.registers(alloc)?;
+    network.hears(alloc, "JOIN #e,#d key\r\n")
+}
+
+/// The bouncer asks for the two channels and is let in to one of them, and the connection is lost.
+fn ask_in_half_vain(alloc: Global, bouncer: &Bouncer) -> Result<(), Fail> {
+    let mut network = bouncer.registers(alloc)?;
+    network.hears(alloc, "JOIN #e,#d key\r\n")?;
+    network.say(":ann!a@h JOIN #e\r\n:ann!a@h PART #e\r\n")?;
+    settle(alloc, &mut network)
+}
+
+/// Connections are lost in succession: one is closed at once, two before all channels are joined.
+fn lose_in_succession(alloc: Global, bouncer: &Bouncer) -> Result<(), Fail> {
+    lose_three_channels(alloc, bouncer)?;
+    Peer::accept(&bouncer.network)?;
+    ask_in_vain(alloc, bouncer)?;
+    ask_in_half_vain(alloc, bouncer)?;
+    let mut network = bouncer.registers(alloc)?;
+    network.hears(alloc, "JOIN #d\r\n")
+}
+
+#[test]
+fn channels_come_back_after_losses_in_succession(rt: HostRuntime) -> Result<(), Fail> {
+    let alloc = rt.alloc();
+    let bouncer = start(rt, alloc, limits(0, 5))?;
+    lose_in_succession(alloc, &bouncer)?;
+    bouncer.join(&rt);
+    Ok(())
 }

@@ -23,6 +23,9 @@ pub(crate) fn turned_away<R: Net<Listener = TcpListener, Stream = TcpStream>>(
     client.ends_with(alloc, answer)
 }
 
+/// What a client is sent whose time is up, and that sent no PASS.
+pub(crate) const SEND_PASS: &str = "ERROR :send PASS user@client/network:password\r\n";
+
 /// A client says nothing. Answers how long it was until it was left.
 fn silence<R: Clock + Net<Listener = TcpListener, Stream = TcpStream>>(
     rt: &R,
@@ -31,18 +34,27 @@ fn silence<R: Clock + Net<Listener = TcpListener, Stream = TcpStream>>(
 ) -> Result<Duration, Fail> {
     let began = Instant::now(rt)?;
     let mut silent = Peer::dial(rt, bouncer.address)?;
-    silent.ends_with(alloc, "")?;
+    silent.ends_with(alloc, SEND_PASS)?;
     Ok(began.elapsed(rt)?)
 }
 
 #[test]
 fn a_login_has_its_time(rt: HostRuntime) -> Result<(), Fail> {
     let alloc = rt.alloc();
-    let mut limits = limits(1, 0);
+    let mut limits = limits(3, 0);
     limits.login = Duration::from_millis(500);
     let bouncer = start(rt, alloc, limits)?;
     let took = silence(&rt, alloc, &bouncer)?;
     assert!(rt; took >= Duration::from_millis(400));
+    let address = bouncer.address;
+    turned_away(
+        &rt,
+        alloc,
+        address,
+        "NICK x\r\nUSER ann/net 0 * :x\r\n",
+        SEND_PASS,
+    )?;
+    turned_away(&rt, alloc, address, "PASS ann/net:bc\r\nNICK x\r\n", "")?;
     bouncer.join(&rt);
     Ok(())
 }

@@ -6,6 +6,8 @@
 #![tactic(auto)]
 
 #[cfg(test)]
+mod begun_anew;
+#[cfg(test)]
 mod bouncer;
 #[cfg(test)]
 mod coming_back;
@@ -18,6 +20,8 @@ mod ending;
 #[cfg(test)]
 mod gates;
 #[cfg(test)]
+mod given_back;
+#[cfg(test)]
 mod held;
 #[cfg(test)]
 mod hub_rows;
@@ -27,6 +31,10 @@ mod log_lines;
 mod log_writing;
 #[cfg(test)]
 mod login;
+#[cfg(test)]
+mod narrow;
+#[cfg(test)]
+mod pacing;
 #[cfg(test)]
 mod pasting;
 #[cfg(test)]
@@ -39,6 +47,8 @@ mod reading;
 mod refusing;
 #[cfg(test)]
 mod registration;
+#[cfg(test)]
+mod rejoining;
 #[cfg(test)]
 mod rings;
 #[cfg(test)]

@@ -55,6 +55,10 @@ fn what_the_log_tells(rt: HostRuntime) -> Result<(), Fail> {
             Event::Cut { bytes: 9 },
             "session cut: it took too little; 9 bytes written",
         ),
+        (
+            Event::Unsaid { lines: 7 },
+            "lost 7 lines that the client had not yet said",
+        ),
     ];
     for (event, want) in rows {
         told(rt.alloc(), &event, want)?;
@@ -72,6 +76,10 @@ fn what_the_log_tells_of_an_end(rt: HostRuntime) -> Result<(), Fail> {
         (
             Event::Lost { cause, said, retry },
             "connection lost: closed; it said: Closing Link: h (?bye); dials again in 30 s",
+        ),
+        (
+            Event::BegunAnew,
+            "out of memory, begun anew: the messages and marks kept are gone",
         ),
         (
             Event::Ended {

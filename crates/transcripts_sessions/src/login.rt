@@ -147,7 +147,7 @@ fn check_where_a_login_is_cut<R: AllocGlobal + Abort>(
         let (pass, want) = *row;
         let said = [
             ("NICK x", ""),
-            ("USER eve/lan 0 * :E", REMINDER),
+            ("USER eve/lan 0 * :E", ""),
             (pass, want),
             ("PING x", ""),
         ];
@@ -161,9 +161,6 @@ fn where_a_login_is_cut(rt: HostRuntime) -> Result<(), Fail> {
     check_where_a_login_is_cut(&rt, &WHERE_A_LOGIN_IS_CUT)
 }
 
-/// What is sent where nothing is missing but PASS.
-const REMINDER: &str = ":bnc 464 * :Password required";
-
 const A_LOGIN_WITHOUT_A_NETWORK: [(&str, &str); 4] = [
     ("PASS x", ""),
     ("NICK x", ""),
@@ -176,10 +173,10 @@ fn a_login_without_a_network(rt: HostRuntime) -> Result<(), Fail> {
     logs_in(&rt, rt.alloc(), &A_LOGIN_WITHOUT_A_NETWORK)
 }
 
-const A_PASSWORD_ASKED_FOR: [(&str, &str); 8] = [
+const A_LATE_PASSWORD: [(&str, &str); 8] = [
     ("PASS", ""),
     ("NICK x", ""),
-    ("USER ann/net 0 * :A", REMINDER),
+    ("USER ann/net 0 * :A", ""),
     ("NICK y", ""),
     ("CAP LS", OFFER),
     ("CAP END", ""),
@@ -187,18 +184,18 @@ const A_PASSWORD_ASKED_FOR: [(&str, &str); 8] = [
     ("PASS bc", "done: ann/net bc"),
 ];
 
-const A_PASSWORD_ASKED_FOR_THEN: [(&str, &str); 5] = [
+const A_LATE_PASSWORD_AFTER_CAPS: [(&str, &str); 5] = [
     ("CAP LS 302", OFFER),
     ("USER ann/net 0 * :A", ""),
     ("NICK x", ""),
-    ("CAP END", REMINDER),
+    ("CAP END", ""),
     ("PASS bc", "done: ann/net bc"),
 ];
 
 #[test]
-fn a_password_that_is_missing_is_asked_for_once(rt: HostRuntime) -> Result<(), Fail> {
-    logs_in(&rt, rt.alloc(), &A_PASSWORD_ASKED_FOR)?;
-    logs_in(&rt, rt.alloc(), &A_PASSWORD_ASKED_FOR_THEN)
+fn a_login_waits_for_its_password(rt: HostRuntime) -> Result<(), Fail> {
+    logs_in(&rt, rt.alloc(), &A_LATE_PASSWORD)?;
+    logs_in(&rt, rt.alloc(), &A_LATE_PASSWORD_AFTER_CAPS)
 }
 
 const THE_LAST_REQUEST_FOR_EACH: [(&str, &str); 14] = [
@@ -301,7 +298,7 @@ fn ends_with(
     last: (&str, &str),
 ) -> Result<(), Fail> {
     goes_on(rt, alloc, login, ("USER x 0 * :A", ""))?;
-    goes_on(rt, alloc, login, ("NICK x", REMINDER))?;
+    goes_on(rt, alloc, login, ("NICK x", ""))?;
     for _ in 2..199 {
         goes_on(rt, alloc, login, ("PING x", ":bnc PONG bnc x"))?;
     }

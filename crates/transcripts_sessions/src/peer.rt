@@ -68,8 +68,8 @@ impl Peer {
         same(alloc, found.as_slice(), text)
     }
 
-    /// Reads to the connection's end, and fails where that is not the text.
-    pub fn ends_with(&mut self, alloc: Global, text: &str) -> Result<(), Fail> {
+    /// Reads to the connection's end, and answers what came.
+    pub fn rest(&mut self, alloc: Global) -> Result<Vec<u8>, Fail> {
         let mut found = Vec::new(alloc);
         for _ in 0..MOST {
             let mut byte = [0u8; 1];
@@ -78,6 +78,12 @@ impl Peer {
             }
             found.push(byte[0])?;
         }
+        Ok(found)
+    }
+
+    /// Reads to the connection's end, and fails where that is not the text.
+    pub fn ends_with(&mut self, alloc: Global, text: &str) -> Result<(), Fail> {
+        let found = self.rest(alloc)?;
         same(alloc, found.as_slice(), text)
     }
 }

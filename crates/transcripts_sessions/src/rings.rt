@@ -6,7 +6,9 @@ use crate::stage::{
     BURST, JOINED, Stage, attach, is_sent, joined, put, put_and_take, quick_stage, take_all,
 };
 use crate::streams::Pieces;
-use hub_threads::{FreeGate, InletEnd, Network, OutletEnd, PumpEnd, Reading, pump_loop, read_in};
+use hub_threads::{
+    FreeGate, InletEnd, Network, OutletEnd, PumpEnd, ReadEnd, Reading, pump_loop, read_in,
+};
 use irc_line::Splitter;
 use net_view::NetworkView;
 use quick_view::QuickView;
@@ -146,6 +148,19 @@ fn read_and_taken<V: NetworkView + Drop, R: Threads + Wait + Clock + Send + Copy
     let reading = reader(rt, alloc, end, text)?;
     take_so_many(&rt, network, 21)?;
     reading.join(&rt);
+    Ok(())
+}
+
+/// A thread that waits for room ends when the hub is gone that was to take its lines.
+#[test]
+fn a_thread_that_reads_for_a_hub_that_is_gone(rt: HostRuntime) -> Result<(), Fail> {
+    let Stage { network, end, .. } = narrow_stage(&rt, rt.alloc())?;
+    let text = joined(rt.alloc(), &TWENTY_MESSAGES)?;
+    let reading = reader(rt, rt.alloc(), end, &text)?;
+    // it sleeps by then, since there is room for one line
+    thread::sleep(&rt, Duration::from_millis(100));
+    drop(network);
+    assert!(rt; reading.join(&rt).ended == ReadEnd::EndOfInput);
     Ok(())
 }
 

@@ -34,7 +34,7 @@ fn take_all<R: Wait + Clock>(
 }
 
 /// The two ends of a connection.
-fn connected<R: Net<Listener = TcpListener, Stream = TcpStream>>(
+pub(crate) fn connected<R: Net<Listener = TcpListener, Stream = TcpStream>>(
     rt: &R,
 ) -> Result<(Peer, TcpStream), Fail> {
     let listener = TcpListener::bind(rt, "127.0.0.1:0")?;

@@ -2,7 +2,7 @@
 
 use crate::gates::{Dragging, shut_door};
 use crate::served::{is_cut, many_questions};
-use crate::slow_streams::{Gone, Slow, flag};
+use crate::slow_streams::{Dripping, Gone, Slow, flag};
 use crate::stage::{BURST, JOINED, Stage, attach, put, say, stage_after};
 use crate::streams::Sink;
 use hub_core::Said;
@@ -173,5 +173,20 @@ fn who_stops_is_cut_and_another_is_not(rt: HostRuntime) -> Result<(), Fail> {
         }
         Err(_) => assert!(rt; false),
     }
+    Ok(())
+}
+
+/// A client takes one byte of each call. Once its session is cut, its writer gives up after 750
+/// calls more, which are 30 s for a client that lets each call wait.
+#[test]
+fn who_is_cut_has_thirty_seconds_left(rt: HostRuntime) -> Result<(), Fail> {
+    let alloc = rt.alloc();
+    let (mut outlet, end) = outlet(alloc, 8, shared_bell(alloc)?)?;
+    assert!(rt; is_offered(&rt, &mut outlet, long_packet(alloc, 2_000)?));
+    drop(outlet);
+    let writer = spawn_writer(rt, end, Dripping { calls: 0 }, FreeGate, u64::MAX)?;
+    let written = writer.join(&rt);
+    assert!(rt; written.outcome.is_err());
+    assert_eq!(rt; written.out.calls, 750);
     Ok(())
 }

@@ -91,3 +91,20 @@ impl<R: Clock> Write for Slow<R> {
         Ok(())
     }
 }
+
+/// A client that takes one byte of each call.
+#[derive(Drop)]
+pub(crate) struct Dripping {
+    pub(crate) calls: u64,
+}
+
+impl Write for Dripping {
+    fn write(&mut self, buf: &[u8]) -> io::Result<usize> {
+        self.calls = self.calls.wrapping_add(1);
+        Ok(buf.len().min(1))
+    }
+
+    fn flush(&mut self) -> io::Result<()> {
+        Ok(())
+    }
+}

@@ -1,7 +1,7 @@
 //! Connections that say nothing, and logins beside them.
 
 use crate::bouncer::{Bouncer, limits, start};
-use crate::connections::turned_away;
+use crate::connections::{SEND_PASS, turned_away};
 use crate::peer::Peer;
 use std::alloc::Global;
 use std::net::{Net, SocketAddr, TcpListener, TcpStream};
@@ -98,7 +98,7 @@ fn kept_for<R: Clock + Net<Listener = TcpListener, Stream = TcpStream>>(
 ) -> Result<Duration, Fail> {
     let began = Instant::now(rt)?;
     let mut silent = Peer::dial(rt, address)?;
-    silent.ends_with(alloc, "")?;
+    silent.ends_with(alloc, SEND_PASS)?;
     Ok(began.elapsed(rt)?)
 }
 

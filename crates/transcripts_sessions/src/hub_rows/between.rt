@@ -26,20 +26,28 @@ fn push_life(text: &mut Vec<u8>, is_asked: bool) -> Result<(), Fail> {
     push_line(text, b"no life asked")
 }
 
-/// The channels of a connection that was lost, each with its key.
-fn push_channels(text: &mut Vec<u8>, channels: &[LostChannel]) -> Result<(), Fail> {
-    for channel in channels {
-        push_line(text, &channel.name)?;
-        match &channel.key {
-            Some(key) => push_line(text, key)?,
-            None => push_line(text, b"no key")?,
+/// A channel of a connection that was lost, with its key.
+fn push_channel(text: &mut Vec<u8>, channel: &LostChannel) -> Result<(), Fail> {
+    push_line(text, &channel.name)?;
+    match &channel.key {
+        Some(key) => push_line(text, key),
+        None => push_line(text, b"no key"),
+    }
+}
+
+/// The channels of connections that were lost, each with its key.
+fn push_channels(text: &mut Vec<u8>, hub: &MemoryHub<QuickView>) -> Result<(), Fail> {
+    for i in 0..hub.lost_channel_count() {
+        match hub.lost_channel_at(i) {
+            Some(channel) => push_channel(text, channel)?,
+            None => push_line(text, b"no channel")?,
         }
     }
     Ok(())
 }
 
 /// What the hub answers: the room to the network, whether a sign of life was asked for, the room
-/// after that, who is nearly full, and the channels of a connection that was lost.
+/// after that, who is nearly full, and the channels of connections that were lost.
 fn push_answers(text: &mut Vec<u8>, hub: &mut MemoryHub<QuickView>) -> Result<(), Fail> {
     push_count(text, b"room ", hub.upstream_free() as u64)?;
     push_life(text, hub.keepalive()?)?;
@@ -47,7 +55,7 @@ fn push_answers(text: &mut Vec<u8>, hub: &mut MemoryHub<QuickView>) -> Result<()
     for id in hub.nearly_full()? {
         push_count(text, b"nearly full ", id)?;
     }
-    push_channels(text, hub.lost_channels())
+    push_channels(text, hub)
 }
 
 /// The answers after a script.
@@ -111,4 +119,62 @@ fn lost(rt: HostRuntime) -> Result<(), Fail> {
         &script,
         b"room 3\r\nno life asked\r\nroom 3\r\n#a\r\nno key\r\n#c\r\nbees\r\n",
     )
+}
+
+/// What is to be joined again after a script.
+fn lost_after(alloc: Global, script: &[&[u8]]) -> Result<Vec<u8>, Fail> {
+    let events = events_of(alloc, &WELCOME, script)?;
+    let run = run(alloc, QuickView::new(alloc)?, SETUP, UPSTREAM, &events)?;
+    let mut text = Vec::new(alloc);
+    push_channels(&mut text, &run.world.hub)?;
+    Ok(text)
+}
+
+/// A connection was lost while we were on #a and #c, and the network took us in again. Then come
+/// these two events.
+const AFTER_A_LOSS: [([&[u8]; 2], &[u8]); 10] = [
+    ([b"lost", b"lost"], b"#a\r\nno key\r\n#c\r\nbees\r\n"),
+    (
+        [b"up :bob!b@h JOIN #a", b"up :bob!b@h PART #c"],
+        b"#a\r\nno key\r\n#c\r\nbees\r\n",
+    ),
+    (
+        [b"up :Me!m@h JOIN #A", b"up :s NOTICE * hi"],
+        b"#c\r\nbees\r\n",
+    ),
+    (
+        [b"up :Me!m@h JOIN #A", b"lost"],
+        b"#A\r\nno key\r\n#c\r\nbees\r\n",
+    ),
+    (
+        [b"up :Me!m@h JOIN #c", b"lost"],
+        b"#a\r\nno key\r\n#c\r\nno key\r\n",
+    ),
+    (
+        [b"up :Me!m@h JOIN #c", b"up :Me!m@h PART #C"],
+        b"#a\r\nno key\r\n",
+    ),
+    ([b"up :Me!m@h PART #C", b"lost"], b"#a\r\nno key\r\n"),
+    ([b"up :bob!b@h KICK #C me", b"lost"], b"#a\r\nno key\r\n"),
+    (
+        [b"up :Me!m@h NICK You", b"up :You!m@h JOIN #c"],
+        b"#a\r\nno key\r\n",
+    ),
+    ([b"up :Me!m@h QUIT", b"lost"], b""),
+];
+
+#[test]
+fn lost_again(rt: HostRuntime) -> Result<(), Fail> {
+    for (events, wanted) in AFTER_A_LOSS {
+        let script: [&[u8]; 6] = [
+            b"up :bob!b@h MODE #c +k bees",
+            b"up :Me!m@h JOIN #a",
+            b"lost",
+            b"up :s 001 Me :hi",
+            events[0],
+            events[1],
+        ];
+        assert!(rt; lost_after(rt.alloc(), &script)?.as_slice() == wanted);
+    }
+    Ok(())
 }

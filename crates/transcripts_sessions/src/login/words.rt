@@ -1,6 +1,6 @@
 //! Logins in the words of clients.
 
-use super::{OFFER, REMINDER, logs_in};
+use super::{OFFER, logs_in};
 use std::test::Fail;
 
 const OF_IRSSI: [(&str, &str); 7] = [
@@ -91,7 +91,7 @@ const OF_SENPAI: [(&str, &str); 9] = [
     ("CAP REQ batch", ":bnc CAP * ACK batch"),
     ("CAP REQ sasl", ":bnc CAP * NAK sasl"),
     ("CAP REQ server-time", ":bnc CAP * ACK server-time"),
-    ("CAP END", REMINDER),
+    ("CAP END", ""),
     (
         "PASS secret",
         "done: ann@senpai/net secret away-notify server-time batch",
