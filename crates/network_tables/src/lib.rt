@@ -20,7 +20,7 @@ pub use room::{
     unseat,
 };
 pub use slot::Entry;
-pub use sought::Sought;
+pub use sought::{Sought, name_head};
 pub use std::alloc::AllocError as OutOfMemory;
 pub use table::Table;
 pub use text::{bytes, copy_of, copy_of_told};

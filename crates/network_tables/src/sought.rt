@@ -93,8 +93,9 @@ pub(crate) fn key_head(key: &[u8]) -> u64
     ])
 }
 
-/// The head of a name's key.
-fn name_head(mapping: CaseMapping, name: &[u8]) -> u64
+/// The head of a name's key: the key's first eight bytes as one number, so that keys stand as their
+/// heads do where these differ.
+pub fn name_head(mapping: CaseMapping, name: &[u8]) -> u64
     ensures head { result ≡ head_of (key_of mapping name.now) }
     ensures bytes { AreBytesTo 8 (key_of mapping name.now) }
 {

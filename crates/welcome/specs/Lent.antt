@@ -1,5 +1,5 @@
 -- What the readers of a view lend of a channel, as the lines of the burst take it.
-use Rattle.std.specs.Prelude.{ℕ, Bool, List, [], map, option_map}
+use Rattle.std.specs.Prelude.{◌≡◌, ℕ, Bool, List, [], ◌∷◌, map, option_map}
 use Rattle.std.specs.List.{flat_map}
 use Rattle.std.specs.Option.{option_map_or}
 use Rattle.std.specs.FinMap as fin
@@ -14,6 +14,7 @@ use Rattle.net_view.specs.View as view
 use Rattle.net_view.specs.Readers.{MemberParts, channel_shown, member_parts}
 use Rattle.net_view.specs.declared.channel.Channel.{Channel}
 use Rattle.welcome.specs.declared.persons.Person.{Person}
+use Rattle.network_tables.specs.Head.{head_of, AreBytesTo}
 
 -- a channel of this name and topic, with no modes and no members
 abbrev pub lent : Channel → view.Channel
@@ -67,3 +68,13 @@ by_key mapping a b = bytes_cmp (key_of mapping a.nick.now) (key_of mapping b.nic
 -- whether the two have one key
 abbrev pub is_one : CaseMapping → Person → Person → Bool
 is_one mapping a b = is_eq (by_key mapping a b)
+
+-- the head that stands at a person is that of the nick's key, whose first eight are bytes
+abbrev pub HasHead : CaseMapping → Person → Type 0
+HasHead mapping p =
+    (p.head ≡ head_of (key_of mapping p.nick.now)) × AreBytesTo 8 (key_of mapping p.nick.now)
+
+-- the order of persons by their heads and then by their keys
+abbrev pub by_head : CaseMapping → Person → Person → Ordering
+by_head mapping a b =
+    bytes_cmp (a.head ∷ key_of mapping a.nick.now) (b.head ∷ key_of mapping b.nick.now)

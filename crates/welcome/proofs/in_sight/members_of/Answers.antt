@@ -6,13 +6,16 @@ use Rattle.welcome.proofs.in_sight.members_of.Goals as goal
 
 pub loop-i-preserved : goal.loop-i-preserved
 loop-i-preserved g c =
-    let v = g.V.NetworkView.view c.args.view.now in
-    c.in_ok-push_members.ensures ∙ ap (λ t. t ++ persons_at v c.loop-i.i) c.loop-i.invariant
-    ∙ sym (channel_more v c.loop-i.i)
+    let v = g.V.NetworkView.view c.args.view.now in (
+      c.in_ok-push_members.ensures.members
+          ∙ ap (λ t. t ++ persons_at v c.loop-i.i) c.loop-i.invariant.0
+          ∙ sym (channel_more v c.loop-i.i),
+      c.in_ok-push_members.ensures.heads,
+    )
 
-pub returns : goal.returns
-returns g c =
+pub returns-clause-members : goal.returns-clause-members
+returns-clause-members g c =
     let v = g.V.NetworkView.view c.args.view.now in
     let end : c.loop-i.i ≡ channels_shown v =
     omega (c.loop-i-test.false, c.loop-i.auto.i-end, c.channel_count-i-end.ensures, arith) in
-    c.loop-i.invariant ∙ channels_all v c.loop-i.i end
+    c.loop-i.invariant.0 ∙ channels_all v c.loop-i.i end

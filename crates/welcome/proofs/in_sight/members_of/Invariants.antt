@@ -1,8 +1,10 @@
 use Rattle.std.proofs.Common.{◌≡◌, map}
-use Rattle.welcome.specs.Lent.{person_lent}
+use Rattle.std.specs.List.{AllByRecursion}
+use Rattle.welcome.specs.Lent.{HasHead, person_lent}
 use Rattle.welcome.proofs.PersonsAt.{persons_so_far}
 use Rattle.welcome.proofs.in_sight.members_of.Given as goal
 
 abbrev pub invariant-loop-i : goal.invariant-loop-i
 invariant-loop-i g l =
-    map person_lent l.persons.items ≡ persons_so_far (g.V.NetworkView.view l.view) l.i
+    (map person_lent l.persons.items ≡ persons_so_far (g.V.NetworkView.view l.view) l.i)
+    × AllByRecursion (HasHead l.mapping) l.persons.items

@@ -11,5 +11,5 @@ returns g c =
     let source = c.comes_from_lines.ensures in
     persons_gathered v (subst IsSound (sym source.2) (view_sound source.0)) c.mapping-mapping.result
     (c.mapping-mapping.ensures ∙ ap mapping_of c.support.ensures) c.in_ok-persons.persons.items
-    c.sort_by_key.new.persons.items c.keep_one_each.new.persons.items c.in_ok-persons.ensures
+    c.sort_by_key.new.persons.items c.keep_one_each.new.persons.items c.in_ok-persons.ensures.members
     c.sort_by_key.ensures.permutation c.sort_by_key.ensures.sorted c.keep_one_each.ensures

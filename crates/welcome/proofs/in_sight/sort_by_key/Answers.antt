@@ -1,17 +1,20 @@
-use Rattle.std.proofs.Common.{rules, ◌≡◌}
+use Rattle.std.proofs.Common.{rules, ◌≡◌, ◌∷◌}
 use Rattle.std.specs.Ordering.{is_lt}
 use Rattle.std.specs.Cmp.Lexicographic.{nat_list_cmp_total}
 use Rattle.std.proofs.lemmas.Fn.{always_returns_same}
 use Rattle.std.proofs.lemmas.List.MinMax.{ranks_by}
 use Rattle.irc_names.specs.CaseMapping.{key_of}
-use Rattle.welcome.specs.Lent.{by_key}
+use Rattle.welcome.specs.Lent.{by_head}
 use Rattle.welcome.specs.declared.persons.Person.{Person}
+use Rattle.welcome.proofs.Heads.{sorted_by_key}
 use Rattle.welcome.proofs.in_sight.sort_by_key.Goals as goal
 
 pub returns-clause-sorted : goal.returns-clause-sorted
 returns-clause-sorted g c =
     let mapping = c.args.mapping in
-    c.sort_unstable_by.ensures.sorted (λ a b. is_lt (by_key mapping a b))
-    (ranks_by nat_list_cmp_total (λ (p : Person). key_of mapping p.nick.now))
-    (always_returns_same _ (λ a r. is_lt r ≡ is_lt (by_key mapping a.0.now a.1.0.now)) _
-    (λ a r f' k. search rules))
+    sorted_by_key mapping c.args.persons.now.items _ c.requires
+    c.sort_unstable_by.ensures.permutation
+    (c.sort_unstable_by.ensures.sorted (λ a b. is_lt (by_head mapping a b))
+    (ranks_by nat_list_cmp_total (λ (p : Person). p.head ∷ key_of mapping p.nick.now))
+    (always_returns_same _ (λ a r. is_lt r ≡ is_lt (by_head mapping a.0.now a.1.0.now)) _
+    (λ a r f' k. search rules)))
