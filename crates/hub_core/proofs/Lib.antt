@@ -13,3 +13,4 @@ pub mod Answered
 pub mod Freed
 pub mod LostBack
 pub mod LostChannels
+pub mod Names

@@ -1,5 +1,5 @@
 -- What attach and detach do.
-use Rattle.std.specs.Prelude.{◌≡◌, ◌≢◌, ◌⊎◌, ◌<◌, ◌&&◌, ℕ, List, [], ◌∷◌, ◌++◌, Option, None, Some}
+use Rattle.std.specs.Prelude.{◌≡◌, ◌≢◌, ◌⊎◌, ◌<◌, ◌≤◌, ◌&&◌, ℕ, List, [], ◌∷◌, ◌++◌, Option, None, Some}
 use Rattle.std.specs.Prelude.{Bool, true, false, not, nat_le, length, if◌then◌else◌}
 use Rattle.std.specs.Option.{option_map, option_and_then, option_map_or, is_none}
 use Rattle.std.specs.FinMap as map
@@ -7,7 +7,7 @@ use Rattle.irc_support.specs.Text.{Text}
 use Rattle.client_caps.specs.declared.caps.Caps.{Caps}
 use Rattle.history.specs.Entry.{EntryParts}
 use Rattle.history.specs.Messages.{Messages, missed_by, number_after}
-use Rattle.history.specs.Marks.{NameMarks, admitted, mark_of, with_mark}
+use Rattle.history.specs.Marks.{NameMarks, admitted, mark_of, with_mark, withdrawn}
 use Rattle.circular_buffer.specs.Buffer.{last_item}
 use Rattle.welcome.specs.Playback.{burst_of}
 use Rattle.hub_core.specs.declared.attach.AttachError.{AttachError}
@@ -38,6 +38,14 @@ missed h name = missed_by (option_and_then (λ n. mark_of n h.marks) name) h.his
 abbrev pub with_name : Option Text → NameMarks → NameMarks
 with_name name marks = option_map_or (λ n. admitted n marks) name marks
 
+-- whether there is a name that is not known
+abbrev pub is_new_name : Option Text → NameMarks → Bool
+is_new_name name marks = option_map_or (λ n. not (map.contains_key marks n)) name false
+
+-- a name, if there is one, is withdrawn
+abbrev pub without_name : Option Text → NameMarks → NameMarks
+without_name name marks = option_map_or (λ n. withdrawn n marks) name marks
+
 -- A session was attached: its outlet was sent one burst, of the view and of what its client missed.
 pub record Attaches (alone : Bool) (old : HubState) (caps : Caps) (name : Option Text)
     (outlet : OutletState) (id : ℕ) (new : HubState) : Type 0 where
@@ -66,6 +74,15 @@ Refuses h name outlet e =
     ⊎ ((refusal_of h name ≡ None) × ((e ≡ refused.OutOfMemory)
     ⊎ ((e ≡ refused.OutletFull) × (outlet.free ≡ 0))))
 
+-- The outlet that a refused attach hands back is as it was, but that more room may be known of in
+-- it; where room comes by its own end alone, no more is.
+pub record HandsBack (alone : Bool) (old new : OutletState) : Type 0 where
+  pub sent : new.sent ≡ old.sent
+  pub closed : new.closed ≡ old.closed
+  pub capacity : new.capacity ≡ old.capacity
+  pub more : old.free ≤ new.free
+  pub room : alone ≡ true → new.free ≡ old.free
+
 -- ---- detach
 
 -- no session has the number
@@ -84,7 +101,7 @@ marked (Some name) None marks = marks
 marked None number marks = marks
 
 -- The session of that number is gone, and its name has seen all messages. Its outlet was closed
--- with its number, and the other end was told where there was room.
+-- with its number, so it takes no more, and the other end was told where there was room.
 pub record Detaches (old : HubState) (id : ℕ) (outlet : OutletState) (told : Bool)
     (new : HubState) : Type 0 where
   pub front : List SessionState
@@ -95,6 +112,8 @@ pub record Detaches (old : HubState) (id : ℕ) (outlet : OutletState) (told : B
   pub number : gone.id ≡ id
   pub sent : outlet.sent ≡ gone.outlet.sent
   pub closed : outlet.closed ≡ Some id
+  pub capacity : outlet.capacity ≡ gone.outlet.capacity
+  pub full : outlet.free ≡ 0
   pub told_so : 0 < gone.outlet.free → told ≡ true
   pub is : new ≡ record {
     taken = old.taken;

@@ -1,7 +1,7 @@
 //! Sessions that come and go.
 
-ghost use Rattle.std.specs.Prelude.{◌≡◌, ◌&&◌, ◌⊎◌, ◌<◌, [], None, Some, true, not, nat_le};
-ghost use Rattle.std.specs.Prelude.{IfOk, IfErr, OnErr};
+ghost use Rattle.std.specs.Prelude.{◌≡◌, ◌&&◌, ◌⊎◌, ◌<◌, ◌≤◌, [], None, Some, true, not, nat_le};
+ghost use Rattle.std.specs.Prelude.{IfOk, IfErr, OnErr, if◌then◌else◌};
 ghost use Rattle.std.specs.Prelude.{false, OnOk, option_map};
 ghost use Rattle.std.specs.FinMap as map;
 ghost use Rattle.std.specs.Option.{option_and_then};
@@ -9,27 +9,27 @@ ghost use Rattle.std.specs.Vec.{vec_len, vec_capacity};
 ghost use Rattle.history.specs.Messages.{AreWrittenMessages, missed_by, number_after};
 ghost use Rattle.history.specs.Marks.{mark_of};
 ghost use Rattle.welcome.specs.Playback.{burst_of};
-ghost use Rattle.hub_core.specs.Attaching.{Attaches, Refuses, names_full, refusal_of};
-ghost use Rattle.hub_core.specs.Attaching.{with_name, missed};
+ghost use Rattle.hub_core.specs.Attaching.{Attaches, HandsBack, Refuses, names_full, refusal_of};
+ghost use Rattle.hub_core.specs.Attaching.{is_new_name, missed, with_name, without_name};
 ghost use Rattle.hub_core.specs.Insides.{outlet_of};
 ghost use Rattle.hub_core.specs.StateParts.{AreStateParts};
 ghost use Rattle.hub_core.specs.States.{view_now};
 ghost use Rattle.hub_core.specs.declared.attach.AttachError.TheVariants as refused;
 
 use crate::hub::Hub;
-use crate::pump::put_into_room;
+use crate::outlets::put_into_room;
 use crate::session::Session;
 use crate::state_parts::{StatePart, state_part_for};
 use client_caps::Caps;
 use history::{AdmitError, History, Marks};
 use hub_ends::{Inlet, Outlet, SessionId};
 use net_view::{NetworkView, OutOfMemory};
+use network_tables::copy_of;
 use std::alloc::Global;
 use thiserror::Error;
 use welcome::{Packet, burst_from};
 
-/// Why a session was not attached, in the order in which the reasons are looked for, but that room
-/// in its outlet is looked for before memory is asked for a new name.
+/// Why a session was not attached, in the order in which the reasons are looked for.
 #[derive(Clone, Copy, Debug, PartialEq, Eq, Error)]
 pub enum AttachError {
     /// The network has not told all that a client is told first: no `376`, `422` or JOIN came
@@ -67,7 +67,7 @@ impl From<OutOfMemory> for AttachError {
 pub struct NoSession;
 
 /// How many sessions a network has at most.
-pub const SESSION_LIMIT: usize = 64;
+const SESSION_LIMIT: usize = 64;
 
 /// Whether there is no room for a client's name.
 fn are_names_full(marks: &Marks, name: Option<&[u8]>) -> bool
@@ -79,31 +79,32 @@ fn are_names_full(marks: &Marks, name: Option<&[u8]>) -> bool
     }
 }
 
-/// Admits a client's name, where it has one.
-fn admit(marks: &mut Marks, name: Option<&[u8]>) -> Result<(), OutOfMemory>
+/// Admits a client's name, where it has one; true for a new name.
+fn admit(marks: &mut Marks, name: Option<&[u8]>) -> Result<bool, OutOfMemory>
     requires { names_full (option_map (λ n. n.now) name) marks.old ≡ false }
-    ensures ok { OnOk result (marks.new
-        ≡ with_name (option_map (λ n. n.now) name.entry) marks.old) }
+    ensures ok { IfOk result (λ is_new.
+        (is_new ≡ is_new_name (option_map (λ n. n.now) name.entry) marks.old) ×
+        (marks.new ≡ with_name (option_map (λ n. n.now) name.entry) marks.old)) }
     ensures err { OnErr result (marks.new ≡ marks.old) }
 {
     let Some(name) = name else {
-        return Ok(());
+        return Ok(false);
     };
     match marks.admit(name) {
-        Ok(_) => Ok(()),
+        Ok(is_new) => Ok(is_new),
         Err(AdmitError::OutOfMemory) => Err(OutOfMemory),
         Err(AdmitError::NamesFull) => unreachable!(),
     }
 }
 
-/// A copy of a client's name.
-pub fn copy_of(alloc: Global, name: Option<&[u8]>) -> Result<Option<Vec<u8>>, OutOfMemory>
-    ensures { IfOk result (λ copy. option_map (λ c. c.items) copy
-        ≡ option_map (λ n. n.now) name.entry) }
+/// Takes a client's name away again, where it has one that was admitted just now.
+fn withdraw(marks: &mut Marks, name: Option<&[u8]>, is_new: bool)
+    ensures { marks.new ≡ (if is_new then
+        without_name (option_map (λ n. n.now) name.entry) marks.old else marks.old) }
 {
     match name {
-        None => Ok(None),
-        Some(name) => Ok(Some(Vec::from_slice(alloc, name)?)),
+        Some(name) if is_new => marks.withdraw(name),
+        Some(_) | None => {}
     }
 }
 
@@ -163,8 +164,9 @@ fn burst_for<V: NetworkView>(
     }
 }
 
-/// Makes room for one more session and for its client's name, where its outlet has room for a
-/// packet. After a refusal all is as it was, but that its outlet may have found more room.
+/// Makes room for one more session and for its client's name, and sees to it that its outlet has
+/// room for a packet. After a refusal all is as it was: a name that was admitted for this session
+/// is withdrawn again. Only its outlet may have found more room.
 fn make_room<O: Outlet>(
     sessions: &mut Vec<Session<O>>,
     marks: &mut Marks,
@@ -176,6 +178,7 @@ fn make_room<O: Outlet>(
     ensures sent { O.sent outlet.new ≡ O.sent outlet.old }
     ensures closed { O.closed outlet.new ≡ O.closed outlet.old }
     ensures capacity { O.capacity outlet.new ≡ O.capacity outlet.old }
+    ensures more { O.free outlet.old ≤ O.free outlet.new }
     ensures alone { O.alone ≡ true → O.free outlet.new ≡ O.free outlet.old }
     ensures ok { OnOk result ((vec_len sessions.new < vec_capacity sessions.new) ×
         (marks.new ≡ with_name (option_map (λ n. n.now) name.entry) marks.old) ×
@@ -187,10 +190,12 @@ fn make_room<O: Outlet>(
         Ok(()) => {}
         Err(_) => return Err(AttachError::OutOfMemory),
     }
+    let is_new = admit(marks, name)?;
     if !outlet.room() {
+        withdraw(marks, name, is_new);
         return Err(AttachError::OutletFull);
     }
-    Ok(admit(marks, name)?)
+    Ok(())
 }
 
 /// The number behind this one; `None` behind the last one.
@@ -253,7 +258,8 @@ impl<V: NetworkView + Drop, I: Inlet, O: Outlet> Hub<V, I, O> {
     /// the name missed. Answers its number.
     ///
     /// After a refusal nothing has changed, and the outlet is handed back. The reasons come in the
-    /// order of [`AttachError`]; `OutOfMemory` is told where an allocation was refused.
+    /// order of [`AttachError`]; `OutOfMemory` is told where an allocation was refused. So the name
+    /// is admitted before the outlet is asked for room, and withdrawn again where there is none.
     pub fn attach(
         &mut self,
         caps: Caps,
@@ -266,8 +272,9 @@ impl<V: NetworkView + Drop, I: Inlet, O: Outlet> Hub<V, I, O> {
             (outlet_of O.sent O.closed O.capacity O.free outlet) id self.new) }
         ensures refused { IfErr result (λ e. Refuses self.old (option_map (λ n. n.now) name.entry)
             (outlet_of O.sent O.closed O.capacity O.free outlet) e.0) }
-        ensures kept { IfErr result (λ e. (self.new ≡ self.old) × (O.sent e.1 ≡ []) ×
-            (O.closed e.1 ≡ None)) }
+        ensures kept { IfErr result (λ e. (self.new ≡ self.old) × HandsBack O.alone
+            (outlet_of O.sent O.closed O.capacity O.free outlet)
+            (outlet_of O.sent O.closed O.capacity O.free e.1)) }
     {
         let mut outlet = outlet;
         let (id, own_name, burst) = match self.parts_for(caps, name) {

@@ -1,9 +1,11 @@
 //! What sessions are sent of an item, made once for each set of capabilities.
 
-ghost use Rattle.std.specs.Prelude.{◌≡◌, Option, Some, IfOk, OnOk, map, position, option_to_list};
+ghost use Rattle.std.specs.Prelude.{◌≡◌, Option, Some, IfOk, OnOk, length, map, position};
+ghost use Rattle.std.specs.Prelude.{option_to_list};
 ghost use Rattle.std.specs.List.{AllByRecursion};
 ghost use Rattle.net_view.specs.Arrival.{arrival_of};
 ghost use Rattle.hub_core.specs.Given.{packet_for, packet_of, same_caps, more_sets};
+ghost use Rattle.hub_core.specs.Pumping.{images_for};
 ghost use Rattle.client_caps.specs.Images.{part_lines_of};
 
 use client_caps::{Caps, Moment, image, part_lines};
@@ -103,4 +105,14 @@ pub fn shared_packet_for<V: NetworkView>(
     let share = share_of(&packet)?;
     made.push(Made { caps, packet })?;
     Ok(share)
+}
+
+/// How many images an item was sent as.
+pub fn images_of(item: &Item, made: &Vec<Made>) -> u64
+    ensures { result ≡ images_for (arrival_of item.now) (length made.now.items) }
+{
+    match item {
+        Item::Line(_) => made.len() as u64,
+        Item::Lost => 0,
+    }
 }

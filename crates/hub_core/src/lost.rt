@@ -17,10 +17,9 @@ ghost use Rattle.hub_core.specs.LostChannels.{channels_of_view, is_settled, join
 ghost use Rattle.hub_core.specs.LostChannels.{key_of_channel, lost_by, lost_then, put_all};
 ghost use Rattle.hub_core.specs.LostChannels.{settles};
 
-use crate::attach::copy_of;
 use irc_line::Line;
 use net_view::{Item, NetworkView, OutOfMemory, Telling, told};
-use network_tables::{Entry, Sought, Table};
+use network_tables::{Entry, Sought, Table, copy_of};
 use std::alloc::Global;
 
 /// A channel that we were on when a connection was lost.

@@ -1,14 +1,20 @@
 //! What sessions are to be sent next.
 
-ghost use Rattle.std.specs.Prelude.{◌≡◌, [], Option, IfOk, OnOk, map, option_map};
+ghost use Rattle.std.specs.Prelude.{◌≡◌, ◌↔◌, [], None, Option, IfOk, IfSome, IsErrOf, IsSome};
+ghost use Rattle.std.specs.Prelude.{OnOk, map, option_map};
 ghost use Rattle.std.specs.List.{AllByRecursion};
 ghost use Rattle.net_view.specs.Arrival.{arrival_of};
+ghost use Rattle.history.specs.Entry.{IsWrittenEntry};
 ghost use Rattle.hub_core.specs.Given.{all_sets_but, given_but, packet_for, sets_but};
 ghost use Rattle.hub_core.specs.Insides.{state_of, states_of};
+ghost use Rattle.hub_core.specs.Pumping.{entry_for};
 
+use crate::hub::HubError;
 use crate::image_table::{Made, shared_packet_for};
+use crate::messages::{entry_of, is_kept};
 use crate::session::Session;
 use client_caps::Moment;
+use history::{Entry, History};
 use hub_ends::{Outlet, SessionId};
 use net_view::{Item, NetworkView, OutOfMemory};
 use std::alloc::Global;
@@ -66,4 +72,37 @@ pub fn prepare<V: NetworkView, O: Outlet>(
         sessions[i].coming = coming;
     }
     Ok(())
+}
+
+/// Makes what an item leads to: what each session but one is to be sent, and the entry of a
+/// message. Nothing is sent yet.
+pub fn prepare_item<V: NetworkView, O: Outlet>(
+    alloc: Global,
+    view: &V,
+    sessions: &mut Vec<Session<O>>,
+    history: &History,
+    item: &Item,
+    moment: Moment,
+    except: Option<SessionId>,
+    made: &mut Vec<Made>,
+) -> Result<Option<Entry>, HubError>
+    ensures states { states_of O.sent O.closed O.capacity O.free sessions.new.items
+        ≡ states_of O.sent O.closed O.capacity O.free sessions.old.items }
+    ensures made { IfOk result (λ entry. entry ≡ entry_for (arrival_of item.now, moment.0)) }
+    ensures written { IfOk result (λ entry. IfSome entry IsWrittenEntry) }
+    ensures coming { OnOk result (AllByRecursion (λ s. s.coming
+        ≡ given_but except (packet_for (V.view view.now) (arrival_of item.now, moment.0))
+        (state_of O.sent O.closed O.capacity O.free s)) sessions.new.items) }
+    ensures numbered { IfOk result (λ entry. IsSome entry → IsSome history.now.next) }
+    ensures sets { OnOk result (map (λ m. m.caps) made.new.items ≡ all_sets_but except []
+        (states_of O.sent O.closed O.capacity O.free sessions.old.items)) }
+    ensures spent { IsErrOf result HubError.Spent ↔
+        (IsSome (entry_for (arrival_of item.now, moment.0)) × (history.now.next ≡ None)) }
+{
+    if history.next_number().is_none() && is_kept(item) {
+        return Err(HubError::Spent);
+    }
+    prepare(alloc, view, sessions, item, moment, except, made)?;
+    let entry = entry_of(alloc, item, moment)?;
+    Ok(entry)
 }

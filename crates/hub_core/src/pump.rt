@@ -1,34 +1,32 @@
 //! What comes from the network goes to the sessions.
 
-ghost use Rattle.std.specs.Prelude.{ℕ, ◌≡◌, ◌<◌, ◌≤◌, ◌++◌, ◌∷◌, ◌+◌, ◌↔◌, [], None, Some, Option};
-ghost use Rattle.std.specs.Prelude.{IsSome};
-ghost use Rattle.std.specs.Prelude.{IfErr, IfOk, IfSome, IfNone, IsErrOf, OnErr, OnOk};
-ghost use Rattle.std.specs.Prelude.{cond, is_some, option_map, length, map};
-ghost use Rattle.std.specs.Prelude.{IsTrue, codes, slice_get, is_some};
-ghost use Rattle.std.specs.Option.{option_map_or, option_to_list};
-ghost use Rattle.std.specs.List.{AllByRecursion, list_all};
+ghost use Rattle.std.specs.Prelude.{◌≡◌, ◌≤◌, ◌++◌, ◌∷◌, ◌↔◌, [], None, Option, IsSome, IfErr, IfOk};
+ghost use Rattle.std.specs.Prelude.{IfNone, IfSome, IsErrOf, OnErr, OnOk, codes, cond, is_some};
+ghost use Rattle.std.specs.Prelude.{length, map, option_map};
+ghost use Rattle.std.specs.Option.{option_map_or};
+ghost use Rattle.std.specs.List.{AllByRecursion};
 ghost use Rattle.irc_line.specs.Writing.{untagged_line};
 ghost use Rattle.net_view.specs.Arrival.{arrival_of};
-ghost use Rattle.irc_line.specs.Tags.{is_tag_byte};
 ghost use Rattle.history.specs.Entry.{IsWrittenEntry};
 ghost use Rattle.hub_ends.specs.Came.{came};
-ghost use Rattle.hub_core.specs.Given.{Took, all_sets_but, given_but, packet_for};
-ghost use Rattle.hub_core.specs.Insides.{outlet_of, state_of, states_of};
+ghost use Rattle.hub_core.specs.Given.{all_sets_but, given_but, packet_for};
+ghost use Rattle.hub_core.specs.Insides.{state_of, states_of};
 ghost use Rattle.hub_core.specs.LostChannels.{keyed, lost_by};
 ghost use Rattle.hub_core.specs.Online.{is_welcome, says_online};
-ghost use Rattle.hub_core.specs.Pumping.{Comes, Pumps, Puts, Spends, counted, entry_for};
-ghost use Rattle.hub_core.specs.Pumping.{images_for, pong_for, with_entry};
+ghost use Rattle.hub_core.specs.Pumping.{Comes, Pumps, entry_for, pong_for};
 
 use crate::deliver::deliver;
 use crate::hub::{Hub, HubError, Pumped};
-use crate::image_table::Made;
+use crate::image_table::{Made, images_of};
 use crate::lost::{LostChannels, LostEntry, lost_by, renew, settled_by};
-use crate::prepare::prepare;
+use crate::messages::keep;
+use crate::outlets::put;
+use crate::prepare::prepare_item;
 use crate::session::Session;
 use crate::state_parts::{drop_if_short, drop_outdated};
-use client_caps::{Moment, shown_time};
-use history::{Entry, History, PushError, is_message};
-use hub_ends::{Inlet, Outlet, SessionId};
+use client_caps::Moment;
+use history::{Entry, History};
+use hub_ends::{Inlet, Outlet};
 use irc_line::Line;
 use irc_names::is_nameable;
 use net_view::{Item, NetworkView, OutOfMemory};
@@ -50,20 +48,6 @@ fn next_item<I: Inlet>(held: &mut Option<(Item, Moment)>, inlet: &mut I) -> Opti
         return Some(item);
     }
     inlet.next()
-}
-
-/// The entry of an item, where it is a message.
-fn entry_of(alloc: Global, item: &Item, moment: Moment) -> Result<Option<Entry>, OutOfMemory>
-    ensures made { IfOk result (λ entry. entry ≡ entry_for (arrival_of item.now, moment.0)) }
-    ensures written { IfOk result (λ entry. IfSome entry IsWrittenEntry) }
-{
-    match item {
-        Item::Line(line) => {
-            let time = shown_time(line, moment);
-            Entry::of_message(alloc, &time, line)
-        }
-        Item::Lost => Ok(None),
-    }
 }
 
 /// The answer to a PING of the network.
@@ -103,102 +87,6 @@ fn online_after(online: bool, item: &Item) -> bool
     match item {
         Item::Line(line) => online || is_welcome(line),
         Item::Lost => false,
-    }
-}
-
-/// Whether an item is a message.
-fn is_kept(item: &Item) -> bool
-    ensures { (moment : ℕ) → result ≡ is_some (entry_for (arrival_of item.now, moment)) }
-{
-    match item {
-        Item::Line(line) => line.source().is_some() && is_message(line),
-        Item::Lost => false,
-    }
-}
-
-/// Makes what an item leads to: what each session but one is to be sent, and the entry of a
-/// message. Nothing is sent yet.
-pub fn prepare_item<V: NetworkView, O: Outlet>(
-    alloc: Global,
-    view: &V,
-    sessions: &mut Vec<Session<O>>,
-    history: &History,
-    item: &Item,
-    moment: Moment,
-    except: Option<SessionId>,
-    made: &mut Vec<Made>,
-) -> Result<Option<Entry>, HubError>
-    ensures states { states_of O.sent O.closed O.capacity O.free sessions.new.items
-        ≡ states_of O.sent O.closed O.capacity O.free sessions.old.items }
-    ensures made { IfOk result (λ entry. entry ≡ entry_for (arrival_of item.now, moment.0)) }
-    ensures written { IfOk result (λ entry. IfSome entry IsWrittenEntry) }
-    ensures coming { OnOk result (AllByRecursion (λ s. s.coming
-        ≡ given_but except (packet_for (V.view view.now) (arrival_of item.now, moment.0))
-        (state_of O.sent O.closed O.capacity O.free s)) sessions.new.items) }
-    ensures numbered { IfOk result (λ entry. IsSome entry → IsSome history.now.next) }
-    ensures sets { OnOk result (map (λ m. m.caps) made.new.items ≡ all_sets_but except []
-        (states_of O.sent O.closed O.capacity O.free sessions.old.items)) }
-    ensures spent { IsErrOf result HubError.Spent ↔
-        (IsSome (entry_for (arrival_of item.now, moment.0)) × (history.now.next ≡ None)) }
-{
-    if history.next_number().is_none() && is_kept(item) {
-        return Err(HubError::Spent);
-    }
-    prepare(alloc, view, sessions, item, moment, except, made)?;
-    let entry = entry_of(alloc, item, moment)?;
-    Ok(entry)
-}
-
-/// Keeps a message, where there is one. That there is a number for it is for the caller to see to.
-/// After an error nothing has changed.
-pub fn keep(history: &mut History, entry: Option<Entry>) -> Result<(), HubError>
-    requires { IsSome entry → IsSome history.old.next }
-    ensures ok { OnOk result (history.new ≡ with_entry history.old entry) }
-    ensures err { IfErr result (λ e. e ≡ HubError.OutOfMemory) }
-    ensures same { OnErr result (history.new ≡ history.old) }
-{
-    let Some(entry) = entry else {
-        return Ok(());
-    };
-    match history.add(entry) {
-        Ok(_) => Ok(()),
-        Err(PushError::OutOfMemory) => Err(HubError::OutOfMemory),
-        Err(PushError::Spent) => unreachable!(),
-    }
-}
-
-/// Puts a packet, where there is one and there is room for it.
-pub fn put<O: Outlet>(outlet: &mut O, packet: Option<Packet>)
-    ensures { Puts O.alone (outlet_of O.sent O.closed O.capacity O.free outlet.old) packet
-        (outlet_of O.sent O.closed O.capacity O.free outlet.new) }
-{
-    if let Some(packet) = packet {
-        match outlet.offer(packet) {
-            Ok(()) => {}
-            Err(_) => {}
-        }
-    }
-}
-
-/// Puts a packet into an outlet that has room for it.
-pub fn put_into_room<O: Outlet>(outlet: &mut O, packet: Packet)
-    requires { 0 < O.free outlet.old }
-    ensures { Took O.alone (outlet_of O.sent O.closed O.capacity O.free outlet.old) packet
-        (outlet_of O.sent O.closed O.capacity O.free outlet.new) }
-{
-    match outlet.offer(packet) {
-        Ok(()) => {}
-        Err(_) => unreachable!(),
-    }
-}
-
-/// How many images an item was sent as.
-pub fn images_of(item: &Item, made: &Vec<Made>) -> u64
-    ensures { result ≡ images_for (arrival_of item.now) (length made.now.items) }
-{
-    match item {
-        Item::Line(_) => made.len() as u64,
-        Item::Lost => 0,
     }
 }
 

@@ -16,8 +16,10 @@ ghost use Rattle.hub_core.specs.Saying.{unheard_commands};
 
 use crate::deliver::deliver;
 use crate::hub::{Hub, HubError};
-use crate::image_table::Made;
-use crate::pump::{images_of, keep, prepare_item, put_into_room};
+use crate::image_table::{Made, images_of};
+use crate::messages::keep;
+use crate::outlets::put_into_room;
+use crate::prepare::prepare_item;
 use crate::respond::respond;
 use crate::session::{Session, place_of};
 use client_caps::{Asked, Moment, answers_tell_nothing};

@@ -8,7 +8,7 @@ ghost use Rattle.hub_core.specs.Upkeep.{AreFreed, Frees, KeepsAlive, is_nearly_f
 ghost use Rattle.hub_core.specs.Upkeep.{life_asked, nearly_full, with_free};
 
 use crate::hub::Hub;
-use crate::pump::put_into_room;
+use crate::outlets::put_into_room;
 use crate::session::Session;
 use hub_ends::{Inlet, Outlet, SessionId};
 use irc_line::{Line, MakeError};

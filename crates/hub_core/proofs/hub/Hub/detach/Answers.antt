@@ -82,6 +82,8 @@ module _ (g : Given.Over) (c : goal.Joined-gone-2 g) where
     sent = c.close.ensures.sent;
     closed = c.close.ensures.first (fits_at (g.V.NetworkView.view c.self.inside.view) front
         (state c.remove-gone.result) back fit).1;
+    capacity = c.close.ensures.capacity;
+    full = c.close.ensures.full;
     told_so = c.close.ensures.told;
     is = λ k. record {
       taken = old.taken;
