@@ -4,13 +4,13 @@ ghost use Rattle.std.specs.Prelude.{◌≡◌, IfOk};
 
 use crate::OutOfMemory;
 use crate::gate::Gate;
-use crate::outlet_end::OutletEnd;
+use crate::outlet_end::{OutletEnd, Stopper};
+use crate::stack::small_thread;
 use crate::writing::{Written, write_out};
 use std::alloc::AllocError;
 use std::io::Write;
 use std::snapshot::Snapshot;
 use std::sync::Wait;
-use std::thread;
 use std::thread::{Promise, PromisedHandle, Threads};
 
 /// What a writer was given: its end, what it writes to, and after how many takes that give nothing
@@ -56,8 +56,39 @@ pub fn spawn_writer<
         (h.promise.2.value ≡ idle)) }
 {
     let given = Given(Snapshot::of(&end), Snapshot::of(&out), Snapshot::of(&idle));
-    match thread::spawn_with(&rt, given, move || write_out(&rt, end, out, &gate, idle)) {
+    match small_thread().spawn_with(&rt, given, move || write_out(&rt, end, out, &gate, idle)) {
         Ok(handle) => Ok(handle),
         Err(_) => Err(AllocError),
+    }
+}
+
+/// Starts a thread that does `write_out`, until it is told to stop, however long nothing comes. If no
+/// thread could be started it is told to stop, and hands everything back.
+pub fn spawn_stoppable<
+    W: Write + Send + Drop + 'static,
+    G: Gate + Send + Drop + 'static,
+    R: Threads + Wait + Send + Copy + 'static,
+>(
+    rt: R,
+    end: OutletEnd,
+    out: W,
+    gate: G,
+    stopper: &Stopper,
+) -> Result<PromisedHandle<Written<W>, Given<W>>, Written<W>>
+    ensures { IfOk result (λ h. (h.promise.0.value ≡ end) × (h.promise.1.value ≡ out)) }
+{
+    let idle = u64::MAX;
+    let given = Given(Snapshot::of(&end), Snapshot::of(&out), Snapshot::of(&idle));
+    let write = move || {
+        let (end, out) = (end, out);
+        write_out(&rt, end, out, &gate, idle)
+    };
+    match small_thread().spawn_with(&rt, given, write) {
+        Ok(handle) => Ok(handle),
+        Err(refused) => {
+            stopper.stop();
+            let write = refused.value;
+            Err(write())
+        }
     }
 }
