@@ -1,8 +1,8 @@
 -- What is sent, and what is read.
 use Rattle.std.proofs.Common.{◌≡◌, ◌∙◌, refl, sym, ap, subst, ℕ, Bool, true, false, List}
 use Rattle.std.proofs.Common.{[], ◌∷◌, ◌++◌, ◌||◌, append_assoc, append-nil, Option, Some, None}
-use Rattle.std.proofs.Common.{inl, inr, Ok, Err, Result, is_err, ap₂}
-use Rattle.std.specs.Prelude.{if◌then◌else◌, ◌↔◌, IsErrOf, IsTrue, OnOk}
+use Rattle.std.proofs.Common.{inl, inr, Err, ap₂}
+use Rattle.std.specs.Prelude.{if◌then◌else◌, ◌↔◌, IsErrOf, IsTrue}
 use Rattle.std.specs.Io.KnownBytes.{Appends}
 use Rattle.upstream.proofs.Writable.{sure}
 use Rattle.irc_line.specs.Line.{Parts}
@@ -152,8 +152,3 @@ all_lines_cause network bytes before lines (Register f) short is h = (
 )
 all_lines_cause network bytes before lines Read short is h = absurd h
 all_lines_cause network bytes before lines TooLong short is h = absurd h
-
--- what is said of a call that did not fail
-pub done : {T E A : Type 0} (r : Result T E) → false ≡ is_err r → OnOk r A → A
-done (Ok x) well h = h
-done (Err e) well h = absurd cc

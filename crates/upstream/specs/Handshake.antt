@@ -1,6 +1,7 @@
 -- What a registration over two streams sends, and why it fails.
 use Rattle.std.specs.Prelude.{◌≡◌, ◌<◌, ◌+◌, ℕ, Bool, true, false, drop, length, take, List, []}
-use Rattle.std.specs.Prelude.{◌∷◌, ◌++◌, IsTrue}
+use Rattle.std.specs.Prelude.{◌∷◌, ◌++◌, IsTrue, Option}
+use Rattle.std.specs.Io.KnownBytes.{Appends}
 use Rattle.irc_line.specs.Line.{Parts}
 use Rattle.irc_line.specs.Lines.{Pending, fed, is_too_long, lines_of, start}
 use Rattle.bnc_config.specs.Settings.{NetworkSettings}
@@ -14,6 +15,11 @@ use Rattle.irc_line.specs.declared.splitter.FeedError.TheVariants as feed
 use Rattle.upstream.specs.declared.handshake.DialFault.{DialFault}
 use Rattle.upstream.specs.declared.handshake.DialFault.TheVariants.{Memory, Read, Write, TooLong}
 use Rattle.upstream.specs.declared.handshake.DialFault.TheVariants.{Register}
+
+-- a writer got a beginning of these bytes, or all of them
+abbrev pub Begins : Option (List ℕ) → Option (List ℕ) → List ℕ → Type 0
+Begins old new bytes =
+    (put : List ℕ) × (rest : List ℕ) × Appends old new put × (bytes ≡ put ++ rest)
 
 -- the lines that an answer sends
 abbrev pub lines_in : Answer → List Parts

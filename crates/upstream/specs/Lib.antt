@@ -4,3 +4,4 @@ pub mod Taken
 pub mod Progress
 pub mod Handshake
 pub mod Dialled
+pub mod Served

@@ -7,7 +7,7 @@ ghost use Rattle.irc_line.specs.Lines.{fed, lines_of, start};
 ghost use Rattle.bnc_config.specs.Settings.{NetworkSettings};
 ghost use Rattle.upstream.specs.Registration.{first_lines};
 ghost use Rattle.irc_line.specs.Writing.{bytes_of};
-ghost use Rattle.upstream.specs.Handshake.{IsCauseOf, IsSendCause, IsWelcomed, all_sent};
+ghost use Rattle.upstream.specs.Handshake.{Begins, IsCauseOf, IsSendCause, IsWelcomed, all_sent, sent_for};
 ghost use Rattle.upstream.specs.Taken.{HasTaken};
 ghost use Rattle.upstream.specs.Dialled.{dialled_stream, live_stream, live_welcomed};
 ghost use Rattle.upstream.specs.Dialled.{register_of, registering_stream};
@@ -57,7 +57,7 @@ impl<R: Read, W: Write> Dialled<R, W> {
 
     /// Sends the first lines of a registration, in one write: `CAP LS 302`, PASS where the settings
     /// have a password, NICK and USER. After a fault, which is `Memory` or `Write`, the stream is
-    /// handed back.
+    /// handed back: nothing was read of it, and a beginning of the lines was sent.
     pub fn begin(
         self,
         alloc: Global,
@@ -69,7 +69,9 @@ impl<R: Read, W: Write> Dialled<R, W> {
         ensures unread { IfOk result (λ r.
             (registering_stream r).reader ≡ (dialled_stream self).reader) }
         ensures err { IfErr result (λ x. IsSendCause x.0
-            × (x.1.reader ≡ (dialled_stream self).reader)) }
+            × (x.1.reader ≡ (dialled_stream self).reader)
+            × Begins (W.contents (dialled_stream self).writer) (W.contents x.1.writer)
+            (bytes_of (first_lines network.now))) }
     {
         let mut stream = self.stream;
         match open(alloc, &mut stream.writer, network) {
@@ -81,7 +83,8 @@ impl<R: Read, W: Write> Dialled<R, W> {
 
 impl<R: Read, W: Write> Registering<R, W> {
     /// Goes on to the welcome, as [`register`](crate::register) does: reads lines, and sends for
-    /// each what is to be sent for it, in one write. After a fault the stream is handed back.
+    /// each what is to be sent for it, in one write. After a fault the stream is handed back: a
+    /// beginning of what is to be sent was sent.
     pub fn finish(self, alloc: Global) -> Result<Live<R, W>, (DialFault, Duplex<R, W>)>
         // What `begin` sent, and what is sent here, are the lines of a registration.
         ensures ok { (network : NetworkSettings) (dialled : Option (List ℕ)) →
@@ -100,7 +103,9 @@ impl<R: Read, W: Write> Registering<R, W> {
         ensures err { (network : NetworkSettings) → HasTaken network [] (register_of self) →
             IfErr result (λ x. (bytes : List ℕ)
             × Consumes (R.remaining (registering_stream self).reader) (R.remaining x.1.reader) bytes
-            × IsCauseOf network bytes x.0) }
+            × IsCauseOf network bytes x.0
+            × Begins (W.contents (registering_stream self).writer) (W.contents x.1.writer)
+            (bytes_of (sent_for network [] (lines_of bytes)))) }
     {
         let mut stream = self.stream;
         match complete(alloc, self.register, &mut stream.reader, &mut stream.writer) {

@@ -1,13 +1,13 @@
 //! The registration over a reader and a writer.
 
 ghost use Rattle.std.specs.Prelude.{◌≡◌, ◌++◌, ◌∷◌, [], ◌+◌, ℕ, List, false, take};
-ghost use Rattle.std.specs.Prelude.{◌<◌, ◌≤◌, IfErr, IfNone, IfOk, IfSome, OnOk, drop, length};
+ghost use Rattle.std.specs.Prelude.{◌<◌, ◌≤◌, IfErr, IfNone, IfOk, IfSome, OnErr, OnOk, drop, length};
 ghost use Rattle.std.specs.Io.KnownBytes.{Appends, Consumes};
 ghost use Rattle.irc_line.specs.Line.{Parts};
 ghost use Rattle.irc_line.specs.Lines.{fed, lines_of, start};
 ghost use Rattle.bnc_config.specs.Settings.{NetworkSettings};
 ghost use Rattle.upstream.specs.Registration.{answer_to, first_lines, has_ended};
-ghost use Rattle.upstream.specs.Handshake.{IsCauseOf, IsEndedBy, IsLinesCause, IsSendCause};
+ghost use Rattle.upstream.specs.Handshake.{Begins, IsCauseOf, IsEndedBy, IsLinesCause, IsSendCause};
 ghost use Rattle.upstream.specs.Handshake.{IsStepCause, IsWelcomeAt, IsWelcomed};
 ghost use Rattle.irc_line.specs.Writing.{bytes_of};
 ghost use Rattle.upstream.specs.Handshake.{IsReading, all_sent, lines_in, sent_for};
@@ -15,6 +15,7 @@ ghost use Rattle.upstream.specs.Taken.{HasTaken};
 
 use crate::OutOfMemory;
 use crate::registration::{Register, RegisterFault, Step};
+use crate::writing::send;
 use bnc_config::NetworkConfig;
 use irc_line::{FeedError, Line, Splitter};
 use std::alloc::Global;
@@ -82,22 +83,6 @@ pub struct Welcomed {
     pub lines: Vec<Line>,
 }
 
-/// Sends lines, in one write.
-fn send<W: Write>(alloc: Global, lines: &[Line], writer: &mut W) -> Result<(), DialFault>
-    ensures sent { OnOk result
-        (Appends (W.contents writer.old) (W.contents writer.new) (bytes_of lines.now)) }
-    ensures err { IfErr result IsSendCause }
-{
-    let mut bytes = Vec::new(alloc);
-    for line in lines {
-        line.write(&mut bytes)?;
-    }
-    if writer.write_all(bytes.as_slice()).is_err() || writer.flush().is_err() {
-        return Err(DialFault::Write);
-    }
-    Ok(())
-}
-
 /// Takes one line, and sends what is to be sent for it; answers whether it is the welcome.
 fn take_line<W: Write>(
     alloc: Global,
@@ -112,6 +97,10 @@ fn take_line<W: Write>(
         HasTaken network before register.old →
         OnOk result (Appends (W.contents writer.old) (W.contents writer.new)
         (bytes_of (lines_in (answer_to network before line.now)))) }
+    ensures begun { (network : NetworkSettings) (before : List Parts) →
+        HasTaken network before register.old →
+        Begins (W.contents writer.old) (W.contents writer.new)
+        (bytes_of (lines_in (answer_to network before line.now))) }
     ensures ended { (network : NetworkSettings) (before : List Parts) →
         HasTaken network before register.old →
         IfOk result (IsEndedBy network (answer_to network before line.now)) }
@@ -155,6 +144,10 @@ fn take_lines<W: Write>(
     ensures err { (network : NetworkSettings) (before : List Parts) →
         HasTaken network before register.old → has_ended before ≡ false →
         IfErr result (IsLinesCause network before lines.now) }
+    ensures begun { (network : NetworkSettings) (before : List Parts) →
+        HasTaken network before register.old → has_ended before ≡ false →
+        Begins (W.contents writer.old) (W.contents writer.new)
+        (bytes_of (sent_for network before lines.now)) }
     ensures within { IfOk result (λ place. IfSome place (λ i. i < length lines.now)) }
 {
     for (place, line) in lines.iter().enumerate() {
@@ -197,6 +190,12 @@ fn take_piece<W: Write>(
     ensures err { (network : NetworkSettings) (bytes : List ℕ) →
         IsReading network bytes register.old splitter.old →
         IfErr result (IsCauseOf network (bytes ++ piece.now)) }
+    ensures begun { (network : NetworkSettings) (bytes : List ℕ) →
+        IsReading network bytes register.old splitter.old →
+        OnErr result ((more : List Parts)
+        × (lines_of (bytes ++ piece.now) ≡ lines_of bytes ++ more)
+        × Begins (W.contents writer.old) (W.contents writer.new)
+        (bytes_of (sent_for network (lines_of bytes) more))) }
     ensures within { IfOk result (λ place. IfSome place (λ i. i < length lines.new.items)) }
 {
     splitter.feed(piece, lines)?;
@@ -221,6 +220,8 @@ pub(crate) fn open<W: Write>(
     ensures taken { IfOk result (λ register. HasTaken network.now [] register) }
     ensures sent { OnOk result (Appends (W.contents writer.old) (W.contents writer.new)
         (bytes_of (first_lines network.now))) }
+    ensures begun { Begins (W.contents writer.old) (W.contents writer.new)
+        (bytes_of (first_lines network.now)) }
     ensures err { IfErr result IsSendCause }
 {
     let (register, first) = Register::start(alloc, network)?;
@@ -252,7 +253,9 @@ fn read_on<R: Read, W: Write>(
     ensures err { (network : NetworkSettings) → HasTaken network [] register.old →
         IfErr result (λ fault. (bytes : List ℕ)
         × Consumes (R.remaining reader.old) (R.remaining reader.new) bytes
-        × IsCauseOf network bytes fault) }
+        × IsCauseOf network bytes fault
+        × Begins (W.contents writer.old) (W.contents writer.new)
+        (bytes_of (sent_for network [] (lines_of bytes)))) }
     ensures within { IfOk result (λ place. place < length lines.new.items) }
 {
     let mut buffer = vec![in alloc; 0; PIECE]?;
@@ -296,7 +299,9 @@ pub(crate) fn complete<R: Read, W: Write>(
     ensures err { (network : NetworkSettings) → HasTaken network [] register →
         IfErr result (λ fault. (bytes : List ℕ)
         × Consumes (R.remaining reader.old) (R.remaining reader.new) bytes
-        × IsCauseOf network bytes fault) }
+        × IsCauseOf network bytes fault
+        × Begins (W.contents writer.old) (W.contents writer.new)
+        (bytes_of (sent_for network [] (lines_of bytes)))) }
 {
     let mut register = register;
     let mut splitter = Splitter::new(alloc);
@@ -316,7 +321,8 @@ pub(crate) fn complete<R: Read, W: Write>(
 /// Registers at a network: sends the first lines, and then, for each line that comes, what is to be
 /// sent for it, in one write. Answers the lines from the welcome on, once it has come.
 ///
-/// It reads at most 1,000,000,000 times. A read that is interrupted is tried again.
+/// It reads at most 1,000,000,000 times. A read or a write that is interrupted is tried again. At a
+/// fault a beginning of what is to be sent was sent.
 pub fn register<R: Read, W: Write>(
     alloc: Global,
     reader: &mut R,
@@ -333,7 +339,9 @@ pub fn register<R: Read, W: Write>(
         (bytes_of (all_sent network.now (before ++ welcome ∷ [])))) }
     ensures err { IfErr result (λ fault. (bytes : List ℕ)
         × Consumes (R.remaining reader.old) (R.remaining reader.new) bytes
-        × IsCauseOf network.now bytes fault) }
+        × IsCauseOf network.now bytes fault
+        × Begins (W.contents writer.old) (W.contents writer.new)
+        (bytes_of (all_sent network.now (lines_of bytes)))) }
 {
     let register = open(alloc, writer, network)?;
     complete(alloc, register, reader, writer)

@@ -1,15 +1,22 @@
-//! The registration at a network: what is sent, and how it ends.
+//! A network: the registration at it, and a connection from its first byte to its end.
 #![tactic(auto)]
 
 mod dialled;
 mod handshake;
+mod keeper;
 pub mod laws;
+mod link;
 mod offers;
 mod registration;
 mod said;
 mod sending;
+mod serving;
+mod writing;
 
 pub use dialled::{Dialled, Duplex, Live, Registering};
 pub use handshake::{DialFault, Welcomed, register};
+pub use keeper::Keeper;
+pub use link::Link;
 pub use registration::{Register, RegisterFault, Step};
+pub use serving::{NetworkEnd, Served, serve_network};
 pub use std::alloc::AllocError as OutOfMemory;

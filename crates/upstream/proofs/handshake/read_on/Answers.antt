@@ -2,7 +2,9 @@ use Rattle.std.proofs.Common.{◌∙◌, ◌+◌, ◌++◌, [], refl, sym, ap, s
 use Rattle.std.proofs.Common.{drop, length, append_assoc, ◌∷◌}
 use Rattle.std.specs.Io.KnownBytes.{Consumes}
 use Rattle.irc_line.specs.Lines.{lines_of}
-use Rattle.upstream.specs.Handshake.{IsCauseOf}
+use Rattle.irc_line.specs.Writing.{bytes_of}
+use Rattle.upstream.specs.Handshake.{Begins, IsCauseOf, sent_for}
+use Rattle.upstream.proofs.BegunLemmas.{begins_all, begun_in}
 use Rattle.upstream.proofs.ReadLemmas.{consumes_end, consumes_kept, consumes_more, consumes_nil}
 use Rattle.upstream.proofs.ReadLemmas.{piece_is}
 use Rattle.irc_line.proofs.Outcomes.{refused_by}
@@ -42,6 +44,7 @@ returns-in-Ok-eq0-clause-err g c = λ network taken.
           c.read.new.buf
           c.in-Ok-eq0.field-0 c.in-Ok-eq0.field-0-test so_far.1.read gave.0,
       (so_far.1.reading.short, so_far.1.reading.going),
+      begins_all _ _ _ so_far.1.sent,
     )
 
 pub returns-in_err-place-in-Ok-clause-err : goal.returns-in_err-place-in-Ok-clause-err
@@ -55,16 +58,22 @@ returns-in_err-place-in-Ok-clause-err g c = λ network taken.
     ∙ c.deref_mut.ensures.len) in
     let left = g.R.Read.remaining in
     let fault = c.in_err-place-in-Ok.field-0.0 in
+    let piece = take c.in-Ok.count c.deref.result.now in
+    let begun = c.in_err-place-in-Ok.ensures.begun network so_far.0 so_far.1.reading in
     refused_by c.from_residual-in_err-place-in-Ok.result
     (λ f. (bytes : List ℕ) × Consumes (left c.args.reader.now) (left c.read.new.self) bytes
-    × IsCauseOf network bytes f)
+    × IsCauseOf network bytes f
+    × Begins (g.W.Write.contents c.args.writer.now) (g.W.Write.contents c.take_piece.new.writer)
+    (bytes_of (sent_for network [] (lines_of bytes))))
     fault c.from_residual-in_err-place-in-Ok.ensures.1 (
-      so_far.0 ++ gave,
-      consumes_more (left c.args.reader.now) (left c.loop.reader) (left c.read.new.self) so_far.0
-          gave so_far.1.read
-          c.in-Ok.ensures.bytes.0,
-      subst (λ t. IsCauseOf network (so_far.0 ++ t) fault) same
-          (c.in_err-place-in-Ok.ensures.err network so_far.0 so_far.1.reading),
+      so_far.0 ++ piece,
+      subst (λ t. Consumes (left c.args.reader.now) (left c.read.new.self) (so_far.0 ++ t))
+          (sym same)
+          (consumes_more (left c.args.reader.now) (left c.loop.reader) (left c.read.new.self)
+          so_far.0 gave so_far.1.read c.in-Ok.ensures.bytes.0),
+      c.in_err-place-in-Ok.ensures.err network so_far.0 so_far.1.reading,
+      begun_in network [] (lines_of so_far.0) begun.0 (lines_of (so_far.0 ++ piece)) _ _ _ begun.1
+          so_far.1.sent begun.2,
     )
 
 pub returns-in-Some-clause-ok : goal.returns-in-Some-clause-ok
@@ -117,6 +126,7 @@ returns-then-ne-clause-err g c = λ network taken.
           so_far.1.read
           c.in-Err.ensures.bytes,
       (so_far.1.reading.short, so_far.1.reading.going),
+      begins_all _ _ _ so_far.1.sent,
     )
 
 pub loop-preserved : goal.loop-preserved
@@ -180,5 +190,9 @@ loop-preserved g c =
 
 pub returns-clause-err : goal.returns-clause-err
 returns-clause-err g c = λ network taken.
-    let so_far = c.loop.invariant.known network taken in
-    (so_far.0, so_far.1.read, (so_far.1.reading.short, so_far.1.reading.going))
+    let so_far = c.loop.invariant.known network taken in (
+      so_far.0,
+      so_far.1.read,
+      (so_far.1.reading.short, so_far.1.reading.going),
+      begins_all _ _ _ so_far.1.sent,
+    )

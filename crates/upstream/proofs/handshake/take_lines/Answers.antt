@@ -4,6 +4,7 @@ use Rattle.upstream.specs.Handshake.{IsLinesCause}
 use Rattle.upstream.specs.Taken.{HasTaken}
 use Rattle.irc_line.proofs.Outcomes.{refused_by}
 use Rattle.irc_line.proofs.LinesTaken.{behind, from_place, parted, up_to}
+use Rattle.upstream.proofs.BegunLemmas.{begins_all, begun_line}
 use Rattle.upstream.proofs.SentLemmas.{lines_cause}
 use Rattle.upstream.proofs.SentLemmas.{sent_step, still_going}
 use Rattle.upstream.proofs.handshake.take_lines.Goals as goal
@@ -67,3 +68,31 @@ returns-clause-none g c = λ network before taken going.
     take_all c.loop-place.place lines (omega arith) in
     let so_far = rw all at (c.loop-place.invariant network before taken going) in
     (so_far.taken, so_far.going, so_far.sent)
+
+pub returns-in_err-take_line-clause-begun : goal.returns-in_err-take_line-clause-begun
+returns-in_err-take_line-clause-begun g c = λ network before taken going.
+    let lines = c.args.lines.now in
+    let i = c.loop-place.place in
+    let line = c.index-lines-place.result in
+    let so_far = c.loop-place.invariant network before taken going in
+    begun_line network before (take i lines) (drop (i + 1) lines) lines line _ _ _
+    (parted lines i line c.loop-place-test.true c.index-lines-place.is) so_far.sent
+    (c.in_err-take_line.ensures.begun network (before ++ take i lines) so_far.taken)
+
+pub returns-then-branch-clause-begun : goal.returns-then-branch-clause-begun
+returns-then-branch-clause-begun g c = λ network before taken going.
+    let lines = c.args.lines.now in
+    let i = c.loop-place.place in
+    let line = c.index-lines-place.result in
+    let so_far = c.loop-place.invariant network before taken going in
+    begun_line network before (take i lines) (drop (i + 1) lines) lines line _ _ _
+    (parted lines i line c.loop-place-test.true c.index-lines-place.is) so_far.sent
+    (c.in_ok-take_line.ensures.begun network (before ++ take i lines) so_far.taken)
+
+pub returns-clause-begun : goal.returns-clause-begun
+returns-clause-begun g c = λ network before taken going.
+    let lines = c.args.lines.now in
+    let all : take c.loop-place.place lines ≡ lines =
+    take_all c.loop-place.place lines (omega arith) in
+    let so_far = rw all at (c.loop-place.invariant network before taken going) in
+    begins_all _ _ _ so_far.sent

@@ -3,7 +3,8 @@ use Rattle.irc_line.specs.Lines.{lines_of}
 use Rattle.upstream.specs.Handshake.{IsCauseOf, IsLinesCause, piece_fault}
 use Rattle.upstream.specs.Taken.{HasTaken}
 use Rattle.irc_line.proofs.PiecesTaken.{fed_more, lines_more, short_more}
-use Rattle.irc_line.proofs.Outcomes.{err_more, ok_none, ok_some, on_ok, refused_by}
+use Rattle.irc_line.proofs.Outcomes.{err_more, ok_none, ok_some, on_err, on_ok, refused_by}
+use Rattle.upstream.proofs.BegunLemmas.{begins_none, piece_more}
 use Rattle.upstream.proofs.SentLemmas.{all_lines_cause}
 use Rattle.upstream.proofs.SentLemmas.{piece_cause}
 use Rattle.upstream.proofs.handshake.take_piece.Goals as goal
@@ -73,3 +74,22 @@ returns-clause-err g c = λ network bytes reading.
     (λ f cause. all_lines_cause network (bytes
     ++ c.args.piece.now) (lines_of bytes) c.as_slice.result.now f short more cause)
     (c.take_lines.ensures.err network (lines_of bytes) reading.taken reading.going)
+
+pub returns-in_err-feed-clause-begun : goal.returns-in_err-feed-clause-begun
+returns-in_err-feed-clause-begun g c = λ network bytes reading.
+    let more = piece_more bytes c.args.piece.now in
+    on_err c.from_residual.result
+    (more.0, more.1, begins_none (g.W.Write.contents c.args.writer.now) _)
+
+pub returns-clause-begun : goal.returns-clause-begun
+returns-clause-begun g c = λ network bytes reading.
+    let more =
+    lines_more c.args.splitter.now bytes c.args.piece.now c.args.lines.now.items
+    c.feed.new.out.items
+    reading.split c.requires c.in_ok-feed.ensures.lines
+    ∙ ap (λ t. lines_of bytes ++ t) (sym c.as_slice.ensures.value) in
+    on_err c.take_lines.result (
+      c.as_slice.result.now,
+      more,
+      c.take_lines.ensures.begun network (lines_of bytes) reading.taken reading.going,
+    )

@@ -6,8 +6,8 @@ use Rattle.std.proofs.lemmas.List.{take_all}
 use Rattle.irc_line.specs.Writing.{bytes_of}
 use Rattle.upstream.specs.Handshake.{IsSendCause}
 use Rattle.upstream.specs.declared.handshake.DialFault.TheVariants as fault
-use Rattle.upstream.proofs.SentLemmas.{done}
-use Rattle.upstream.proofs.handshake.send.Goals as goal
+use Rattle.upstream.proofs.BegunLemmas.{begins_none}
+use Rattle.upstream.proofs.writing.send.Goals as goal
 
 pub returns-in_err-write-clause-sent : goal.returns-in_err-write-clause-sent
 returns-in_err-write-clause-sent g c =
@@ -25,5 +25,9 @@ returns-clause-sent g c =
     (λ t. Appends (g.W.Write.contents c.args.writer.now) (g.W.Write.contents c.flush.new.self) t)
     (c.as_slice.ensures.value ∙ c.loop-line.invariant ∙ ap bytes_of all)
     (appends_kept _ _ _ c.as_slice.result.now
-    (done c.write_all.result c.if-is_err.ensures.value c.write_all.ensures.bytes)
+    c.in_ok-write_whole.ensures.whole
     c.flush.ensures.bytes)
+
+pub returns-in_err-write-clause-begun : goal.returns-in_err-write-clause-begun
+returns-in_err-write-clause-begun g c =
+    begins_none (g.W.Write.contents c.args.writer.now) (bytes_of c.args.lines.now)

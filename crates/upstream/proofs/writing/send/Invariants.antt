@@ -1,6 +1,6 @@
 use Rattle.std.proofs.Common.{◌≡◌, take}
 use Rattle.irc_line.specs.Writing.{bytes_of}
-use Rattle.upstream.proofs.handshake.send.Given as goal
+use Rattle.upstream.proofs.writing.send.Given as goal
 
 abbrev pub invariant-loop-line : goal.invariant-loop-line
 invariant-loop-line g l = l.bytes.items ≡ bytes_of (take l.line-index l.lines)
