@@ -6,3 +6,4 @@ pub mod Sent
 pub mod Said
 pub mod Heard
 pub mod Places
+pub mod CameIn

@@ -25,4 +25,4 @@ pub use login::{Login, LoginStep};
 pub use sending::{deny, refuse};
 pub use serving::{ServeFault, Served, serve, serve_session};
 pub use std::alloc::AllocError as OutOfMemory;
-pub use watcher::{Unwatched, Watcher};
+pub use watcher::{Refusal, Unwatched, Watcher};

@@ -14,7 +14,7 @@ use crate::claim::Claim;
 use crate::fault::LoginFault;
 use crate::sending::{deny, refuse};
 use crate::talk::talk;
-use crate::watcher::{Unwatched, Watcher};
+use crate::watcher::{Refusal, Watcher};
 use bnc_config::{Config, Place};
 use hub_core::{AttachError, NoSession};
 use hub_ends::SessionId;
@@ -135,11 +135,12 @@ fn turn_away<W: Write + Drop, R: Threads + Wait>(rt: &R, handle: Writer<W>, erro
 /// told when the client's capabilities change.
 pub fn serve<
     V: NetworkView + Drop,
+    N,
     I: Read,
     W: Write + Send + Drop + 'static,
     G: Gate + Clone + Send + Drop + 'static,
     C: Clock,
-    X: Watcher,
+    X: Watcher<V, N, I>,
     R: Threads + Wait + Send + Copy + 'static,
 >(
     rt: R,
@@ -151,7 +152,7 @@ pub fn serve<
     network: &Network<V>,
     gate: &G,
     clock: &C,
-    watcher: &X,
+    watcher: &mut X,
 ) -> Result<(Leave, Ended<W>), ServeFault>
     ensures heard { IfOk result (λ x. WasHeard unread.splitter unread.lines.items
         (I.remaining reader.old) (I.remaining reader.new) x.0) }
@@ -163,13 +164,16 @@ pub fn serve<
     let id = match join_in(&rt, claim, network, outlet) {
         Ok(id) => id,
         Err(error) => {
+            watcher.refused(Refusal::NotAttached(error));
             turn_away(&rt, handle, error);
             return Err(ServeFault::Refused(error));
         }
     };
+    watcher.attached(id);
     let leave = talk(
         &rt, alloc, reader, unread, network, id, gate, clock, watcher,
     );
+    watcher.ended(leave);
     match end_session(&rt, network, id, handle) {
         Ok(ended) => Ok((leave, ended)),
         Err(NoSession) => Err(ServeFault::Cut),
@@ -177,15 +181,18 @@ pub fn serve<
 }
 
 /// Lets a client log in, asks whether its claim is right and its network among these, and serves
-/// it. A client that is not let in, for its password or its network, is told so by
-/// `:bnc 464 * :Password incorrect`; a network whose place is not among these is an unknown one.
-/// `OutOfMemory` also where no thread can be started; then there is no session.
+/// it. A client that is not let in, for its password or its network, gets
+/// `:bnc 464 * :Password incorrect`; a network whose place is not among these is an unknown one. The
+/// watcher is told each step, and lends the network.
+/// `OutOfMemory` also if no thread can be started; then there is no session.
 pub fn serve_session<
     V: NetworkView + Drop,
+    N,
     I: Read,
     W: Write + Send + Drop + 'static,
     G: Gate + Clone + Send + Drop + 'static,
     C: Clock,
+    X: Watcher<V, N, I>,
     R: Threads + Wait + Send + Copy + 'static,
 >(
     rt: R,
@@ -193,9 +200,10 @@ pub fn serve_session<
     reader: &mut I,
     writer: W,
     config: &Config,
-    networks: &[(Place, Network<V>)],
+    networks: &[(Place, N)],
     gate: &G,
     clock: &C,
+    watcher: &mut X,
 ) -> Result<Served<W>, OutOfMemory>
     ensures { IfOk result (IsServed W.contents config.now (map (λ one. one.0) networks.now)
         (I.remaining reader.old) (I.remaining reader.new) (W.contents writer)) }
@@ -203,18 +211,35 @@ pub fn serve_session<
     let mut writer = writer;
     let LoggedIn { ending, unread } = match log_in(alloc, reader, &mut writer) {
         Ok(login) => login,
-        Err(LoginFault::Memory) => return Err(OutOfMemory),
-        Err(_) => return Ok(Served::NoLogin),
+        Err(fault) => {
+            watcher.refused(Refusal::Login(fault));
+            return match fault {
+                LoginFault::Memory => Err(OutOfMemory),
+                _ => Ok(Served::NoLogin),
+            };
+        }
     };
     let Ending::Claims(claim) = ending else {
+        watcher.refused(Refusal::Closed);
         return Ok(Served::NoLogin);
     };
+    if !watcher.logged_in(&claim) {
+        return Ok(Served::NoLogin);
+    }
     let Some(network) = let_in(config, networks, &claim) else {
+        watcher.refused(Refusal::Denied);
         let _ = deny(&mut writer);
         return Ok(Served::NoLogin);
     };
+    let network = match watcher.let_in(reader, &claim, network) {
+        Ok(network) => network,
+        Err(error) => {
+            let _ = refuse(&mut writer, error);
+            return Ok(Served::Refused(error));
+        }
+    };
     match serve(
-        rt, alloc, reader, writer, &claim, unread, network, gate, clock, &Unwatched,
+        rt, alloc, reader, writer, &claim, unread, &network, gate, clock, watcher,
     ) {
         Ok((_, ended)) => Ok(Served::Ended(ended)),
         Err(ServeFault::Refused(error)) => Ok(Served::Refused(error)),

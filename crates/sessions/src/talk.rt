@@ -21,7 +21,11 @@ const PIECE: usize = 4_096;
 const READ_LIMIT: u64 = 1_000_000_000;
 
 /// Tells which capabilities a client holds now, if they are others than before.
-fn tell_change<X: Watcher>(watcher: &X, before: Option<Caps>, after: Option<Caps>) {
+fn tell_change<V: NetworkView + Drop, N, I: Read, X: Watcher<V, N, I>>(
+    watcher: &mut X,
+    before: Option<Caps>,
+    after: Option<Caps>,
+) {
     match after {
         Some(caps) if before != after => watcher.caps_changed(caps),
         _ => {}
@@ -30,13 +34,13 @@ fn tell_change<X: Watcher>(watcher: &X, before: Option<Caps>, after: Option<Caps
 
 /// Says a CAP line, and tells if it changed the client's capabilities; answers why the session
 /// ends, where it does.
-fn say_cap<V: NetworkView + Drop, X: Watcher, R: Wait>(
+fn say_cap<V: NetworkView + Drop, N, I: Read, X: Watcher<V, N, I>, R: Wait>(
     rt: &R,
     network: &Network<V>,
     id: SessionId,
     line: &Line,
     moment: Moment,
-    watcher: &X,
+    watcher: &mut X,
 ) -> Option<Leave>
     ensures { LeavesBy line.now result }
 {
@@ -51,13 +55,13 @@ fn say_cap<V: NetworkView + Drop, X: Watcher, R: Wait>(
 
 /// Says lines, in order, up to one that ends the session; answers why, where one does. The lock is
 /// taken anew for each.
-fn say_all<V: NetworkView + Drop, C: Clock, X: Watcher, R: Wait>(
+fn say_all<V: NetworkView + Drop, N, I: Read, C: Clock, X: Watcher<V, N, I>, R: Wait>(
     rt: &R,
     network: &Network<V>,
     id: SessionId,
     lines: &[Line],
     clock: &C,
-    watcher: &X,
+    watcher: &mut X,
 ) -> Option<Leave>
     ensures { WereSaid lines.now result }
 {
@@ -77,7 +81,7 @@ fn say_all<V: NetworkView + Drop, C: Clock, X: Watcher, R: Wait>(
 
 /// Takes a piece of what was read: says the lines that it completes; answers why the session ends,
 /// where it does.
-fn take_piece<V: NetworkView + Drop, C: Clock, X: Watcher, R: Wait>(
+fn take_piece<V: NetworkView + Drop, N, I: Read, C: Clock, X: Watcher<V, N, I>, R: Wait>(
     rt: &R,
     alloc: Global,
     splitter: &mut Splitter,
@@ -85,7 +89,7 @@ fn take_piece<V: NetworkView + Drop, C: Clock, X: Watcher, R: Wait>(
     network: &Network<V>,
     id: SessionId,
     clock: &C,
-    watcher: &X,
+    watcher: &mut X,
 ) -> Option<Leave>
     ensures { WasTaken splitter.old piece.now result splitter.new }
 {
@@ -99,7 +103,15 @@ fn take_piece<V: NetworkView + Drop, C: Clock, X: Watcher, R: Wait>(
 
 /// Reads what a client says and says it to its hub, what is unread first, until the session ends;
 /// answers why.
-pub(crate) fn talk<V: NetworkView + Drop, I: Read, G: Gate, C: Clock, X: Watcher, R: Wait>(
+pub(crate) fn talk<
+    V: NetworkView + Drop,
+    N,
+    I: Read,
+    G: Gate,
+    C: Clock,
+    X: Watcher<V, N, I>,
+    R: Wait,
+>(
     rt: &R,
     alloc: Global,
     reader: &mut I,
@@ -108,7 +120,7 @@ pub(crate) fn talk<V: NetworkView + Drop, I: Read, G: Gate, C: Clock, X: Watcher
     id: SessionId,
     gate: &G,
     clock: &C,
-    watcher: &X,
+    watcher: &mut X,
 ) -> Leave
     ensures { WasHeard unread.splitter unread.lines.items (I.remaining reader.old)
         (I.remaining reader.new) result }

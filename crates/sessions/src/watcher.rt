@@ -1,18 +1,92 @@
-//! Who is told how a session goes, as a log is.
+//! Who watches how a client is served, and lends it its network.
 
+ghost use Rattle.std.specs.Prelude.{◌≡◌};
+
+use crate::attending::Leave;
+use crate::claim::Claim;
+use crate::fault::LoginFault;
 use client_caps::Caps;
+use hub_core::AttachError;
+use hub_ends::SessionId;
+use hub_threads::Network;
+use net_view::NetworkView;
+use std::io::Read;
+use std::sync::Arc;
 
-/// Who is told what happens in a session. No lock is held then, and what it does changes nothing
-/// that is promised of the session.
-pub trait Watcher {
-    /// The client holds these capabilities now, and held others before.
-    fn caps_changed(&self, caps: Caps);
+/// Why a client has no session.
+#[derive(Clone, Copy, Debug, PartialEq, Eq)]
+pub enum Refusal {
+    /// Its login failed.
+    Login(LoginFault),
+    /// Its login was closed.
+    Closed,
+    /// Its password is wrong, or it claims a network that is not served.
+    Denied,
+    /// It was not attached.
+    NotAttached(AttachError),
 }
 
-/// Nobody is told.
+/// Who watches how a client is served: a program's limits and log. `N` stands for a network that is
+/// served, `I` is the client's reader. No lock is held during these calls.
+///
+/// What [`serve_session`](crate::serve_session) promises holds whatever a watcher answers: it can
+/// turn a client away, and can't let one in.
+pub trait Watcher<V: NetworkView + Drop, N, I: Read> {
+    /// The login is complete; whether the password is right isn't known yet. If the answer is
+    /// `false`, the client is not served and gets no answer.
+    fn logged_in(&mut self, claim: &Claim) -> bool;
+
+    /// The client may attach to this network. Lends the network for the session, or tells why there
+    /// is none now; the client is then told so. From here on the reader reads for a session; it must
+    /// not have read anything in this call.
+    fn let_in(
+        &mut self,
+        reader: &mut I,
+        claim: &Claim,
+        network: &N,
+    ) -> Result<Arc<Network<V>>, AttachError>
+        ensures { I.remaining reader.new ≡ I.remaining reader.old };
+
+    /// The client gets no session. It is told why after this call returns, unless its login failed
+    /// or was closed.
+    fn refused(&mut self, refusal: Refusal);
+
+    /// The client has a session with this number.
+    fn attached(&mut self, id: SessionId);
+
+    /// The client holds these capabilities now, and held others before.
+    fn caps_changed(&mut self, caps: Caps);
+
+    /// The session ended, for this reason. Its writer may still write.
+    fn ended(&mut self, why: Leave);
+}
+
+/// A watcher that does nothing. A network that is served is one that threads share.
 #[derive(Clone, Copy)]
 pub struct Unwatched;
 
-impl Watcher for Unwatched {
-    fn caps_changed(&self, _caps: Caps) {}
+impl<V: NetworkView + Drop, I: Read> Watcher<V, Arc<Network<V>>, I> for Unwatched {
+    fn logged_in(&mut self, _claim: &Claim) -> bool {
+        true
+    }
+
+    fn let_in(
+        &mut self,
+        _reader: &mut I,
+        _claim: &Claim,
+        network: &Arc<Network<V>>,
+    ) -> Result<Arc<Network<V>>, AttachError> {
+        match Arc::try_clone(network) {
+            Ok(network) => Ok(network),
+            Err(_) => Err(AttachError::OutOfMemory),
+        }
+    }
+
+    fn refused(&mut self, _refusal: Refusal) {}
+
+    fn attached(&mut self, _id: SessionId) {}
+
+    fn caps_changed(&mut self, _caps: Caps) {}
+
+    fn ended(&mut self, _why: Leave) {}
 }
