@@ -16,7 +16,8 @@ use Rattle.irc_line.specs.declared.splitter.FeedError.{FeedError}
 use Rattle.irc_line.specs.declared.splitter.FeedError.TheVariants.{TooLong, OutOfMemory}
 use Rattle.net_view.specs.Arrival.{Received}
 use Rattle.commands.specs.declared.fault.Fault.{Fault}
-use Rattle.commands.specs.declared.fault.Fault.TheVariants.{CannotListen, CannotRead, CannotWrite}
+use Rattle.commands.specs.declared.fault.Fault.TheVariants.{CannotListen, CannotRead}
+use Rattle.commands.specs.declared.fault.Fault.TheVariants.{CannotReadFile, CannotWrite}
 use Rattle.commands.specs.declared.fault.Fault.TheVariants.{LineTooLong, NotReady}
 use Rattle.commands.specs.declared.fault.Fault.TheVariants.{OutOfMemory as FaultOfMemory, Settings}
 use Rattle.commands.specs.Stream.{IsPieceRefusal, IsRefusal, transcript_of}
@@ -120,6 +121,7 @@ pub refused_piece : (bytes : List ℕ) (fault : Fault) → IsPieceRefusal bytes 
     → IsRefusal bytes fault
 refused_piece bytes CannotListen h = absurd h
 refused_piece bytes CannotRead h = absurd h
+refused_piece bytes (CannotReadFile why) h = h
 refused_piece bytes CannotWrite h = h
 refused_piece bytes LineTooLong h = h
 refused_piece bytes NotReady h = absurd h

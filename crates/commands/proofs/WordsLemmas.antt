@@ -10,8 +10,9 @@ use Rattle.clap.specs.Words.{App, IsAmong, Row, Text, fault_of, first_of, is_sim
 use Rattle.clap.specs.Words.{is_simple_and_free, subcommand_of}
 use Rattle.clap.specs.declared.error.kind.ErrorKind.{ErrorKind}
 use Rattle.clap.specs.declared.error.kind.ErrorKind.TheVariants as kind
-use Rattle.commands.specs.Command.{AsksFor, IsAttach, IsCauseOf, IsCommandCause, IsCommandOf}
-use Rattle.commands.specs.Command.{IsExplained, IsHistory, IsOfKind, bnc_app, spaced}
+use Rattle.commands.specs.Command.{AsksFor, AsksForText, IsAsked, IsAtFault, IsAttach, IsCauseOf}
+use Rattle.commands.specs.Command.{IsCommandCause, IsCommandOf, IsExplained, IsHistory, IsOfKind}
+use Rattle.commands.specs.Command.{bnc_app, spaced}
 use Rattle.client_caps.specs.declared.caps.Caps.{Caps}
 use Rattle.client_caps.specs.Caps.{no_caps}
 use Rattle.client_caps.specs.Request.{request_of}
@@ -44,13 +45,23 @@ pair_of_halves (Some s) f g a b first second = let x : Some a ≡ Some (f s) = f
 pub no_text : {X : Type 0} (x : X) → None ≡ Some x → ⊥
 no_text x h = cc
 
+-- want of memory is no question for help or the version
+pub memory_is_not_asked : (k : ErrorKind) → k ≡ kind.OutOfMemory → IsAsked k → ⊥
+memory_is_not_asked k memory (inl help) = cc
+memory_is_not_asked k memory (inr version) = cc
+
+-- nor is a kind that is neither of the two
+pub others_are_not_asked : (k : ErrorKind) → (k ≡ kind.DisplayHelp → ⊥)
+    → (k ≡ kind.DisplayVersion → ⊥) → IsAsked k → ⊥
+others_are_not_asked k no_help no_version (inl help) = no_help help
+others_are_not_asked k no_help no_version (inr version) = no_version version
+
 -- an error of `clap` is the cause of what it is told as
 pub cause_of_kind : (words : List Text) (k : ErrorKind) (fault : WordsFault)
     → (k ≡ kind.OutOfMemory) ⊎ IsAmong k (fault_of bnc_app words)
     → IsOfKind k fault → IsCauseOf words fault
-cause_of_kind words k (Help text) (inl memory) is = let e : kind.OutOfMemory ≡ kind.DisplayHelp =
-    sym memory ∙ is in cc
-cause_of_kind words k (Help text) (inr among) is = rw is at among
+cause_of_kind words k (Help text) (inl memory) is = absurd (memory_is_not_asked k memory is)
+cause_of_kind words k (Help text) (inr among) is = (k, is, among)
 cause_of_kind words k Bad (inl memory) is = absurd (is.0 memory)
 cause_of_kind words k Bad (inr among) is = inl (k, is.1, among)
 cause_of_kind words k OutOfMemory found is = tt
@@ -158,37 +169,34 @@ words_cause words name rows (Err Bad) asked h = inr (asks_nothing words name row
 words_cause words name rows (Err OutOfMemory) asked h = tt
 words_cause words name rows (Err (Help text)) asked h = absurd h
 
--- an error of `clap` other than that help was asked for is one of the words' faults
+-- an error of `clap` other than that help or the version was asked for is a fault of the words
 pub fault_at : (app : App) (words : List Text) (k : ErrorKind) → app ≡ bnc_app
-    → (k ≡ kind.OutOfMemory) ⊎ IsAmong k (fault_of app words) → (k ≡ kind.DisplayHelp → ⊥)
+    → (k ≡ kind.OutOfMemory) ⊎ IsAmong k (fault_of app words) → (IsAsked k → ⊥)
     → (k ≡ kind.OutOfMemory → ⊥)
-    → (x : ErrorKind) × (x ≡ kind.DisplayHelp → ⊥) × IsAmong x (fault_of bnc_app words)
-fault_at app words k same (inl memory) no_help no_memory = absurd (no_memory memory)
-fault_at app words k same (inr among) no_help no_memory =
-    (k, no_help, subst (λ (a : App). IsAmong k (fault_of a words)) same among)
+    → IsAtFault words
+fault_at app words k same (inl memory) not_asked no_memory = absurd (no_memory memory)
+fault_at app words k same (inr among) not_asked no_memory =
+    (k, not_asked, subst (λ (a : App). IsAmong k (fault_of a words)) same among)
 
--- an error that help was asked for is one of the words' faults
-pub help_at : (app : App) (words : List Text) (k : ErrorKind) → app ≡ bnc_app
-    → (k ≡ kind.OutOfMemory) ⊎ IsAmong k (fault_of app words) → k ≡ kind.DisplayHelp
-    → IsAmong kind.DisplayHelp (fault_of bnc_app words)
-help_at app words k same (inl memory) is =
-    let e : kind.OutOfMemory ≡ kind.DisplayHelp = sym memory ∙ is in cc
-help_at app words k same (inr among) is =
-    subst (λ (a : App). IsAmong kind.DisplayHelp (fault_of a words)) same
-    (subst (λ x. IsAmong x (fault_of app words)) is among)
+-- an error that help or the version was asked for is what the words ask for
+pub text_at : (app : App) (words : List Text) (k : ErrorKind) → app ≡ bnc_app
+    → (k ≡ kind.OutOfMemory) ⊎ IsAmong k (fault_of app words) → IsAsked k
+    → AsksForText words
+text_at app words k same (inl memory) is = absurd (memory_is_not_asked k memory is)
+text_at app words k same (inr among) is =
+    (k, is, subst (λ (a : App). IsAmong k (fault_of a words)) same among)
 
 -- what is told of such an error explains the words
 pub explained_at : {T E : Type 0} (app : App) (words : List Text) (k : ErrorKind)
     (told : Result (Option T) E) → app ≡ bnc_app
     → (k ≡ kind.OutOfMemory) ⊎ IsAmong k (fault_of app words)
-    → IfOk told (λ text. IfNone text (k ≡ kind.DisplayHelp))
-    → IfOk told (λ text. IfSome text (λ _. (k ≡ kind.DisplayHelp → ⊥)
-    × (k ≡ kind.OutOfMemory → ⊥)))
+    → IfOk told (λ text. IfNone text (IsAsked k))
+    → IfOk told (λ text. IfSome text (λ _. (IsAsked k → ⊥) × (k ≡ kind.OutOfMemory → ⊥)))
     → IfOk told (IsExplained words)
-explained_at app words k (Ok None) same found help fault = inr (help_at app words k same found help)
-explained_at app words k (Ok (Some text)) same found help fault =
+explained_at app words k (Ok None) same found text fault = inr (text_at app words k same found text)
+explained_at app words k (Ok (Some told)) same found text fault =
     fault_at app words k same found fault.0 fault.1
-explained_at app words k (Err e) same found help fault = tt
+explained_at app words k (Err e) same found text fault = tt
 
 -- one text for an option
 pub one_list : (rows : List Row) (caps : Caps) (n : ℕ) (list : Text)

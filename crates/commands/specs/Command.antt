@@ -60,7 +60,13 @@ view_app = new_app (codes "view")
 -- bnc COMMAND, where the words come without the program's name
 abbrev pub bare_app : App
 bare_app = let app = new_app (codes "bnc") in
-    record app { top = record app.top { no_binary_name = true; subcommand_required = true } }
+    record app {
+      top = record app.top {
+        no_binary_name = true;
+        subcommand_required = true;
+        has_version = true;
+      };
+    }
 
 abbrev pub bnc_app : App
 bnc_app =
@@ -111,25 +117,33 @@ AsksFor words command = (name : Text) × (rows : List Row)
     × (subcommand_of bnc_app words ≡ Some (name, rows))
     × IsCommandOf name rows command
 
+-- an error of this kind is no fault: help or the version was asked for
+abbrev pub IsAsked : ErrorKind → Type 0
+IsAsked k = (k ≡ kind.DisplayHelp) ⊎ (k ≡ kind.DisplayVersion)
+
 -- an error of this kind is told so; want of memory may be told of any
 abbrev pub IsOfKind : ErrorKind → WordsFault → Type 0
-IsOfKind k (Help text) = k ≡ kind.DisplayHelp
-IsOfKind k Bad = (k ≢ kind.OutOfMemory) × (k ≢ kind.DisplayHelp)
+IsOfKind k (Help text) = IsAsked k
+IsOfKind k Bad = (k ≢ kind.OutOfMemory) × (IsAsked k → ⊥)
 IsOfKind k OutOfMemory = Unit {0}
 
--- the cause of a fault of the words: the grammar finds that they ask for help, or are at fault in
--- another way, or they ask for nothing; want of memory is a fault of no words
+-- the grammar finds that the words ask for help or the version
+abbrev pub AsksForText : List Text → Type 0
+AsksForText words = (k : ErrorKind) × IsAsked k × IsAmong k (fault_of bnc_app words)
+
+-- it finds another fault in them
+abbrev pub IsAtFault : List Text → Type 0
+IsAtFault words = (k : ErrorKind) × (IsAsked k → ⊥) × IsAmong k (fault_of bnc_app words)
+
+-- the cause of a fault of the words: the grammar finds that they ask for help or the version, or
+-- are at fault in another way, or they ask for nothing; want of memory is a fault of no words
 abbrev pub IsCauseOf : List Text → WordsFault → Type 0
-IsCauseOf words (Help text) = IsAmong kind.DisplayHelp (fault_of bnc_app words)
-IsCauseOf words Bad =
-    ((k : ErrorKind) × (k ≢ kind.DisplayHelp) × IsAmong k (fault_of bnc_app words))
-    ⊎ ((command : Command) → AsksFor words command → ⊥)
+IsCauseOf words (Help text) = AsksForText words
+IsCauseOf words Bad = IsAtFault words ⊎ ((command : Command) → AsksFor words command → ⊥)
 IsCauseOf words OutOfMemory = Unit {0}
 
 -- why something, or nothing, is told of what is wrong with the words: the grammar finds a fault
--- other than that they ask for help, or it finds no such fault
+-- other than that they ask for help or the version, or it finds no such fault
 abbrev pub IsExplained : {T : Type 0} → List Text → Option T → Type 0
-IsExplained words (Some text) =
-    (k : ErrorKind) × (k ≢ kind.DisplayHelp) × IsAmong k (fault_of bnc_app words)
-IsExplained words None =
-    (fault_of bnc_app words ≡ []) ⊎ IsAmong kind.DisplayHelp (fault_of bnc_app words)
+IsExplained words (Some text) = IsAtFault words
+IsExplained words None = (fault_of bnc_app words ≡ []) ⊎ AsksForText words

@@ -1,12 +1,13 @@
 -- What a fault is told as, and which fault an error is. The texts are our own choice.
-use Rattle.std.specs.Prelude.{ℕ, List, codes}
+use Rattle.std.specs.Prelude.{◌≡◌, ◌≢◌, ◌++◌, ℕ, List, codes, string_bytes}
 use Rattle.std.specs.declared.io.ErrorKind.{ErrorKind}
 use Rattle.std.specs.declared.io.ErrorKind.TheVariants as kind
 use Rattle.irc_line.specs.declared.splitter.FeedError.{FeedError}
 use Rattle.irc_line.specs.declared.splitter.FeedError.TheVariants as feed
 use Rattle.bnc_config.specs.ConfigFault as config
 use Rattle.commands.specs.declared.fault.Fault.{Fault}
-use Rattle.commands.specs.declared.fault.Fault.TheVariants.{CannotListen, CannotRead, CannotWrite}
+use Rattle.commands.specs.declared.fault.Fault.TheVariants.{CannotListen, CannotRead}
+use Rattle.commands.specs.declared.fault.Fault.TheVariants.{CannotReadFile, CannotWrite}
 use Rattle.commands.specs.declared.fault.Fault.TheVariants.{LineTooLong, NotReady, OutOfMemory}
 use Rattle.commands.specs.declared.fault.Fault.TheVariants.{Settings}
 
@@ -14,6 +15,7 @@ use Rattle.commands.specs.declared.fault.Fault.TheVariants.{Settings}
 abbrev pub text_of : Fault → List ℕ
 text_of CannotListen = codes "cannot listen"
 text_of CannotRead = codes "cannot read"
+text_of (CannotReadFile why) = codes "cannot read\nbnc: " ++ string_bytes why
 text_of CannotWrite = codes "cannot write"
 text_of LineTooLong = codes "line too long"
 text_of NotReady = codes "not ready"
@@ -24,6 +26,13 @@ text_of (Settings fault) = config.text_of fault
 abbrev pub reading_fault : ErrorKind → Fault
 reading_fault kind.OutOfMemory = OutOfMemory
 reading_fault _ = CannotRead
+
+-- the fault of a settings file of which the read failed so; the reason may be left out
+abbrev pub IsFileFault : ErrorKind → Fault → Type 0
+IsFileFault k OutOfMemory = k ≡ kind.OutOfMemory
+IsFileFault k CannotRead = k ≢ kind.OutOfMemory
+IsFileFault k (CannotReadFile why) = k ≢ kind.OutOfMemory
+IsFileFault k _ = ⊥
 
 -- the fault of a piece that was not taken
 abbrev pub piece_fault : FeedError → Fault

@@ -7,6 +7,7 @@ ghost use Rattle.bnc_config.specs.Settings.{Settings, network_total};
 ghost use Rattle.commands.specs.Check.{IsCauseOf, report_of};
 
 use crate::fault::Fault;
+use crate::warning::{warn_of_readers, warn_of_salts};
 use bnc_config::Config;
 use std::alloc::Global;
 use std::io::Write;
@@ -52,10 +53,25 @@ pub fn run_check<W: Write>(alloc: Global, text: &[u8], out: &mut W) -> Result<()
     }
 }
 
-/// Checks the settings file at a path, and reports on standard output.
-pub fn check_file<R: AllocGlobal + Files + Print>(rt: &R, path: &str) -> Result<(), Fault> {
+/// The text of the settings file at a path.
+pub fn settings_text<R: AllocGlobal + Files>(rt: &R, path: &str) -> Result<Vec<u8>, Fault> {
     match fs::read(rt, path) {
-        Ok(text) => run_check(rt.alloc(), text.as_slice(), &mut io::writer(rt)),
-        Err(error) => Err(Fault::of_reading(&error)),
+        Ok(text) => Ok(text),
+        Err(error) => Err(Fault::of_file(rt.alloc(), path, &error)),
     }
+}
+
+/// Checks the settings file at a path, and reports on standard output. On standard error it warns
+/// of a file that others can read, and of short salts.
+pub fn check_file<R: AllocGlobal + Files + Print + Eprint>(
+    rt: &R,
+    path: &str,
+) -> Result<(), Fault> {
+    let text = settings_text(rt, path)?;
+    run_check(rt.alloc(), text.as_slice(), &mut io::writer(rt))?;
+    warn_of_readers(rt, path);
+    if let Ok(config) = Config::read(rt.alloc(), text.as_slice()) {
+        warn_of_salts(rt, &config);
+    }
+    Ok(())
 }

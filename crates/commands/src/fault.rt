@@ -2,11 +2,11 @@
 
 ghost use Rattle.std.specs.Prelude.{◌≡◌};
 ghost use Rattle.std.specs.IoError.{error_kind};
-ghost use Rattle.commands.specs.Faults.{reading_fault};
+ghost use Rattle.commands.specs.Faults.{IsFileFault, reading_fault};
 
 use bnc_config::ConfigFault;
 use irc_line::FeedError;
-use std::alloc::AllocError;
+use std::alloc::{AllocError, Global};
 use std::error::Error;
 use std::io::ErrorKind;
 use std::{fmt, io};
@@ -20,6 +20,8 @@ pub enum Fault {
     CannotRead,
     /// The output can't be written.
     CannotWrite,
+    /// The settings file can't be read: its path, and why.
+    CannotReadFile(String),
     /// More than 16,384 bytes of the input stand without LF.
     LineTooLong,
     /// The network that the input tells of is not ready: no 376, 422 or JOIN came after its
@@ -39,6 +41,20 @@ impl Fault {
         match error.kind() {
             ErrorKind::OutOfMemory => Fault::OutOfMemory,
             _ => Fault::CannotRead,
+        }
+    }
+
+    /// The fault of a settings file that was not read, told in two lines: `cannot read`, and
+    /// `bnc: FILE: REASON`.
+    pub fn of_file(alloc: Global, path: &str, error: &io::Error) -> Fault
+        ensures { IsFileFault (error_kind error.now) result }
+    {
+        match error.kind() {
+            ErrorKind::OutOfMemory => Fault::OutOfMemory,
+            _ => match format!(in alloc; "{path}: {error}") {
+                Ok(why) => Fault::CannotReadFile(why),
+                Err(_) => Fault::CannotRead,
+            },
         }
     }
 }
@@ -78,6 +94,7 @@ impl fmt::Display for Fault {
         match self {
             Fault::CannotListen => write!(f, "cannot listen"),
             Fault::CannotRead => write!(f, "cannot read"),
+            Fault::CannotReadFile(why) => write!(f, "cannot read\nbnc: {why}"),
             Fault::CannotWrite => write!(f, "cannot write"),
             Fault::LineTooLong => write!(f, "line too long"),
             Fault::NotReady => write!(f, "not ready"),

@@ -9,12 +9,14 @@ mod input;
 mod report;
 mod telling;
 mod view;
+mod warning;
 mod words;
 
 pub use attach::{Attaching, attach_input, run_attach};
-pub use check::{check_file, run_check};
+pub use check::{check_file, run_check, settings_text};
 pub use fault::Fault;
 pub use report::report_text;
 pub use telling::{tell_bad_words, tell_fault};
 pub use view::{Viewing, report_input, run_view};
+pub use warning::{warn_of_readers, warn_of_salts};
 pub use words::{Command, WordsFault, explain_words, read_words};

@@ -6,7 +6,8 @@ ghost use Rattle.clap.specs.Words.{with_subcommand};
 ghost use Rattle.clap.specs.declared.error.kind.ErrorKind.TheVariants as kind;
 ghost use Rattle.client_caps.specs.Caps.{no_caps};
 ghost use Rattle.client_caps.specs.Request.{request_of};
-ghost use Rattle.commands.specs.Command.{AsksFor, IsCauseOf, IsExplained, IsOfKind, bare_app};
+ghost use Rattle.commands.specs.Command.{AsksFor, IsAsked, IsCauseOf, IsExplained, IsOfKind};
+ghost use Rattle.commands.specs.Command.{bare_app};
 ghost use Rattle.commands.specs.Command.{IsCommandCause, IsCommandOf, IsHistory, attach_app};
 ghost use Rattle.commands.specs.Command.{bnc_app, caps_rule, check_app, file_rule, history_rule};
 ghost use Rattle.commands.specs.Command.{serve_app, space_for_comma, spaced};
@@ -38,7 +39,7 @@ pub enum WordsFault {
     /// They are not of the command line's grammar.
     #[error("bad command line")]
     Bad,
-    /// They ask for help, which is this text.
+    /// They ask for help or the version, which is this text.
     #[error("{0}")]
     Help(String),
     /// An allocation was refused.
@@ -114,6 +115,7 @@ fn bnc_grammar<'a>(alloc: Global) -> Result<clap::Command<'a>, AllocError>
     Ok(
         clap::Command::new(alloc, "bnc")
             .about("An IRC bouncer with late attach")
+            .version("1")
             .no_binary_name(true)
             .subcommand_required(true)
             .bin_name("bnc")?,
@@ -182,7 +184,7 @@ fn fault_of(alloc: Global, error: &clap::Error) -> WordsFault
 {
     match error.kind() {
         ErrorKind::OutOfMemory => WordsFault::OutOfMemory,
-        ErrorKind::DisplayHelp => match format!(in alloc; "{error}") {
+        ErrorKind::DisplayHelp | ErrorKind::DisplayVersion => match format!(in alloc; "{error}") {
             Ok(text) => WordsFault::Help(text),
             Err(_) => WordsFault::OutOfMemory,
         },
@@ -291,15 +293,16 @@ fn first_paragraph(text: &str) -> &str {
     }
 }
 
-/// What is wrong with words of which `clap` tells this error; `None` where they ask for help.
+/// What is wrong with words of which `clap` tells this error; `None` where they ask for help or the
+/// version.
 fn explained(alloc: Global, error: &clap::Error) -> Result<Option<String>, AllocError>
-    ensures help { IfOk result (λ text. IfNone text (kind_of error.now ≡ kind.DisplayHelp)) }
+    ensures text { IfOk result (λ text. IfNone text (IsAsked (kind_of error.now))) }
     ensures fault { IfOk result (λ text. IfSome text (λ _.
-        (kind_of error.now ≢ kind.DisplayHelp) × (kind_of error.now ≢ kind.OutOfMemory))) }
+        (IsAsked (kind_of error.now) → ⊥) × (kind_of error.now ≢ kind.OutOfMemory))) }
 {
     match error.kind() {
         ErrorKind::OutOfMemory => Err(AllocError),
-        ErrorKind::DisplayHelp => Ok(None),
+        ErrorKind::DisplayHelp | ErrorKind::DisplayVersion => Ok(None),
         _ => {
             let text = format!(in alloc; "{error}")?;
             Ok(Some(String::from_str(alloc, first_paragraph(text.as_str()))?))
@@ -309,7 +312,7 @@ fn explained(alloc: Global, error: &clap::Error) -> Result<Option<String>, Alloc
 
 /// What is wrong with words that are not of the command line's grammar: the first paragraph of what
 /// `clap` has to say of them, as `error: unrecognized subcommand 'chek'`. `None` where they ask for
-/// a command or for help.
+/// a command, for help or for the version.
 pub fn explain_words<'a>(alloc: Global, words: &'a [&'a str]) -> Result<Option<String>, AllocError>
     ensures { IfOk result (IsExplained (map (λ word. word.now) words.now)) }
 {

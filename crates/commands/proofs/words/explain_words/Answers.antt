@@ -20,4 +20,4 @@ returns c =
     let free = ap is_simple_and_free c.in_ok-grammar.ensures ∙ is_free-bnc_app in
     explained_at (app_of c.in_ok-grammar.field-0) words (kind_of c.in-Err.error)
     c.explained.result c.in_ok-grammar.ensures (c.in-Err.ensures.kinds free)
-    c.explained.ensures.help c.explained.ensures.fault
+    c.explained.ensures.text c.explained.ensures.fault
