@@ -1,9 +1,9 @@
 //! `bnc serve FILE`: stays on the networks of a settings file, and serves their users' clients.
 
+use crate::control::open_control;
 use bnc_config::Config;
-use commands::Fault;
-use serving::{Limits, Shared, accept, start_log, start_networks};
-use std::fs;
+use commands::{Fault, settings_text, warn_of_readers};
+use serving::{Limits, Shared, accept, start_control, start_log, start_networks, stop};
 use std::fs::File;
 use std::net::{Net, TcpListener, TcpStream};
 use std::rt::{Clock, Files};
@@ -12,10 +12,7 @@ use std::thread::Threads;
 
 /// The settings of the file at a path.
 fn settings_at<R: AllocGlobal + Files>(rt: &R, path: &str) -> Result<Config, Fault> {
-    let text = match fs::read(rt, path) {
-        Ok(text) => text,
-        Err(error) => return Err(Fault::of_reading(&error)),
-    };
+    let text = settings_text(rt, path)?;
     match Config::read(rt.alloc(), text.as_slice()) {
         Ok(config) => Ok(config),
         Err(fault) => Err(Fault::Settings(fault)),
@@ -23,7 +20,7 @@ fn settings_at<R: AllocGlobal + Files>(rt: &R, path: &str) -> Result<Config, Fau
 }
 
 /// Reads the settings file at a path, listens where it says, prints `listening ADDRESS`, and
-/// serves. It returns before it is killed only for a fault.
+/// serves. It returns before it is killed only for a fault, or when it was told to stop.
 pub fn serve_file<
     R: AllocGlobal
         + Files<File = File>
@@ -44,6 +41,7 @@ pub fn serve_file<
     }
     let alloc = rt.alloc();
     let config = settings_at(&rt, path)?;
+    warn_of_readers(&rt, path);
     let limits = Limits::of_program(config.retry());
     let Ok(listener) = TcpListener::bind(&rt, config.listen()) else {
         return Err(Fault::CannotListen);
@@ -60,6 +58,10 @@ pub fn serve_file<
     if println!(rt; "listening {address}").is_err() {
         return Err(Fault::CannotWrite);
     }
+    if let Some(words) = open_control(&rt, path) {
+        let _control = start_control(rt, alloc, &shared, words, address)?;
+    }
     accept(rt, alloc, &listener, &shared);
+    stop(&rt, &shared);
     Ok(())
 }

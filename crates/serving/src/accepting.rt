@@ -6,6 +6,7 @@ use crate::event::Event;
 use crate::refusals::{tell_counted, tell_refusal};
 use crate::seats::{Seat, take_seat};
 use crate::shared::Shared;
+use hub_threads::small_thread;
 use std::alloc::Global;
 use std::io::Write;
 use std::net::{SocketAddr, TcpListener, TcpStream};
@@ -46,7 +47,7 @@ fn start_client<R: Threads + Clock + Wait + Copy + Send + Drop + 'static>(
     let (Ok(given), Ok(theirs)) = (connection.share(), Arc::try_clone(shared)) else {
         return turn_away(&rt, shared, connection, peer, "no memory");
     };
-    let started = thread::spawn(&rt, move || {
+    let started = small_thread().spawn(&rt, move || {
         serve_client(rt, alloc, &theirs, seat, given, peer)
     });
     if started.is_err() {
@@ -76,7 +77,8 @@ fn take_connection<R: Threads + Clock + Wait + Copy + Send + Drop + 'static>(
 
 /// Accepts clients, as many as the limits say, and serves each in a thread of its own. One for
 /// whose login there is no seat is told `ERROR :too many connections`. Where a connection can't be
-/// accepted, as without a free descriptor, it waits a while and goes on.
+/// accepted, as without a free descriptor, it waits a while and goes on. The first connection that
+/// comes once the service ends ends it.
 pub fn accept<R: Threads + Clock + Wait + Copy + Send + Drop + 'static>(
     rt: R,
     alloc: Global,
@@ -85,6 +87,7 @@ pub fn accept<R: Threads + Clock + Wait + Copy + Send + Drop + 'static>(
 ) {
     for _ in 0..shared.limits().accepts {
         match listener.accept() {
+            Ok(_) if shared.is_stopping() => return,
             Ok((stream, peer)) => take_connection(rt, alloc, shared, stream, peer),
             Err(error) => {
                 shared

@@ -13,7 +13,8 @@ pub fn hang_up(stream: &TcpStream) {
 
 /// The gate of a session. It holds nobody. When the session's writer has ended, it shuts the
 /// connection: so the reader of a session that was cut, or to which nothing can be written, ends
-/// too. A writer that was given nothing to write leaves the connection as it is.
+/// too. A writer that was given nothing to write leaves the connection as it is, and so does one
+/// behind which a last word is to be said.
 #[derive(Drop)]
 pub struct HangingUp {
     connection: Connection,
@@ -29,7 +30,7 @@ impl HangingUp {
 impl Gate for HangingUp {
     fn pass(&self, point: Point) {
         if point == Point::AtEnd {
-            self.connection.hang_up();
+            self.connection.end();
         }
     }
 }

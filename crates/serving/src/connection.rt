@@ -4,15 +4,17 @@ use crate::closing::hang_up;
 use std::alloc::{AllocError, Global};
 use std::io;
 use std::io::{Read, Write};
-use std::net::TcpStream;
+use std::net::{Shutdown, TcpStream};
 use std::sync::Arc;
 use std::sync::atomic::{AtomicBool, Ordering};
+use std::time::Duration;
 
-/// A stream, and whether it was shut.
+/// A stream, whether it was shut, and whether it is to be shut behind a last word.
 #[derive(Drop)]
 struct Line {
     stream: TcpStream,
     is_shut: AtomicBool,
+    is_parting: AtomicBool,
 }
 
 /// A connection, in as many hands as need be: all of them are one descriptor, which is closed with
@@ -29,6 +31,7 @@ impl Connection {
         let line = Line {
             stream,
             is_shut: AtomicBool::new(false),
+            is_parting: AtomicBool::new(false),
         };
         Ok(Connection {
             line: Arc::new(alloc, line)?,
@@ -51,6 +54,34 @@ impl Connection {
     pub fn hang_up(&self) {
         self.line.is_shut.store(true, Ordering::SeqCst);
         hang_up(&self.line.stream);
+    }
+
+    /// Ends what comes in, also for a read that waits; what is written still goes out. Who serves
+    /// the connection says a last word, and then shuts it.
+    pub fn part(&self) {
+        self.line.is_parting.store(true, Ordering::SeqCst);
+        let _ = self.line.stream.shutdown(Shutdown::Read);
+    }
+
+    /// Whether a last word is to be said.
+    pub fn is_parting(&self) -> bool {
+        self.line.is_parting.load(Ordering::SeqCst)
+    }
+
+    /// Shuts it, where no last word is to be said.
+    pub fn end(&self) {
+        if !self.is_parting() {
+            self.hang_up();
+        }
+    }
+
+    /// Says a last word, where the peer takes it in this time, and shuts it.
+    pub fn say_last(&self, word: &[u8], time: Duration) {
+        let mut stream = self.stream();
+        if stream.set_write_timeout(Some(time)).is_ok() {
+            let _ = stream.write_all(word);
+        }
+        self.hang_up();
     }
 
     /// Whether it was shut by one of its hands.

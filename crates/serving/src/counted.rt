@@ -29,6 +29,11 @@ impl<W: Write + Drop> Counted<W> {
 }
 
 impl Count {
+    /// Begins anew.
+    pub fn begin(&self) {
+        self.bytes.store(0, Ordering::SeqCst)
+    }
+
     /// How many bytes were written so far.
     pub fn so_far(&self) -> u64 {
         self.bytes.load(Ordering::SeqCst)

@@ -1,7 +1,7 @@
 //! What the log tells.
 
 use crate::shown::{Held, Parting, Shown};
-use client_caps::Caps;
+use client_caps::{Caps, Moment, time_text};
 use hub_core::AttachError;
 use std::net::{IpAddr, SocketAddr};
 use std::{fmt, io};
@@ -44,6 +44,26 @@ pub enum Event<'a> {
         /// The seconds to the next dial.
         retry: u64,
     },
+    /// The connection to a network has ended with the service.
+    Parted,
+    /// How a network is, when that is asked for.
+    Status {
+        /// Since when it has taken us in; `None` where there is no connection to it.
+        since: Option<Moment>,
+        /// How many clients of it are served.
+        sessions: u64,
+    },
+    /// The service ends.
+    Stops,
+    /// A word that is none of those that are taken.
+    Ignored {
+        /// The word.
+        word: &'a [u8],
+    },
+    /// A line that is too long for a word.
+    IgnoredLine,
+    /// Nothing more can be read of the words.
+    NoWords,
     /// A pump was refused memory again and again, and goes on.
     PumpWithoutMemory,
     /// A pump was refused memory for too long, so its network is begun anew.
@@ -159,12 +179,31 @@ impl Event<'_> {
                 f,
                 "connection given up: no thread to write with; dials again in {retry} s"
             ),
+            Event::Parted => write!(f, "connection ended: bnc stops"),
             Event::PumpWithoutMemory => write!(f, "out of memory, tries again"),
             Event::BegunAnew => write!(
                 f,
                 "out of memory, begun anew: the messages and marks kept are gone"
             ),
             Event::PumpSpent => write!(f, "message numbers spent, takes no more"),
+            _ => self.write_of_control(f),
+        }
+    }
+
+    /// What is told of the words that control the program.
+    fn write_of_control<W: fmt::Write>(&self, f: &mut fmt::Formatter<W>) -> fmt::Result {
+        match self {
+            Event::Status { since, sessions } => {
+                match since {
+                    Some(since) => write!(f, "online since {}", Shown(&time_text(*since)))?,
+                    None => write!(f, "offline")?,
+                }
+                write!(f, "; sessions {sessions}")
+            }
+            Event::Stops => write!(f, "stops"),
+            Event::Ignored { word } => write!(f, "control: ignored {}", Shown(word)),
+            Event::IgnoredLine => write!(f, "control: ignored a line of more than 64 bytes"),
+            Event::NoWords => write!(f, "control: cannot read"),
             _ => Ok(()),
         }
     }

@@ -46,8 +46,15 @@ pub struct Limits {
     pub burst: u64,
     /// How many bytes a second they may say after that; 0 counts as 1.
     pub pace: u64,
+    /// At the end of the service, for all clients and networks to take their last words, and for
+    /// the log to be written.
+    pub stop: Duration,
     /// How many turns a pump makes at a time.
     pub turns: u64,
+    /// How many bytes are in reserve for the other networks when one has taken all memory.
+    pub reserve: usize,
+    /// How many bytes a network that takes much leaves beside them.
+    pub spare: usize,
     /// How many packets may wait for a network, and how many items of it for its hub; 0 counts as
     /// 1.
     pub packets: usize,
@@ -79,7 +86,10 @@ impl Limits {
             sessions: 64,
             burst: 1_500,
             pace: 100,
+            stop: Duration::from_secs(2),
             turns: u64::MAX,
+            reserve: 8_388_608,
+            spare: 60_000,
             packets: 256,
         }
     }

@@ -5,22 +5,11 @@ ghost use Rattle.history.specs.Messages.{is_capacity};
 
 use history::CapacityError;
 use hub_core::{Hub, Setup};
-use hub_threads::{InletEnd, Network, OutletEnd, Stopper, inlet, outlet, shared_bell};
+use hub_threads::{Network, inlet, outlet, shared_bell};
 use quick_view::QuickView;
 use std::alloc::{AllocError, Global};
 use std::sync::Arc;
-
-/// What a network's connections are read into and written from. It stays from one connection to
-/// the next.
-#[derive(Drop)]
-pub struct Link {
-    /// Where the items go that come.
-    pub inlet: InletEnd,
-    /// Where the packets come from that go.
-    pub outlet: OutletEnd,
-    /// Tells the writer of those packets to stop.
-    pub stopper: Stopper,
-}
+pub use upstream::Link;
 
 /// A network of which nothing came, and its link. Its history keeps so many messages, and its rings
 /// hold so many items and packets, where 0 counts as 1. Messages are numbered from 1, sessions from
@@ -53,15 +42,4 @@ pub fn network_with_link(
         stopper,
     };
     Ok((Network::new(hub, pump), link))
-}
-
-impl Link {
-    /// Drops the packets that wait for a connection which is lost.
-    pub fn drop_unsent(&mut self) {
-        for _ in 0..u64::MAX {
-            if self.outlet.take().is_none() {
-                return;
-            }
-        }
-    }
 }

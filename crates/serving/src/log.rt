@@ -8,6 +8,7 @@ use std::alloc::{AllocError, Global};
 use std::collections::VecDeque;
 use std::io::Write;
 use std::rt::Clock;
+use std::sync::atomic::{AtomicBool, Ordering};
 use std::sync::{Mutex, Wait};
 use std::thread::Parker;
 use std::{fmt, io};
@@ -48,6 +49,7 @@ pub struct Log {
     waiting: Mutex<Waiting>,
     // wakes the thread that writes
     writer: Parker,
+    is_written: AtomicBool,
 }
 
 /// What time it is, as it stands in the log.
@@ -95,6 +97,7 @@ impl Log {
                 is_over: false,
             }),
             writer: Parker::new(),
+            is_written: AtomicBool::new(false),
         })
     }
 
@@ -118,6 +121,11 @@ impl Log {
         self.writer.unpark();
     }
 
+    /// Whether it has ended, and all of it was written.
+    pub fn is_written(&self) -> bool {
+        self.is_written.load(Ordering::SeqCst)
+    }
+
     /// What the thread that writes does next. The lock is held for that step alone.
     fn next<R: Wait>(&self, rt: &R) -> Next {
         self.waiting.lock(rt).next()
@@ -130,7 +138,10 @@ impl Log {
             match self.next(rt) {
                 Next::Write(told) => write_told(rt, out, &told),
                 Next::Sleep => self.writer.park(rt),
-                Next::End => return,
+                Next::End => {
+                    self.is_written.store(true, Ordering::SeqCst);
+                    return;
+                }
             }
         }
         unreachable!()

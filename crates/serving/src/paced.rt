@@ -11,7 +11,7 @@ use net_view::NetworkView;
 use quick_view::QuickView;
 use std::io::{ErrorKind, Read};
 use std::rt::Clock;
-use std::sync::Wait;
+use std::sync::{Arc, Wait};
 use std::time::{Duration, Instant};
 use std::{io, thread};
 
@@ -40,7 +40,7 @@ const STEP: u64 = 50;
 pub struct Paced<'a, R: Wait + Clock> {
     rt: &'a R,
     connection: &'a Connection,
-    network: &'a Network<QuickView>,
+    network: Arc<Network<QuickView>>,
     pace: &'a Pace,
     ahead: Ahead,
     // how many bytes were handed on since it has waited for room
@@ -78,7 +78,7 @@ impl<'a, R: Wait + Clock> Paced<'a, R> {
         rt: &'a R,
         connection: &'a Connection,
         ahead: Ahead,
-        network: &'a Network<QuickView>,
+        network: Arc<Network<QuickView>>,
         pace: &'a Pace,
     ) -> Paced<'a, R> {
         Paced {
@@ -104,7 +104,7 @@ impl<'a, R: Wait + Clock> Paced<'a, R> {
     fn wait_for_room(&self) {
         for _ in 0..PATIENCE {
             thread::sleep(self.rt, Duration::from_millis(1));
-            if !is_crowded(self.rt, self.network) {
+            if !is_crowded(self.rt, &self.network) {
                 return;
             }
         }

@@ -3,14 +3,18 @@
 use crate::anew::{OfSettings, begin_anew};
 use crate::clock::SystemClock;
 use crate::event::Event;
+use crate::reserve::Reserve;
 use crate::shared::{Served, Shared};
 use crate::slot::Slot;
-use hub_threads::{FreeGate, PumpEnd, REFUSALS, REFUSED_REST, pump_loop};
+use crate::sparing::Sparing;
+use hub_core::{HubError, Pumped};
+use hub_threads::{Network, Patience, PumpEnd, REFUSALS, REFUSED_REST, Refusals};
 use net_view::NetworkView;
 use std::alloc::Global;
 use std::rt::Clock;
 use std::sync::Wait;
 use std::thread;
+use std::thread::Parker;
 use std::time::{Duration, Instant};
 
 /// For how many seconds the log tells nothing more of a network for which there is no memory.
@@ -34,6 +38,7 @@ fn is_due<R: Clock>(rt: &R, told: Option<Instant>) -> bool {
 #[derive(Drop)]
 pub struct Pump<'a, V: NetworkView + Drop> {
     slot: &'a Slot<V>,
+    sparing: Sparing<'a>,
     turns: u64,
     rest: u64,
     // how often it ended for want of memory with no item taken between
@@ -42,14 +47,67 @@ pub struct Pump<'a, V: NetworkView + Drop> {
 
 impl<'a, V: NetworkView + Drop> Pump<'a, V> {
     /// A pump that makes so many turns at a time, and rests for so many milliseconds after a
-    /// refusal.
-    pub fn new(slot: &'a Slot<V>, turns: u64, rest: u64) -> Pump<'a, V> {
+    /// refusal. When its network takes much, it leaves so many bytes beside the reserve.
+    pub fn new(
+        slot: &'a Slot<V>,
+        reserve: &'a Reserve,
+        spare: usize,
+        turns: u64,
+        rest: u64,
+    ) -> Pump<'a, V> {
         Pump {
             slot,
+            sparing: Sparing::new(reserve, spare),
             turns,
             rest,
             refused: 0,
         }
+    }
+
+    /// Takes an item into the hub, where the network may take one; else it is as if memory were
+    /// refused.
+    fn take<R: Wait + Clock>(&mut self, rt: &R, network: &Network<V>) -> Result<Pumped, HubError> {
+        if !self.sparing.may_take(rt) {
+            return Err(HubError::OutOfMemory);
+        }
+        let outcome = network.lock(rt).pump();
+        match outcome {
+            Ok(Pumped::Taken { .. }) => self.sparing.note_taken(),
+            Err(HubError::OutOfMemory) => self.sparing.note_refused(rt),
+            Ok(Pumped::Nothing) | Err(HubError::Spent) => {}
+        }
+        outcome
+    }
+
+    /// Makes so many turns, as `pump_loop` does; but a network that waits for memory takes nothing.
+    fn turn<R: Wait + Clock>(
+        &mut self,
+        rt: &R,
+        alloc: Global,
+        network: &Network<V>,
+        turns: u64,
+    ) -> PumpEnd {
+        let Ok(bell) = network.pump_bell() else {
+            return PumpEnd::Memory;
+        };
+        // nobody rings it, so a rest is not cut short by what comes
+        let bed = Parker::new();
+        let clock = SystemClock::of(rt);
+        let mut patience = Patience::new(alloc);
+        let mut refusals = Refusals::none();
+        for _ in 0..turns {
+            patience.give_time(rt, network, &bell, &clock);
+            let outcome = self.take(rt, network);
+            if let Some(end) = refusals.note(outcome) {
+                return end;
+            }
+            match outcome {
+                Ok(Pumped::Nothing) => bell.sleep(rt, turns),
+                Err(_) => bed.park_timeout(rt, Duration::from_millis(self.rest)),
+                Ok(Pumped::Taken { .. }) => {}
+            }
+        }
+        PumpEnd::Turns
     }
 
     /// Pumps so many turns, or until there is no memory or no number. After want of memory only as
@@ -64,8 +122,7 @@ impl<'a, V: NetworkView + Drop> Pump<'a, V> {
         } else {
             u64::from(REFUSALS)
         };
-        let clock = SystemClock::of(rt);
-        let ended = pump_loop(rt, alloc, &network, &FreeGate, &clock, turns, self.rest);
+        let ended = self.turn(rt, alloc, &network, turns);
         self.refused = match ended {
             PumpEnd::Memory => self.refused.saturating_add(1),
             PumpEnd::Turns | PumpEnd::Spent => 0,
@@ -74,12 +131,14 @@ impl<'a, V: NetworkView + Drop> Pump<'a, V> {
     }
 
     /// Whether the network is to be begun anew: it ended for want of memory three times in
-    /// succession, with no item taken between. The count begins anew then.
-    pub fn gives_up(&mut self) -> bool {
+    /// succession, with no item taken between. The count begins anew then, and the network that
+    /// comes does not wait for memory.
+    pub fn gives_up<R: Wait>(&mut self, rt: &R) -> bool {
         if self.refused < PATIENCE {
             return false;
         }
         self.refused = 0;
+        self.sparing.go_on(rt);
         true
     }
 }
@@ -109,7 +168,13 @@ pub fn keep_pumping<R: Wait + Clock>(rt: &R, alloc: Global, shared: &Shared, at:
         config: shared.config(),
         packets: served.limits.packets,
     };
-    let mut pump = Pump::new(served.slot, served.limits.turns, REFUSED_REST);
+    let mut pump = Pump::new(
+        served.slot,
+        shared.reserve(),
+        served.limits.spare,
+        served.limits.turns,
+        REFUSED_REST,
+    );
     let mut told = None;
     for _ in rt.forever() {
         match pump.run(rt, alloc) {
@@ -117,7 +182,7 @@ pub fn keep_pumping<R: Wait + Clock>(rt: &R, alloc: Global, shared: &Shared, at:
             PumpEnd::Memory => told = tell_memory(rt, &served, told),
             PumpEnd::Spent => return served.tell(rt, &Event::PumpSpent),
         }
-        if pump.gives_up() {
+        if pump.gives_up(rt) {
             begin_anew(rt, alloc, served.slot, &start);
             // told now, since a line of the log needs memory too
             served.tell(rt, &Event::BegunAnew);

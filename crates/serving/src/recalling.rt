@@ -33,6 +33,11 @@ impl<I: Read + Drop> Recalling<I> {
         }
     }
 
+    /// What is read.
+    pub(crate) fn input_mut(&mut self) -> &mut I {
+        &mut self.input
+    }
+
     /// The text of the last line that was read, where that is an ERROR, as
     /// `ERROR :Closing Link: h (Ping timeout)`.
     pub fn parting(&self, alloc: Global) -> Option<Vec<u8>> {

@@ -7,7 +7,6 @@ use irc_line::{Line, MakeError};
 use net_view::is_word;
 use std::alloc::{AllocError, Global};
 use std::io::Write;
-use std::net::TcpStream;
 use std::sync::Wait;
 
 /// How long a line may be without CR LF, in bytes. One channel alone may take more.
@@ -173,9 +172,13 @@ fn joins<R: Wait>(rt: &R, alloc: Global, served: &Served<'_>) -> Result<Vec<u8>,
 /// Asks a network for the channels that we were on when a connection was lost, each with its key,
 /// except those that the settings join, in one write. If an allocation fails nothing is asked for;
 /// a write that fails is found out by the next.
-pub fn rejoin<R: Wait>(rt: &R, alloc: Global, served: &Served<'_>, stream: &TcpStream) {
-    let mut stream = stream;
+pub(crate) fn rejoin<R: Wait, W: Write>(
+    rt: &R,
+    alloc: Global,
+    served: &Served<'_>,
+    writer: &mut W,
+) {
     if let Ok(bytes) = joins(rt, alloc, served) {
-        let _ = stream.write_all(bytes.as_slice());
+        let _ = writer.write_all(bytes.as_slice());
     }
 }

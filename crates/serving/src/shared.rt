@@ -6,6 +6,7 @@ use crate::limits::Limits;
 use crate::link::{Link, network_with_link};
 use crate::log::Log;
 use crate::refusals::Refusals;
+use crate::reserve::Reserve;
 use crate::seats::Seats;
 use crate::shown::Who;
 use crate::slot::Slot;
@@ -14,8 +15,8 @@ use quick_view::QuickView;
 use sessions::Claim;
 use std::alloc::{AllocError, Global};
 use std::rt::Clock;
-use std::sync::Wait;
-use std::sync::atomic::{AtomicU64, Ordering};
+use std::sync::atomic::{AtomicBool, AtomicU64, Ordering};
+use std::sync::{Arc, Wait};
 
 /// What all threads share: the settings, the networks, the log, and the connections that log in.
 #[derive(Drop)]
@@ -23,15 +24,18 @@ pub struct Shared {
     config: Config,
     limits: Limits,
     log: Log,
-    networks: Vec<(Place, Slot<QuickView>)>,
+    networks: Vec<(Place, Arc<Slot<QuickView>>)>,
     // the clients of each network that are served
     guests: Vec<(Place, Guests)>,
     // the connections that wait for their login
     seats: Seats,
     // what the log told of connections that were refused
     refusals: Refusals,
+    // what the networks that take little go on with
+    reserve: Reserve,
     // how many networks are still dialled
     dialled: AtomicU64,
+    is_stopping: AtomicBool,
 }
 
 /// One network, as its own threads need it.
@@ -70,7 +74,8 @@ impl Shared {
         for user in 0..config.user_count() {
             for network in 0..config.network_count(user) {
                 let (hub, link) = network_with_link(alloc, config.history(), limits.packets)?;
-                networks.push((Place { user, network }, Slot::new(alloc, hub)?))?;
+                let slot = Arc::new(alloc, Slot::new(alloc, hub)?)?;
+                networks.push((Place { user, network }, slot))?;
                 guests.push((Place { user, network }, Guests::new(&limits)))?;
                 links.push(link)?;
             }
@@ -84,7 +89,9 @@ impl Shared {
             guests,
             seats: Seats::new(alloc),
             refusals: Refusals::new(alloc)?,
+            reserve: Reserve::new(alloc, limits.reserve),
             dialled,
+            is_stopping: AtomicBool::new(false),
         };
         Ok((shared, links))
     }
@@ -105,7 +112,7 @@ impl Shared {
     }
 
     /// The networks, each with its place in the settings.
-    pub fn networks(&self) -> &[(Place, Slot<QuickView>)] {
+    pub fn networks(&self) -> &[(Place, Arc<Slot<QuickView>>)] {
         self.networks.as_slice()
     }
 
@@ -143,6 +150,11 @@ impl Shared {
         &self.refusals
     }
 
+    /// Memory for the networks that take little.
+    pub(crate) fn reserve(&self) -> &Reserve {
+        &self.reserve
+    }
+
     /// The network at this place among the networks, from 0.
     pub(crate) fn served(&self, at: usize) -> Option<Served<'_>> {
         let (place, slot) = self.networks.get(at)?;
@@ -159,6 +171,24 @@ impl Shared {
             limits: self.limits,
             log: &self.log,
         })
+    }
+
+    /// How many clients are served of the network at this place.
+    pub(crate) fn sessions_at(&self, at: usize) -> u64 {
+        match self.guests.get(at) {
+            Some((_, guests)) => guests.count(),
+            None => 0,
+        }
+    }
+
+    /// Begins the end of the service: nobody is accepted any more, and no network dialled.
+    pub fn begin_stop(&self) {
+        self.is_stopping.store(true, Ordering::SeqCst);
+    }
+
+    /// Whether the service ends.
+    pub fn is_stopping(&self) -> bool {
+        self.is_stopping.load(Ordering::SeqCst)
     }
 
     /// Tells that one network less is dialled.

@@ -2,6 +2,7 @@
 
 use crate::connection::Connection;
 use crate::link::Link;
+use client_caps::Moment;
 use hub_threads::Network;
 use net_view::NetworkView;
 use std::alloc::{AllocError, Global};
@@ -22,8 +23,8 @@ struct Standing<V: NetworkView + Drop> {
     network: Option<Arc<Network<V>>>,
     // the link of a network that was begun anew, until the thread that dials takes it
     link: Option<Link>,
-    // the connection to the network
-    upstream: Option<Connection>,
+    // the connection to the network, and since when it has taken us in
+    upstream: Option<(Connection, Moment)>,
     // the clients that were let in to it
     clients: Vec<Client>,
     // the number of the next client
@@ -75,15 +76,15 @@ pub struct Slot<V: NetworkView + Drop> {
 }
 
 /// A client's stay at the network that stood in a slot when it came. Dropping it ends that.
-pub(crate) struct Stay<'a, V: NetworkView + Drop, R: Wait + Drop> {
+pub(crate) struct Stay<V: NetworkView + Drop, R: Wait + Drop> {
     rt: R,
-    slot: &'a Slot<V>,
+    slot: Arc<Slot<V>>,
     number: u64,
     /// The network.
     pub(crate) network: Arc<Network<V>>,
 }
 
-impl<V: NetworkView + Drop, R: Wait + Drop> Drop for Stay<'_, V, R> {
+impl<V: NetworkView + Drop, R: Wait + Drop> Drop for Stay<V, R> {
     fn drop(self) {
         let Stay {
             rt,
@@ -98,7 +99,7 @@ impl<V: NetworkView + Drop, R: Wait + Drop> Drop for Stay<'_, V, R> {
     }
 }
 
-impl<V: NetworkView + Drop, R: Wait + Drop> Stay<'_, V, R> {
+impl<V: NetworkView + Drop, R: Wait + Drop> Stay<V, R> {
     /// Whether the network was begun anew since, so that the client's connection was shut.
     pub(crate) fn is_over(&self) -> bool {
         let standing = self.slot.standing.lock(&self.rt);
@@ -126,23 +127,6 @@ impl<V: NetworkView + Drop> Slot<V> {
         standing.network_of_now()
     }
 
-    /// Lets a client in, whose connection is shut when the network is begun anew. `None` while that
-    /// is done, or where memory is refused.
-    pub(crate) fn enter<R: Wait + Drop>(
-        &self,
-        rt: R,
-        connection: Connection,
-    ) -> Option<Stay<'_, V, R>> {
-        let entered = self.standing.lock(&rt).enter(connection);
-        let (network, number) = entered?;
-        Some(Stay {
-            rt,
-            slot: self,
-            number,
-            network,
-        })
-    }
-
     /// The link of the network that stands here: this one, or that of the network begun anew since.
     pub fn link_of_now<R: Wait>(&self, rt: &R, link: Link) -> Link {
         let newer = self.standing.lock(rt).link.take();
@@ -152,14 +136,14 @@ impl<V: NetworkView + Drop> Slot<V> {
         }
     }
 
-    /// Notes the connection to the network, which is shut when that is begun anew; false where it
-    /// was begun anew since the link was asked for.
-    pub(crate) fn connect<R: Wait>(&self, rt: &R, connection: Connection) -> bool {
+    /// Notes the connection to the network, which has taken us in now, and is shut when the network
+    /// is begun anew; false where it was begun anew since the link was asked for.
+    pub(crate) fn connect<R: Wait>(&self, rt: &R, connection: Connection, now: Moment) -> bool {
         let mut standing = self.standing.lock(rt);
         if standing.network.is_none() || standing.link.is_some() {
             return false;
         }
-        standing.upstream = Some(connection);
+        standing.upstream = Some((connection, now));
         true
     }
 
@@ -169,11 +153,34 @@ impl<V: NetworkView + Drop> Slot<V> {
         drop(gone);
     }
 
+    /// Since when the network has taken us in; `None` where there is no connection to it.
+    pub(crate) fn online_since<R: Wait>(&self, rt: &R) -> Option<Moment> {
+        let standing = self.standing.lock(rt);
+        match &standing.upstream {
+            Some((_, since)) => Some(*since),
+            None => None,
+        }
+    }
+
+    /// Has each client's session end behind a last word.
+    pub(crate) fn part_clients<R: Wait>(&self, rt: &R) {
+        for client in &self.standing.lock(rt).clients {
+            client.connection.part();
+        }
+    }
+
+    /// Has the connection to the network end behind a last word.
+    pub(crate) fn part<R: Wait>(&self, rt: &R) {
+        if let Some((upstream, _)) = &self.standing.lock(rt).upstream {
+            upstream.part();
+        }
+    }
+
     /// Takes the network out and shuts its connection and those of its clients. What it held is
     /// freed as soon as their threads have ended.
     pub(crate) fn clear<R: Wait>(&self, rt: &R) {
         let gone = self.standing.lock(rt).clear();
-        if let Some(upstream) = &gone.upstream {
+        if let Some((upstream, _)) = &gone.upstream {
             upstream.hang_up();
         }
         for client in &gone.clients {
@@ -187,4 +194,22 @@ impl<V: NetworkView + Drop> Slot<V> {
         standing.network = Some(network);
         standing.link = Some(link);
     }
+}
+
+/// Lets a client in to the network in a slot; its connection is shut when the network is begun anew.
+/// `None` while that is done, or if memory is refused.
+pub(crate) fn enter<V: NetworkView + Drop, R: Wait + Drop>(
+    slot: &Arc<Slot<V>>,
+    rt: R,
+    connection: Connection,
+) -> Option<Stay<V, R>> {
+    let theirs = Arc::try_clone(slot).ok()?;
+    let entered = slot.standing.lock(&rt).enter(connection);
+    let (network, number) = entered?;
+    Some(Stay {
+        rt,
+        slot: theirs,
+        number,
+        network,
+    })
 }

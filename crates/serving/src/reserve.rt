@@ -1,0 +1,86 @@
+//! Memory in reserve, for the networks that take little when another has taken the rest.
+
+use std::alloc::Global;
+use std::sync::{Mutex, Wait};
+
+/// The reserve, and how many wait for memory.
+#[derive(Drop)]
+struct Kept {
+    // none where it was given up, or could not be had
+    block: Option<Vec<u8>>,
+    waiting: u64,
+}
+
+/// Memory in reserve. A network that takes much gives it up when there is no more memory, and waits
+/// until twice as much can be had: so what the others need comes out of it. Nothing is written to
+/// it, so the system only counts it.
+#[derive(Drop)]
+pub struct Reserve {
+    alloc: Global,
+    size: usize,
+    kept: Mutex<Kept>,
+}
+
+/// A block of so many bytes; `None` where it is refused.
+fn block_of(alloc: Global, size: usize) -> Option<Vec<u8>> {
+    Vec::with_capacity(alloc, size).ok()
+}
+
+impl Reserve {
+    /// A reserve of so many bytes; none where they are refused.
+    pub fn new(alloc: Global, size: usize) -> Reserve {
+        Reserve {
+            alloc,
+            size,
+            kept: Mutex::new(Kept {
+                block: block_of(alloc, size),
+                waiting: 0,
+            }),
+        }
+    }
+
+    /// Whether so many bytes can be had beside it. Where they can, and nobody waits for memory, a
+    /// reserve that was given up is taken again.
+    pub(crate) fn leaves<R: Wait>(&self, rt: &R, spare: usize) -> bool {
+        let Some(spared) = block_of(self.alloc, spare) else {
+            return false;
+        };
+        let mut kept = self.kept.lock(rt);
+        if kept.block.is_none() && kept.waiting == 0 {
+            kept.block = block_of(self.alloc, self.size);
+        }
+        drop(spared);
+        true
+    }
+
+    /// Gives it up, for one who waits for memory from now on.
+    pub(crate) fn give_up<R: Wait>(&self, rt: &R) {
+        let mut kept = self.kept.lock(rt);
+        kept.waiting = kept.waiting.saturating_add(1);
+        let block = kept.block.take();
+        drop(kept);
+        drop(block);
+    }
+
+    /// Takes it again where twice as much can be had; whether that is so.
+    pub(crate) fn is_back<R: Wait>(&self, rt: &R) -> bool {
+        let mut kept = self.kept.lock(rt);
+        if kept.block.is_some() {
+            return true;
+        }
+        let Some(first) = block_of(self.alloc, self.size) else {
+            return false;
+        };
+        if block_of(self.alloc, self.size).is_none() {
+            return false;
+        }
+        kept.block = Some(first);
+        true
+    }
+
+    /// Says that one who waited for memory waits no more.
+    pub(crate) fn go_on<R: Wait>(&self, rt: &R) {
+        let mut kept = self.kept.lock(rt);
+        kept.waiting = kept.waiting.saturating_sub(1);
+    }
+}

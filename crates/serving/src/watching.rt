@@ -1,0 +1,341 @@
+//! What the shell adds to a client's way from its login to the end of its session: its seat, the
+//! number of sessions, the pace, late answers, and the log.
+
+use crate::client_input::ClientInput;
+use crate::connection::Connection;
+use crate::counted::Count;
+use crate::event::Event;
+use crate::guests::Guests;
+use crate::refusals::tell_refusal;
+use crate::seats::Seat;
+use crate::shared::Shared;
+use crate::shown::Who;
+use crate::slot::{Slot, Stay, enter};
+use client_caps::Caps;
+use hub_core::AttachError;
+use hub_ends::SessionId;
+use hub_threads::{Ended, Network, WRITE_CALL};
+use quick_view::QuickView;
+use sessions::{Claim, Leave, LoginFault, OutOfMemory, Refusal, Served, Watcher};
+use std::alloc::Global;
+use std::io::Write;
+use std::net::SocketAddr;
+use std::rt::Clock;
+use std::sync::{Arc, Wait};
+use std::thread;
+use std::time::{Duration, Instant};
+
+/// Why a login was over whose seat another took.
+const GAVE_WAY: &str = "gave way, too many connections";
+
+/// What a client is sent whose time for a login is up, and that sent no PASS.
+const SEND_PASS: &[u8] = b"ERROR :send PASS user@client/network:password\r\n";
+
+/// What a client is told at the end of the service.
+const STOPS: &[u8] = b"ERROR :bnc stops\r\n";
+
+/// Why a login was over before it was done.
+fn cause_of_login(fault: LoginFault) -> &'static str {
+    match fault {
+        LoginFault::Memory => "out of memory",
+        LoginFault::Read => "gone, or too late",
+        LoginFault::Write => "cannot write",
+        LoginFault::TooLong => "line too long",
+        LoginFault::NoRoom => "out of memory",
+    }
+}
+
+/// Why a session ended.
+fn cause_of_leave(leave: Leave) -> &'static str {
+    match leave {
+        Leave::Quit => "quit",
+        Leave::Cut => "cut, it took too little",
+        Leave::EndOfInput => "gone",
+        Leave::ReadFault => "cannot read",
+        Leave::TooLong => "line too long",
+        Leave::OutOfMemory => "out of memory",
+    }
+}
+
+/// The names in a claim, kept for the log.
+#[derive(Drop)]
+struct Names {
+    user: Vec<u8>,
+    client: Option<Vec<u8>>,
+    network: Vec<u8>,
+}
+
+impl Names {
+    /// Those of a claim.
+    fn of(alloc: Global, claim: &Claim) -> Result<Names, OutOfMemory> {
+        let client = match &claim.client {
+            Some(client) => Some(Vec::from_slice(alloc, client.as_slice())?),
+            None => None,
+        };
+        Ok(Names {
+            user: Vec::from_slice(alloc, claim.user.as_slice())?,
+            client,
+            network: Vec::from_slice(alloc, claim.network.as_slice())?,
+        })
+    }
+
+    /// Whom the log tells about.
+    fn who(&self) -> Who<'_> {
+        Who {
+            user: self.user.as_slice(),
+            client: self.client.as_deref(),
+            network: self.network.as_slice(),
+        }
+    }
+}
+
+/// A client that was let in to a network.
+#[derive(Drop)]
+struct Inside<'a, R: Wait + Drop> {
+    stay: Stay<QuickView, R>,
+    guests: &'a Guests,
+}
+
+/// Watches one client.
+#[derive(Drop)]
+pub(crate) struct Watching<'a, R: Wait + Clock + Copy + Drop> {
+    rt: &'a R,
+    alloc: Global,
+    shared: &'a Shared,
+    connection: &'a Connection,
+    peer: SocketAddr,
+    // how many bytes were written to the client
+    count: Count,
+    // kept until the client is let in, or was told that it isn't
+    seat: Option<Seat<R>>,
+    // when the login was complete
+    completed: Option<Instant>,
+    // whom the client claims to be
+    names: Option<Names>,
+    // why it has no session
+    refusal: Option<Refusal>,
+    inside: Option<Inside<'a, R>>,
+    // why its session ended
+    why: Option<Leave>,
+}
+
+impl<'a, R: Wait + Clock + Copy + Drop> Watching<'a, R> {
+    /// Watches a client from its login on.
+    pub(crate) fn start(
+        rt: &'a R,
+        alloc: Global,
+        shared: &'a Shared,
+        connection: &'a Connection,
+        peer: SocketAddr,
+        seat: Seat<R>,
+        count: Count,
+    ) -> Watching<'a, R> {
+        Watching {
+            rt,
+            alloc,
+            shared,
+            connection,
+            peer,
+            count,
+            seat: Some(seat),
+            completed: None,
+            names: None,
+            refusal: None,
+            inside: None,
+            why: None,
+        }
+    }
+
+    /// Tells the log of this client.
+    fn tell(&self, event: &Event) {
+        let log = self.shared.log();
+        match &self.names {
+            Some(names) => log.tell(self.rt, &names.who(), event),
+            None => log.tell(self.rt, &"bnc", event),
+        }
+    }
+
+    /// Tells the log of a login that was over before it was done.
+    fn tell_no_login(&self, cause: &str) {
+        let event = Event::NoLogin {
+            peer: self.peer,
+            cause,
+        };
+        tell_refusal(self.rt, self.shared, self.peer.ip(), &"bnc", &event);
+    }
+
+    /// Tells that a password was wrong, and waits until the time for the answer has come, which is
+    /// counted from the end of the login; whatever was done meanwhile takes none of it.
+    fn deny_late(&self) {
+        let event = Event::WrongPassword { peer: self.peer };
+        if let Some(names) = &self.names {
+            tell_refusal(self.rt, self.shared, self.peer.ip(), &names.who(), &event);
+        }
+        let passed = match &self.completed {
+            Some(completed) => completed.elapsed(self.rt).unwrap_or(Duration::ZERO),
+            None => Duration::ZERO,
+        };
+        let left = self.shared.limits().wrong_password.saturating_sub(passed);
+        thread::sleep(self.rt, left);
+    }
+
+    /// The network of a slot, for a session: one of as many as there may be.
+    fn enter(
+        &mut self,
+        claim: &Claim,
+        slot: &Arc<Slot<QuickView>>,
+    ) -> Result<Arc<Network<QuickView>>, AttachError> {
+        let guests = self.shared.guests_of(claim).ok_or(AttachError::NotReady)?;
+        let connection = self.connection.share()?;
+        let stay = enter(slot, *self.rt, connection).ok_or(AttachError::OutOfMemory)?;
+        let network = Arc::try_clone(&stay.network)?;
+        if !guests.enter(self.shared.limits().sessions) {
+            return Err(AttachError::Full);
+        }
+        self.inside = Some(Inside { stay, guests });
+        Ok(network)
+    }
+
+    /// Sets what holds of the connection in a session.
+    fn set_timeouts(&self) -> Result<(), AttachError> {
+        let stream = self.connection.stream();
+        let call = Duration::from_millis(WRITE_CALL);
+        if stream.set_read_timeout(None).is_err() || stream.set_write_timeout(Some(call)).is_err() {
+            return Err(AttachError::OutOfMemory);
+        }
+        Ok(())
+    }
+
+    /// Ends a login that was over before it was done. A client that forgot PASS is told so.
+    fn end_login(&self, input: &ClientInput<'a, R>) {
+        let is_lost = self.seat.as_ref().is_none_or(|seat| seat.is_lost());
+        match self.refusal {
+            None => self.tell_no_login(GAVE_WAY),
+            Some(Refusal::Login(_)) if is_lost => self.tell_no_login(GAVE_WAY),
+            Some(Refusal::Login(LoginFault::Read)) if input.lacks_pass() => {
+                let mut out = self.connection.stream();
+                // one that has gone hears nothing
+                let _ = out.write_all(SEND_PASS);
+                self.tell_no_login("too late, no PASS came")
+            }
+            Some(Refusal::Login(fault)) => self.tell_no_login(cause_of_login(fault)),
+            Some(Refusal::Closed) => self.tell_no_login("closed"),
+            Some(Refusal::Denied | Refusal::NotAttached(_)) => {}
+        }
+    }
+
+    /// Tells the log how a session ended that its client left, or that ended with its network.
+    fn tell_ended<W: Write>(&self, ended: &Ended<W>) {
+        let is_over = self
+            .inside
+            .as_ref()
+            .is_some_and(|inside| inside.stay.is_over());
+        let is_parting = self.connection.is_parting();
+        let cause = match self.why {
+            _ if is_over => "network begun anew",
+            Some(Leave::EndOfInput) if is_parting => "bnc stops",
+            Some(why) => cause_of_leave(why),
+            None => "gone",
+        };
+        self.tell(&Event::Ended {
+            cause,
+            whole: ended.written.is_ok(),
+            bytes: self.count.so_far(),
+        });
+    }
+
+    /// Tells of the lines that the client had sent and that were not said, unless it said QUIT.
+    fn tell_unsaid(&self, input: &ClientInput<'a, R>) {
+        if self.why == Some(Leave::Quit) {
+            return;
+        }
+        let lines = input.unsaid();
+        if lines > 0 {
+            self.tell(&Event::Unsaid { lines });
+        }
+    }
+
+    /// Tells how the client was served, after its writer has ended, and gives back what it had.
+    pub(crate) fn finish<W: Write + Drop>(
+        self,
+        input: &ClientInput<'a, R>,
+        served: &Result<Served<W>, OutOfMemory>,
+    ) {
+        if self.inside.is_some() && self.connection.is_parting() {
+            self.connection.say_last(STOPS, self.shared.limits().stop);
+        }
+        match served {
+            Ok(Served::NoLogin) => self.end_login(input),
+            Ok(Served::Refused(error)) => self.tell(&Event::NotAttached(*error)),
+            Ok(Served::Cut) => {
+                let bytes = self.count.so_far();
+                self.tell(&Event::Cut { bytes });
+                self.tell_unsaid(input);
+            }
+            Ok(Served::Ended(ended)) => {
+                self.tell_ended(ended);
+                self.tell_unsaid(input);
+            }
+            Err(_) if self.inside.is_some() => self.tell(&Event::SessionWithoutMemory),
+            Err(_) => self.tell_no_login("out of memory"),
+        }
+        self.connection.hang_up();
+        if let Some(inside) = &self.inside {
+            inside.guests.leave();
+        }
+    }
+}
+
+impl<'a, R: Wait + Clock + Copy + Drop> Watcher<QuickView, Arc<Slot<QuickView>>, ClientInput<'a, R>>
+    for Watching<'a, R> {
+    fn logged_in(&mut self, claim: &Claim) -> bool {
+        let Ok(completed) = Instant::now(self.rt) else {
+            return false;
+        };
+        let Ok(names) = Names::of(self.alloc, claim) else {
+            self.refusal = Some(Refusal::Login(LoginFault::Memory));
+            return false;
+        };
+        self.completed = Some(completed);
+        self.names = Some(names);
+        self.seat.as_ref().is_some_and(|seat| seat.complete())
+    }
+
+    fn let_in(
+        &mut self,
+        reader: &mut ClientInput<'a, R>,
+        claim: &Claim,
+        network: &Arc<Slot<QuickView>>,
+    ) -> Result<Arc<Network<QuickView>>, AttachError> {
+        // the next login may have the seat
+        drop(self.seat.take());
+        self.tell(&Event::LoggedIn {
+            peer: self.peer,
+            caps: claim.caps,
+        });
+        let network = self.enter(claim, network)?;
+        self.set_timeouts()?;
+        if let Some(inside) = &self.inside {
+            reader.begin_session(Arc::try_clone(&network)?, inside.guests.pace());
+        }
+        self.count.begin();
+        Ok(network)
+    }
+
+    fn refused(&mut self, refusal: Refusal) {
+        self.refusal = Some(refusal);
+        if refusal == Refusal::Denied {
+            self.deny_late();
+        }
+    }
+
+    fn attached(&mut self, _id: SessionId) {}
+
+    fn caps_changed(&mut self, caps: Caps) {
+        self.tell(&Event::CapsChanged { caps });
+    }
+
+    fn ended(&mut self, why: Leave) {
+        self.why = Some(why);
+    }
+}
