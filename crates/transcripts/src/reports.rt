@@ -2,6 +2,7 @@
 
 mod attached;
 mod checked;
+mod told;
 mod viewed;
 mod viewed_sessions;
 mod words;

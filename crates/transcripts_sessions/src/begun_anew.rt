@@ -8,7 +8,7 @@ use crate::stage::{BURST, JOINED, attach, empty_stage, is_sent, put};
 use hub_threads::{Network, PumpEnd};
 use net_view::NetworkView;
 use quick_view::QuickView;
-use serving::{Link, Pump, Slot, Start, begin_anew, network_with_link};
+use serving::{Link, Pump, Reserve, Slot, Start, begin_anew, network_with_link};
 use std::alloc::{AllocError, Global};
 use std::net::{Net, TcpListener, TcpStream};
 use std::process::Abort;
@@ -72,7 +72,7 @@ fn round<V: NetworkView + Drop, R: Wait + Clock>(
     pump: &mut Pump<'_, V>,
 ) -> (PumpEnd, bool) {
     let ended = pump.run(rt, alloc);
-    (ended, pump.gives_up())
+    (ended, pump.gives_up(rt))
 }
 
 /// A topic is refused on and on: the pump ends three times for want of memory, and the network is
@@ -117,7 +117,8 @@ fn a_view_that_refuses_on_and_on_and_a_network_begun_anew(rt: HostRuntime) -> Re
     put(rt.alloc(), &mut link.inlet, &JOINED)?;
     put(rt.alloc(), &mut link.inlet, &TOPIC)?;
     let slot = Slot::new(rt.alloc(), network)?;
-    let mut pump = Pump::new(&slot, TURNS, 0);
+    let reserve = Reserve::new(rt.alloc(), 0);
+    let mut pump = Pump::new(&slot, &reserve, 0, TURNS, 0);
     given_up(&rt, &slot, &mut pump)?;
     let mut newer = slot.link_of_now(&rt, link);
     serves(&rt, &slot, &mut pump, &mut newer)
@@ -130,7 +131,8 @@ fn an_item_that_is_taken_at_last(rt: HostRuntime) -> Result<(), Fail> {
     put(rt.alloc(), &mut link.inlet, &JOINED)?;
     put(rt.alloc(), &mut link.inlet, &TOPIC)?;
     let slot = Slot::new(rt.alloc(), network)?;
-    let mut pump = Pump::new(&slot, TURNS, 0);
+    let reserve = Reserve::new(rt.alloc(), 0);
+    let mut pump = Pump::new(&slot, &reserve, 0, TURNS, 0);
     assert!(rt; round(&rt, rt.alloc(), &mut pump) == (PumpEnd::Memory, false));
     assert!(rt; round(&rt, rt.alloc(), &mut pump) == (PumpEnd::Memory, false));
     assert!(rt; round(&rt, rt.alloc(), &mut pump) == (PumpEnd::Turns, false));

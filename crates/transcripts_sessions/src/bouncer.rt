@@ -52,13 +52,16 @@ pub fn limits(accepts: u64, dials: u64) -> Limits {
         sessions: 64,
         burst: 1_000_000,
         pace: 1_000_000,
+        stop: Duration::from_secs(5),
         turns: 100,
+        reserve: 65_536,
+        spare: 1_024,
         packets: 256,
     }
 }
 
 /// The settings: the user ann with the password bc, on the network net, at this address.
-fn settings(alloc: Global, address: SocketAddr) -> Result<Config, Fail> {
+pub fn settings(alloc: Global, address: SocketAddr) -> Result<Config, Fail> {
     let text = format!(in alloc;
         "listen = \"127.0.0.1:6667\"\n[[user]]\nname = \"ann\"\nsalt = \"61\"\n\
         password = \"ba7816bf8f01cfea414140de5dae2223b00361a396177a9cb410ff61f20015ad\"\n\

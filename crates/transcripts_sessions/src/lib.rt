@@ -34,6 +34,8 @@ mod login;
 #[cfg(test)]
 mod narrow;
 #[cfg(test)]
+mod once_refused;
+#[cfg(test)]
 mod pacing;
 #[cfg(test)]
 mod pasting;

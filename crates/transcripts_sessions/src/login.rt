@@ -55,7 +55,7 @@ fn claimed(alloc: Global, claim: &Claim) -> Result<Vec<u8>, Fail> {
 }
 
 /// What a step is: the lines sent, with `closed: ` in front where it is over, or the claim.
-fn told(alloc: Global, step: &LoginStep) -> Result<Vec<u8>, Fail> {
+pub(crate) fn told(alloc: Global, step: &LoginStep) -> Result<Vec<u8>, Fail> {
     match step {
         LoginStep::Send(lines) => texts(alloc, lines.as_slice()),
         LoginStep::Done(claim) => claimed(alloc, claim),
@@ -89,7 +89,7 @@ fn goes_on(
     Ok(())
 }
 
-const A_LOGIN_BY_USER_AND_PASS: [(&str, &str); 9] = [
+pub(crate) const A_LOGIN_BY_USER_AND_PASS: [(&str, &str); 9] = [
     ("CAP LS 302", OFFER),
     ("NICK x", ""),
     ("USER ann@pc/net 0 * :A", ""),

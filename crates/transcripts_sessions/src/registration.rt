@@ -2,7 +2,7 @@
 
 mod servers;
 mod states;
-mod streams;
+pub(crate) mod streams;
 
 use crate::login::{line, texts};
 use bnc_config::{Config, NetworkConfig, Place};
@@ -39,7 +39,7 @@ pub(crate) fn network_of(config: &Config) -> Result<&NetworkConfig, Fail> {
 }
 
 /// What a step is: the lines that are sent, with `done: ` in front for the welcome, or the fault.
-fn told(alloc: Global, step: &Step) -> Result<Vec<u8>, Fail> {
+pub(crate) fn told(alloc: Global, step: &Step) -> Result<Vec<u8>, Fail> {
     match step {
         Step::Send(lines) => texts(alloc, lines.as_slice()),
         Step::Done(lines) => {
@@ -94,7 +94,7 @@ fn registers(
     registers_at(rt, alloc, network_of(&config)?, rows)
 }
 
-const CAPABILITIES_OFFERED: [(&str, &str); 9] = [
+pub(crate) const CAPABILITIES_OFFERED: [(&str, &str); 9] = [
     ("", "CAP LS 302 / NICK ann / USER ann 0 * :Ann A"),
     (":s CAP * LS * :sasl batch", ""),
     (

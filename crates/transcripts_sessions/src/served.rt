@@ -4,20 +4,18 @@ use crate::gates::Still;
 use crate::slow_streams::{Gone, flag};
 use crate::stage::{Stage, stage_after};
 use bnc_config::{Config, Place};
-use client_caps::Caps;
 use hub_threads::{FreeGate, Network, OutletEnd};
 use quick_view::QuickView;
-use sessions::{Ending, LoggedIn, Served, Watcher, log_in, serve, serve_session};
+use sessions::{Served, Unwatched, serve_session};
 use std::alloc::Global;
 use std::io::Write;
 use std::process::Abort;
-use std::sync::Wait;
-use std::sync::atomic::{AtomicU64, Ordering};
+use std::sync::{Arc, Wait};
 use std::test::Fail;
 use std::thread::Threads;
 
 /// Two users; ann's password is `bc`, and her network is `net`.
-const SETTINGS: &str = "listen = \"h:1\"\n[[user]]\nname = \"bob\"\nsalt = \"\"\n\
+pub(crate) const SETTINGS: &str = "listen = \"h:1\"\n[[user]]\nname = \"bob\"\nsalt = \"\"\n\
     password = \"ba7816bf8f01cfea414140de5dae2223b00361a396177a9cb410ff61f20015ad\"\n\
     [[user.network]]\nname = \"net\"\naddress = \"h:2\"\nnick = \"b\"\nuser = \"b\"\n\
     realname = \"B\"\n\
@@ -54,7 +52,7 @@ pub(crate) const BURST: &str = ":bnc 001 Me :Welcome to the bouncer\r\n\
     :bnc 366 Me #c :End of NAMES list\r\n";
 
 /// A hub behind a lock that heard this, and the end to read what is sent to its network.
-fn network_of<R: Wait>(
+pub(crate) fn network_of<R: Wait>(
     rt: &R,
     alloc: Global,
     heard: &[&[u8]],
@@ -88,13 +86,21 @@ fn served_text<R: Threads + Wait + Send + Copy + 'static>(
     rt: R,
     alloc: Global,
     config: &Config,
-    networks: &[(Place, Network<QuickView>)],
+    networks: &[(Place, Arc<Network<QuickView>>)],
     sent: &mut OutletEnd,
     mut said: &[u8],
 ) -> Result<Vec<u8>, Fail> {
     let writer = Vec::new(alloc);
     let served = serve_session(
-        rt, alloc, &mut said, writer, config, networks, &FreeGate, &Still,
+        rt,
+        alloc,
+        &mut said,
+        writer,
+        config,
+        networks,
+        &FreeGate,
+        &Still,
+        &mut Unwatched,
     )?;
     let mut out = told(alloc, &served)?;
     push_sent(sent, &mut out)?;
@@ -125,7 +131,7 @@ fn serves<R: Threads + Wait + Send + Copy + 'static>(
         user: 1,
         network: 0,
     };
-    let networks = [(place, network)];
+    let networks = [(place, Arc::new(alloc, network)?)];
     served_text(rt, alloc, &config, &networks, &mut sent, said)
 }
 
@@ -213,9 +219,17 @@ pub(crate) fn is_cut<W: Write + Send + Drop + 'static, R: Threads + Wait + Send 
         user: 1,
         network: 0,
     };
-    let networks = [(place, network)];
+    let networks = [(place, Arc::new(alloc, network)?)];
     let served = serve_session(
-        rt, alloc, &mut said, out, &config, &networks, &FreeGate, &Still,
+        rt,
+        alloc,
+        &mut said,
+        out,
+        &config,
+        &networks,
+        &FreeGate,
+        &Still,
+        &mut Unwatched,
     )?;
     match served {
         Served::Cut => Ok(true),
@@ -243,59 +257,13 @@ fn a_session_that_takes_nothing_is_cut(rt: HostRuntime) -> Result<(), Fail> {
     Ok(())
 }
 
-/// Counts how often capabilities change.
-#[derive(Drop)]
-struct Changes {
-    count: AtomicU64,
-}
-
-impl Watcher for Changes {
-    fn caps_changed(&self, caps: Caps) {
-        if caps.batch {
-            self.count.fetch_add(1, Ordering::SeqCst);
-        }
-    }
-}
-
-/// Serves a client of ann's that says this, told to a watcher; what it was sent in its session.
-fn watched_text<R: Threads + Wait + Send + Copy + 'static>(
-    rt: R,
-    alloc: Global,
-    said: &str,
-    changes: &Changes,
-) -> Result<Vec<u8>, Fail> {
-    let (network, _sent) = network_of(&rt, alloc, &HEARD)?;
-    let text = format!(in alloc; "{LOGIN}{said}")?;
-    let mut input = text.as_str().as_bytes();
-    let mut out: Vec<u8> = Vec::new(alloc);
-    let Ok(LoggedIn { ending, unread }) = log_in(alloc, &mut input, &mut out) else {
-        return Err("it logs in".into());
-    };
-    let Ending::Claims(claim) = ending else {
-        return Err("it claims".into());
-    };
-    match serve(
-        rt, alloc, &mut input, out, &claim, unread, &network, &FreeGate, &Still, changes,
-    ) {
-        Ok((_, ended)) => Ok(ended.out),
-        Err(_) => Err("it is served".into()),
-    }
-}
-
-/// A change of capabilities is told once; a request that changes nothing, or is refused, is not.
+/// What a client is sent whose capabilities change.
 #[test]
-fn capabilities_that_change_are_told(rt: HostRuntime) -> Result<(), Fail> {
+fn capabilities_that_change(rt: HostRuntime) -> Result<(), Fail> {
     let said = "CAP REQ batch\r\nCAP REQ batch\r\nCAP REQ sasl\r\nCAP LIST\r\nQUIT\r\n";
-    let changes = Changes {
-        count: AtomicU64::new(0),
-    };
-    let found = watched_text(rt, rt.alloc(), said, &changes)?;
-    let want = format!(in rt.alloc();
-        "{BURST}:bnc CAP Me ACK batch\r\n\
+    let sent = ":bnc CAP Me ACK batch\r\n\
         :bnc 353 Me = #c :@bob +eve Me\r\n:bnc 366 Me #c :End of NAMES list\r\n\
-        :bnc CAP Me ACK batch\r\n:bnc CAP Me NAK sasl\r\n:bnc CAP Me LIST batch\r\n"
-    )?;
-    assert!(&rt; found.as_slice() == want.as_str().as_bytes());
-    assert!(&rt; changes.count.load(Ordering::SeqCst) == 1);
-    Ok(())
+        :bnc CAP Me ACK batch\r\n:bnc CAP Me NAK sasl\r\n:bnc CAP Me LIST batch\r\n";
+    let want = ("ended, true ", BURST, sent);
+    is_served(rt, rt.alloc(), &HEARD, (LOGIN, said), want)
 }

@@ -7,11 +7,11 @@ use bnc_config::{Config, Place};
 use hub_threads::{FreeGate, Network, OutletEnd, PumpEnd, pump_loop};
 use quick_view::QuickView;
 use serving::{Link, SystemClock, network_with_link};
-use sessions::{Served, serve_session};
+use sessions::{Served, Unwatched, serve_session};
 use std::alloc::Global;
 use std::net::{Net, TcpListener, TcpStream};
 use std::rt::Clock;
-use std::sync::Wait;
+use std::sync::{Arc, Wait};
 use std::test::Fail;
 use std::thread::Threads;
 
@@ -59,10 +59,10 @@ fn of_ann(
     alloc: Global,
     config: &Config,
     network: Network<QuickView>,
-) -> Result<Vec<(Place, Network<QuickView>)>, Fail> {
+) -> Result<Vec<(Place, Arc<Network<QuickView>>)>, Fail> {
     let place = config.find(b"ann", b"net").ok_or("the network is there")?;
     let mut networks = Vec::new(alloc);
-    networks.push((place, network))?;
+    networks.push((place, Arc::new(alloc, network)?))?;
     Ok(networks)
 }
 
@@ -72,12 +72,23 @@ fn serve<R: Threads + Wait + Clock + Send + Copy + 'static>(
     alloc: Global,
     stream: TcpStream,
     config: &Config,
-    networks: &[(Place, Network<QuickView>)],
+    networks: &[(Place, Arc<Network<QuickView>>)],
 ) -> Result<(), Fail> {
     let out = stream.try_clone()?;
     let clock = SystemClock::of(&rt);
     let input = &mut &stream;
-    match serve_session(rt, alloc, input, out, config, networks, &FreeGate, &clock)? {
+    let served = serve_session(
+        rt,
+        alloc,
+        input,
+        out,
+        config,
+        networks,
+        &FreeGate,
+        &clock,
+        &mut Unwatched,
+    )?;
+    match served {
         Served::Ended(ended) if ended.token && ended.written == Ok(BURST.len() as u64) => Ok(()),
         _ => Err("the session has not ended with all written".into()),
     }
@@ -96,7 +107,7 @@ fn say_and_quit<
     rt: R,
     alloc: Global,
     config: &Config,
-    networks: &[(Place, Network<QuickView>)],
+    networks: &[(Place, Arc<Network<QuickView>>)],
 ) -> Result<(), Fail> {
     let (mut client, stream) = connected(&rt)?;
     client.say(LOGIN)?;

@@ -66,7 +66,12 @@ fn a_line_that_is_not_taken(rt: HostRuntime) {
 
 #[test]
 fn a_file_that_is_not_there(rt: HostRuntime) {
-    assert!(rt; matches!(check_file(&rt, "missing.toml"), Err(Fault::CannotRead)));
+    match check_file(&rt, "missing.toml") {
+        Err(Fault::CannotReadFile(why)) => {
+            assert!(rt; why.as_str().starts_with("missing.toml: "));
+        }
+        _ => assert!(rt; false),
+    }
 }
 
 #[test]

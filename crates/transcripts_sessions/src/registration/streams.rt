@@ -9,11 +9,12 @@ use std::test::Fail;
 use upstream::{DialFault, RegisterFault, Welcomed, register};
 
 /// What a network sends, to the middle of a line behind the welcome.
-const INPUT: &str = ":s NOTICE * :hi\r\n:s CAP * LS :server-time\r\n:s CAP * ACK :server-time\r\n\
+pub(crate) const INPUT: &str =
+    ":s NOTICE * :hi\r\n:s CAP * LS :server-time\r\n:s CAP * ACK :server-time\r\n\
     :s 001 ann :hi\r\n:s 005 ann PREFIX=(o)@ :are supported\r\n:s 37";
 
 /// What is sent to it.
-const SENT: &str =
+pub(crate) const SENT: &str =
     "CAP LS 302\r\nNICK ann\r\nUSER ann 0 * :Ann A\r\nCAP REQ server-time\r\nCAP END\r\n";
 
 /// A reader that gives some bytes a call, and fails in each call from one on.
