@@ -1,16 +1,16 @@
 #!/bin/sh
-# Tries bnc by hand with two linked servers and the clients ii, irssi, WeeChat and HexChat, all on the
-# loopback range. What each client holds is compared with the server's own NAMES when it comes late,
-# when the link is cut, when it is back, and when the server was started again. It ends with status 1
-# where a check has failed.
+# Tries bnc with two linked servers and the clients ii, irssi, WeeChat and HexChat, all on the loopback
+# range. It compares each client's member list with the server's own NAMES after the client attaches
+# late, after the link between the servers is cut and restored, and after a server restarts. Servers
+# have their default flood limits and clients their default pace. The exit status is 1 if a check fails.
 #
 #   sh contrib/try_clients.sh ~/.local/bin/bnc [ngircd|inspircd|ircd-hybrid]
 #
-# Debian has them: ngircd (or another of the three) and ii; irssi, weechat-curses with tmux, and
-# hexchat with hexchat-lua and xvfb, each of which is left out where it is missing. HexChat and
-# ircd-hybrid don't run for root.
+# Debian packages: ngircd (or one of the other two) and ii; irssi, weechat-curses with tmux, and hexchat
+# with hexchat-lua and xvfb. A client that isn't installed is left out. If root runs this script,
+# HexChat and ircd-hybrid, which refuse to run as root, run as the user nobody.
 #
-# It uses the ports 16660 to 16667, and a folder that it makes and names at its end.
+# It uses ports 16660 to 16667, and a folder that it creates; its last line names the folder.
 set -eu
 bnc=${1:-bnc}
 kind=${2:-ngircd}
@@ -25,6 +25,15 @@ there() { command -v "$1" > /dev/null; }
 ok() { echo "ok: $1"; }
 fail() { echo "FAILED: $1"; failed=1; }
 note() { started="$started $!"; }
+
+# as_user COMMAND..: runs it as nobody if we are root
+if [ "$(id -u)" = 0 ]; then
+  chown 65534:65534 "$at"
+  chmod 755 "$at"
+  as_user() { exec setpriv --reuid=65534 --regid=65534 --clear-groups -- "$@"; }
+else
+  as_user() { exec "$@"; }
+fi
 
 # until_it TEXT COMMAND..: tries a command each half second until it holds, for 30 seconds
 until_it() {
@@ -67,7 +76,7 @@ inspircd_conf() {
 <admin name="x" nick="x" email="x@example.net">
 <bind address="127.0.0.1" port="$2" type="clients">
 <bind address="127.0.0.1" port="$6" type="servers">
-<connect allow="*" localmax="500" globalmax="500" useident="no" resolvehostnames="no" fakelag="no">
+<connect allow="*" localmax="500" globalmax="500" useident="no" resolvehostnames="no">
 <pid file="$at/$1.pid">
 <log method="file" type="*" level="default" target="$at/$1.log">
 <module name="cap"><module name="ircv3"><module name="ircv3_servertime"><module name="namesx">
@@ -86,11 +95,10 @@ class { name = "users"; ping_time = 10 minutes; number_per_ip_local = 500; numbe
   max_number = 500; sendq = 1 megabytes; recvq = 8000 bytes; };
 class { name = "server"; ping_time = 90 seconds; connectfreq = 2 seconds; max_number = 5; sendq = 2 megabytes; };
 listen { host = "127.0.0.1"; port = $2; flags = server; port = $6; };
-auth { user = "*@*"; class = "users"; flags = exceed_limit, can_flood; };
+auth { user = "*@*"; class = "users"; flags = exceed_limit; };
 connect { name = "$3.example.net"; host = "127.0.0.1"; port = $7; send_password = "pw"; accept_password = "pw";
   class = "server"; $4 };
-channel { default_join_flood_count = 0; };
-general { disable_auth = yes; throttle_count = 500; throttle_time = 1 second; default_floodcount = 0; };
+general { disable_auth = yes; throttle_count = 500; throttle_time = 1 second; };
 modules { path = "/usr/lib/ircd-hybrid/modules"; path = "/usr/lib/ircd-hybrid/modules/autoload"; };
 END
 }
@@ -115,7 +123,7 @@ server() {
     ngircd) /usr/sbin/ngircd -n -f "$at/$1.conf" >> "$1.out" 2>&1 & ;;
     inspircd) /usr/sbin/inspircd --runasroot --nofork --config="$at/$1.conf" >> "$1.out" 2>&1 & ;;
     ircd-hybrid)
-      /usr/sbin/ircd-hybrid -foreground -configfile "$at/$1.conf" -pidfile "$at/$1.pid" \
+      as_user /usr/sbin/ircd-hybrid -foreground -configfile "$at/$1.conf" -pidfile "$at/$1.pid" \
         -logfile "$at/$1.log" -klinefile "$at/$1.k" -dlinefile "$at/$1.d" -xlinefile "$at/$1.x" \
         -resvfile "$at/$1.r" >> "$1.out" 2>&1 & ;;
   esac
@@ -201,15 +209,16 @@ weechat_comes() {
   sleep 5; tmux -S "$at/tmux" send-keys -t weechat '/buffer #c' Enter
 }
 hexchat_comes() {
-  Xvfb -screen 0 1000x640x24 -displayfd 3 3> display > xvfb.log 2>&1 &
+  as_user Xvfb -screen 0 1000x640x24 -displayfd 3 3> display > xvfb.log 2>&1 &
   note
   mkdir -p home/hexchat/addons
   cp names.lua home/hexchat/addons
   printf 'gui_slist_skip = 1\ngui_join_dialog = 0\nirc_nick1 = ann\n' > home/hexchat/hexchat.conf
   printf 'N=net\nE=UTF-8 (Unicode)\nF=8\nD=0\nL=7\nI=ann\nU=ann\nR=Ann\nP=ann@window/net:bc\nS=127.0.0.1/16667\n\n' \
     > home/hexchat/servlist.conf
+  if [ "$(id -u)" = 0 ]; then chown -R 65534:65534 home; fi
   sleep 2
-  DISPLAY=:$(cat display) XDG_CONFIG_HOME=$at/home hexchat > hexchat.log 2>&1 &
+  as_user env "DISPLAY=:$(cat display)" "XDG_CONFIG_HOME=$at/home" "HOME=$at/home" hexchat > hexchat.log 2>&1 &
   note
 }
 
