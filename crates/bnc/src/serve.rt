@@ -3,7 +3,7 @@
 use crate::control::open_control;
 use bnc_config::Config;
 use commands::{Fault, settings_text, warn_of_readers};
-use serving::{Limits, Shared, accept, start_control, start_log, start_networks, stop};
+use serving::{Limits, Shared, Source, accept, start_control, start_log, start_networks, stop};
 use std::fs::File;
 use std::net::{Net, TcpListener, TcpStream};
 use std::rt::{Clock, Files};
@@ -16,6 +16,21 @@ fn settings_at<R: AllocGlobal + Files>(rt: &R, path: &str) -> Result<Config, Fau
     match Config::read(rt.alloc(), text.as_slice()) {
         Ok(config) => Ok(config),
         Err(fault) => Err(Fault::Settings(fault)),
+    }
+}
+
+/// The settings file at a path, which is read again.
+#[derive(Drop)]
+struct SettingsFile<R: AllocGlobal + Files> {
+    rt: R,
+    path: String,
+}
+
+impl<R: AllocGlobal + Files> Source for SettingsFile<R> {
+    type Fault = Fault;
+
+    fn read(&self) -> Result<Config, Fault> {
+        settings_at(&self.rt, self.path.as_str())
     }
 }
 
@@ -59,7 +74,9 @@ pub fn serve_file<
         return Err(Fault::CannotWrite);
     }
     if let Some(words) = open_control(&rt, path) {
-        let _control = start_control(rt, alloc, &shared, words, address)?;
+        let path = String::from_str(alloc, path)?;
+        let source = SettingsFile { rt, path };
+        let _control = start_control(rt, alloc, &shared, words, source, address)?;
     }
     accept(rt, alloc, &listener, &shared);
     stop(&rt, &shared);

@@ -212,6 +212,13 @@ impl<V: NetworkView + Drop, I: Inlet, O: Outlet> Hub<V, I, O> {
         Some(self.sessions[place].caps)
     }
 
+    /// The messages that are kept, with their numbers.
+    pub fn history(&self) -> &History
+        ensures { result.now ≡ self.now.history }
+    {
+        &self.history
+    }
+
     /// How many channels are to be joined again: those that we were on when a connection was lost,
     /// without those that we have joined or left since then.
     pub fn lost_channel_count(&self) -> usize

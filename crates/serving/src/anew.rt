@@ -1,8 +1,8 @@
 //! A network that is begun anew, since there was no memory for what came from it.
 
 use crate::link::{Link, network_with_link};
+use crate::shared::Shared;
 use crate::slot::Slot;
-use bnc_config::Config;
 use hub_threads::Network;
 use net_view::NetworkView;
 use quick_view::QuickView;
@@ -21,18 +21,19 @@ pub trait Start<V: NetworkView + Drop> {
     fn start(&self) -> Result<(Network<V>, Link), AllocError>;
 }
 
-/// What makes a network of the program.
+/// What makes a network of the program, by the settings of now.
 #[derive(Clone, Copy)]
-pub(crate) struct OfSettings<'a> {
+pub(crate) struct OfSettings<'a, R: Wait> {
+    pub(crate) rt: &'a R,
     pub(crate) alloc: Global,
-    pub(crate) config: &'a Config,
-    /// How many items and packets its rings hold.
-    pub(crate) packets: usize,
+    pub(crate) shared: &'a Shared,
 }
 
-impl Start<QuickView> for OfSettings<'_> {
+impl<R: Wait> Start<QuickView> for OfSettings<'_, R> {
     fn start(&self) -> Result<(Network<QuickView>, Link), AllocError> {
-        network_with_link(self.alloc, self.config.history(), self.packets)
+        let roster = self.shared.roster(self.rt)?;
+        let packets = self.shared.limits().packets;
+        network_with_link(self.alloc, roster.config().history(), packets)
     }
 }
 

@@ -8,7 +8,7 @@ use crate::counted::Counted;
 use crate::limits::Limits;
 use crate::seats::Seat;
 use crate::shared::Shared;
-use crate::watching::Watching;
+use crate::watching::{At, Watching};
 use sessions::serve_session;
 use std::alloc::Global;
 use std::io;
@@ -25,26 +25,35 @@ fn prepare(stream: &TcpStream, limits: &Limits) -> io::Result<()> {
 }
 
 /// Serves a client to its end; an error where it could not be begun.
-fn serve<'a, R: Threads + Clock + Wait + Copy + Send + Drop + 'static>(
+fn serve<R: Threads + Clock + Wait + Copy + Send + Drop + 'static>(
     rt: R,
     alloc: Global,
-    shared: &'a Shared,
+    shared: &Shared,
     seat: Seat<R>,
-    connection: &'a Connection,
+    connection: &Connection,
     peer: SocketAddr,
 ) -> io::Result<()> {
+    let roster = shared.roster(&rt)?;
     prepare(connection.stream(), &shared.limits())?;
     let gate = HangingUp::on(connection.share()?);
     let (out, count) = Counted::new(alloc, connection.share()?)?;
     let mut input = ClientInput::start(&rt, alloc, connection, seat.time)?;
-    let mut watching = Watching::start(&rt, alloc, shared, connection, peer, seat, count);
+    let place = At {
+        rt: &rt,
+        alloc,
+        shared,
+        roster: &roster,
+        connection,
+        peer,
+    };
+    let mut watching = Watching::start(place, seat, count);
     let served = serve_session(
         rt,
         alloc,
         &mut input,
         out,
-        shared.config(),
-        shared.networks(),
+        roster.config(),
+        roster.networks(),
         &gate,
         &SystemClock::of(&rt),
         &mut watching,

@@ -6,15 +6,59 @@ use std::io;
 use std::io::{Read, Write};
 use std::net::{Shutdown, TcpStream};
 use std::sync::Arc;
-use std::sync::atomic::{AtomicBool, Ordering};
+use std::sync::atomic::{AtomicBool, AtomicU64, Ordering};
 use std::time::Duration;
 
-/// A stream, whether it was shut, and whether it is to be shut behind a last word.
+/// Why a connection ends behind a last word.
+#[derive(Clone, Copy, Debug, PartialEq, Eq)]
+pub enum Farewell {
+    /// The service ends.
+    Stops,
+    /// The settings have the network no more.
+    Removed,
+    /// The network is dialled anew, by other settings.
+    Changed,
+}
+
+/// The number for a connection that has no last word to come.
+const NONE: u64 = 0;
+
+impl Farewell {
+    /// What is said and logged.
+    pub fn text(self) -> &'static str {
+        match self {
+            Farewell::Stops => "bnc stops",
+            Farewell::Removed => "removed",
+            Farewell::Changed => "settings changed",
+        }
+    }
+
+    /// Its number, for an atomic place.
+    fn number(self) -> u64 {
+        match self {
+            Farewell::Stops => 1,
+            Farewell::Removed => 2,
+            Farewell::Changed => 3,
+        }
+    }
+
+    /// That of a number.
+    fn of_number(number: u64) -> Option<Farewell> {
+        match number {
+            1 => Some(Farewell::Stops),
+            2 => Some(Farewell::Removed),
+            3 => Some(Farewell::Changed),
+            _ => None,
+        }
+    }
+}
+
+/// A stream, whether it was shut, and the number of the last word behind which it is to be shut.
 #[derive(Drop)]
 struct Line {
     stream: TcpStream,
     is_shut: AtomicBool,
-    is_parting: AtomicBool,
+    farewell: AtomicU64,
 }
 
 /// A connection, in as many hands as need be: all of them are one descriptor, which is closed with
@@ -31,7 +75,7 @@ impl Connection {
         let line = Line {
             stream,
             is_shut: AtomicBool::new(false),
-            is_parting: AtomicBool::new(false),
+            farewell: AtomicU64::new(NONE),
         };
         Ok(Connection {
             line: Arc::new(alloc, line)?,
@@ -58,28 +102,30 @@ impl Connection {
 
     /// Ends what comes in, also for a read that waits; what is written still goes out. Who serves
     /// the connection says a last word, and then shuts it.
-    pub fn part(&self) {
-        self.line.is_parting.store(true, Ordering::SeqCst);
+    pub fn part(&self, farewell: Farewell) {
+        self.line
+            .farewell
+            .store(farewell.number(), Ordering::SeqCst);
         let _ = self.line.stream.shutdown(Shutdown::Read);
     }
 
-    /// Whether a last word is to be said.
-    pub fn is_parting(&self) -> bool {
-        self.line.is_parting.load(Ordering::SeqCst)
+    /// Why a last word is to be said; `None` where none is.
+    pub fn farewell(&self) -> Option<Farewell> {
+        Farewell::of_number(self.line.farewell.load(Ordering::SeqCst))
     }
 
     /// Shuts it, where no last word is to be said.
     pub fn end(&self) {
-        if !self.is_parting() {
+        if self.farewell().is_none() {
             self.hang_up();
         }
     }
 
-    /// Says a last word, where the peer takes it in this time, and shuts it.
-    pub fn say_last(&self, word: &[u8], time: Duration) {
+    /// Says why it ends, as `COMMAND :TEXT`, where the peer takes that in this time, and shuts it.
+    pub fn say_last(&self, command: &str, farewell: Farewell, time: Duration) {
         let mut stream = self.stream();
         if stream.set_write_timeout(Some(time)).is_ok() {
-            let _ = stream.write_all(word);
+            let _ = write!(stream, "{command} :{}\r\n", farewell.text());
         }
         self.hang_up();
     }

@@ -1,12 +1,17 @@
 //! Words that control the program while it runs.
 
 use crate::event::Event;
+use crate::kept::Kept;
+use crate::reloading::{Source, reload};
 use crate::shared::Shared;
+use crate::station::Station;
 use std::alloc::Global;
 use std::io::{ErrorKind, Read};
+use std::mem;
 use std::net::{Net, SocketAddr, TcpListener, TcpStream};
 use std::rt::Clock;
-use std::sync::Wait;
+use std::sync::{Arc, Wait};
+use std::thread::Threads;
 
 /// How many bytes a word has at most.
 const WORD: usize = 64;
@@ -17,6 +22,8 @@ const PIECE: usize = 256;
 /// What is asked for.
 #[derive(Clone, Copy, Debug, PartialEq, Eq)]
 enum Word {
+    /// `reload`: to read the settings again.
+    Reload,
     /// `status`: to tell of each network how it is.
     Status,
     /// `stop`: to end the service.
@@ -33,22 +40,32 @@ struct Begun {
 /// The word that a line is.
 fn word_of(line: &[u8]) -> Option<Word> {
     match line {
+        b"reload" => Some(Word::Reload),
         b"status" => Some(Word::Status),
         b"stop" => Some(Word::Stop),
         _ => None,
     }
 }
 
-/// Tells of each network since when it is online, and how many sessions it has.
-fn tell_status<R: Wait + Clock>(rt: &R, shared: &Shared) {
-    for (at, (_, slot)) in shared.networks().iter().enumerate() {
-        if let Some(served) = shared.served(at) {
-            let event = Event::Status {
-                since: slot.online_since(rt),
-                sessions: shared.sessions_at(at),
-            };
-            served.tell(rt, &event);
-        }
+/// How a network is.
+fn status_of<R: Wait>(rt: &R, alloc: Global, station: &Station) -> Event<'static> {
+    let network = station.slot().network(rt);
+    let kept = network.and_then(|network| Kept::by(rt, alloc, &network).ok());
+    Event::Status {
+        since: station.slot().online_since(rt),
+        sessions: station.guests().count(),
+        kept,
+    }
+}
+
+/// Tells of each network since when it is online, how many sessions it has, and what it keeps.
+fn tell_status<R: Wait + Clock>(rt: &R, alloc: Global, shared: &Shared) {
+    let Ok(roster) = shared.roster(rt) else {
+        return;
+    };
+    for (_, station) in roster.networks() {
+        let status = status_of(rt, alloc, station);
+        shared.log().tell(rt, &station.who(), &status);
     }
 }
 
@@ -61,60 +78,84 @@ impl Begun {
             }
             return None;
         }
-        let word = word_of(self.bytes.as_slice());
-        if self.is_too_long {
+        let word = if mem::replace(&mut self.is_too_long, false) {
             shared.log().tell(rt, &"bnc", &Event::IgnoredLine);
-        } else if word.is_none() {
-            let event = Event::Ignored {
-                word: self.bytes.as_slice(),
-            };
-            shared.log().tell(rt, &"bnc", &event);
-        }
-        let word = word.filter(|_| !self.is_too_long);
+            None
+        } else {
+            self.word(rt, shared)
+        };
         self.bytes.clear();
-        self.is_too_long = false;
         word
     }
 
-    /// Takes a piece of what was read, and does what its lines ask for; whether that is to stop.
-    fn obey<R: Wait + Clock>(&mut self, rt: &R, shared: &Shared, piece: &[u8]) -> bool {
-        for byte in piece {
-            match self.take(rt, shared, *byte) {
-                Some(Word::Status) => tell_status(rt, shared),
-                Some(Word::Stop) => return true,
-                None => {}
-            }
+    /// The word that the line is; the log tells of one that is none.
+    fn word<R: Wait + Clock>(&self, rt: &R, shared: &Shared) -> Option<Word> {
+        let word = word_of(self.bytes.as_slice());
+        if word.is_none() {
+            let word = self.bytes.as_slice();
+            shared.log().tell(rt, &"bnc", &Event::Ignored { word });
         }
-        false
+        word
     }
+}
+
+/// Does what a word asks for; whether that is to stop.
+fn obey_word<
+    S: Source,
+    R: Threads
+        + Wait
+        + Clock
+        + Net<Listener = TcpListener, Stream = TcpStream>
+        + Copy
+        + Send
+        + Sync
+        + Drop
+        + 'static,
+>(rt: R, alloc: Global, shared: &Arc<Shared>, source: &S, word: Word) -> bool {
+    match word {
+        Word::Reload => reload(rt, alloc, shared, source),
+        Word::Status => tell_status(&rt, alloc, shared),
+        Word::Stop => return true,
+    }
+    false
 }
 
 /// Reads words, one a line, and does what they ask for, to the input's end, or until one asks to
 /// stop; whether one does. Other lines, and those of more than 64 bytes, are ignored, and the log
 /// says so.
-pub fn obey<I: Read, R: Wait + Clock>(
-    rt: &R,
-    alloc: Global,
-    shared: &Shared,
-    input: &mut I,
-) -> bool {
+pub fn obey<
+    I: Read,
+    S: Source,
+    R: Threads
+        + Wait
+        + Clock
+        + Net<Listener = TcpListener, Stream = TcpStream>
+        + Copy
+        + Send
+        + Sync
+        + Drop
+        + 'static,
+>(rt: R, alloc: Global, shared: &Arc<Shared>, input: &mut I, source: &S) -> bool {
     let mut piece = [0u8; PIECE];
     let mut line = Begun {
         bytes: Vec::new(alloc),
         is_too_long: false,
     };
     for _ in rt.forever() {
-        match input.read(&mut piece) {
+        let count = match input.read(&mut piece) {
             Ok(0) => return false,
-            Ok(count) => {
-                if line.obey(rt, shared, &piece[..count]) {
+            Ok(count) => count,
+            Err(error) if error.kind() == ErrorKind::Interrupted => 0,
+            Err(_) => {
+                shared.log().tell(&rt, &"bnc", &Event::NoWords);
+                return false;
+            }
+        };
+        for byte in &piece[..count] {
+            if let Some(word) = line.take(&rt, shared, *byte) {
+                if obey_word(rt, alloc, shared, source, word) {
                     return true;
                 }
-            }
-            Err(error) if error.kind() == ErrorKind::Interrupted => {}
-            Err(_) => {
-                shared.log().tell(rt, &"bnc", &Event::NoWords);
-                return false;
             }
         }
     }
@@ -125,10 +166,19 @@ pub fn obey<I: Read, R: Wait + Clock>(
 /// then makes to where clients are accepted ends the accepting.
 pub(crate) fn obey_to_the_end<
     I: Read,
-    R: Wait + Clock + Net<Listener = TcpListener, Stream = TcpStream>,
->(rt: &R, alloc: Global, shared: &Shared, input: &mut I, address: SocketAddr) {
-    if obey(rt, alloc, shared, input) {
+    S: Source,
+    R: Threads
+        + Wait
+        + Clock
+        + Net<Listener = TcpListener, Stream = TcpStream>
+        + Copy
+        + Send
+        + Sync
+        + Drop
+        + 'static,
+>(rt: R, alloc: Global, shared: &Arc<Shared>, input: &mut I, source: &S, address: SocketAddr) {
+    if obey(rt, alloc, shared, input, source) {
         shared.begin_stop();
-        let _ = TcpStream::connect_timeout(rt, &address, shared.limits().stop);
+        let _ = TcpStream::connect_timeout(&rt, &address, shared.limits().stop);
     }
 }

@@ -2,7 +2,7 @@
 
 use crate::clock::SystemClock;
 use crate::closing::HangingUp;
-use crate::connection::Connection;
+use crate::connection::{Connection, Farewell};
 use crate::event::Event;
 use crate::keeping::{Input, Keeping};
 use crate::limits::Limits;
@@ -10,15 +10,16 @@ use crate::link::Link;
 use crate::network_input::NetworkInput;
 use crate::recalling::Recalling;
 use crate::shared::{Served, Shared};
+use crate::station::Station;
 use hub_threads::OutletEnd;
 use std::alloc::Global;
+use std::io;
 use std::io::Write;
 use std::net::{Net, TcpListener, TcpStream, ToSocketAddrs};
 use std::rt::Clock;
 use std::sync::Wait;
 use std::thread::Threads;
 use std::time::Duration;
-use std::{io, thread};
 use upstream::{Duplex, serve_network};
 
 /// A connection to an address, `HOST:PORT`: each address of the host is tried in turn.
@@ -48,7 +49,7 @@ fn come_in<R: Wait + Clock + Net<Listener = TcpListener, Stream = TcpStream>>(
     served: &Served<'_>,
 ) -> Option<Connection> {
     let address = served.settings.address();
-    let retry = served.limits.retry.as_secs();
+    let retry = served.retry();
     match connect(rt, address, &served.limits) {
         Ok(stream) => match Connection::new(alloc, stream) {
             Ok(connection) => Some(connection),
@@ -85,23 +86,20 @@ fn ends_of<'a, R: Wait + Clock>(
 
 /// Whether there is a network to dial, and its hub has taken the loss of its last connection.
 fn is_offline<R: Wait>(rt: &R, served: &Served<'_>) -> bool {
-    match served.slot.network(rt) {
+    match served.station.slot().network(rt) {
         Some(network) => !network.lock(rt).is_online(),
         None => false,
     }
 }
 
-/// What a network is told at the end of the service.
-const QUIT: &[u8] = b"QUIT :bnc stops\r\n";
-
 /// Writes what waits for a network and then QUIT, if it takes them in this time, and shuts the
 /// connection.
-fn part_with(connection: &Connection, outlet: &mut OutletEnd, time: Duration) {
+fn part_with(connection: &Connection, farewell: Farewell, outlet: &mut OutletEnd, time: Duration) {
     let mut stream = connection.stream();
     let _ = stream.set_write_timeout(Some(time));
     for _ in 0..u64::MAX {
         let Some(packet) = outlet.take() else {
-            return connection.say_last(QUIT, time);
+            return connection.say_last("QUIT", farewell, time);
         };
         if stream.write_all(packet.bytes()).is_err() {
             return connection.hang_up();
@@ -125,7 +123,7 @@ fn dial<
         return link;
     };
     let Ok((stream, gate)) = ends_of(rt, alloc, &connection, &served.limits) else {
-        let retry = served.limits.retry.as_secs();
+        let retry = served.retry();
         served.tell(rt, &Event::ConnectionWithoutMemory { retry });
         return link;
     };
@@ -154,18 +152,46 @@ fn dial<
         ..
     } = over;
     keeping.tell_end(end, &stream.reader);
-    if connection.is_parting() {
-        part_with(&connection, &mut link.outlet, served.limits.stop);
+    if let Some(farewell) = connection.farewell() {
+        part_with(&connection, farewell, &mut link.outlet, served.limits.stop);
     }
     connection.hang_up();
-    served.slot.disconnect(rt);
+    served.station.slot().disconnect(rt);
     link
 }
 
-/// Dials the network at this place, from 0, and dials it again whenever the connection has ended,
-/// as often as the limits say, with the time between two dials. It is dialled once its hub has
-/// taken the loss of the last connection; what waited for that is dropped. One that was begun anew
-/// is dialled by its own link.
+/// Dials a network by the settings of now, where its hub has taken the loss of the last connection,
+/// and serves the connection to its end. Answers the link, and how long to rest.
+fn dial_now<
+    R: Threads
+        + Wait
+        + Clock
+        + Net<Listener = TcpListener, Stream = TcpStream>
+        + Copy
+        + Send
+        + Drop
+        + 'static,
+>(rt: &R, alloc: Global, shared: &Shared, station: &Station, link: Link) -> (Link, Duration) {
+    // before the settings: if these change after it, the connection is given up
+    let changes = station.slot().changes(rt);
+    let Ok(roster) = shared.roster(rt) else {
+        return (link, shared.limits().retry);
+    };
+    let Some(served) = shared.served(&roster, station, changes) else {
+        return (link, roster.retry());
+    };
+    if !is_offline(rt, &served) {
+        return (link, roster.retry());
+    }
+    let mut link = link;
+    link.drop_unsent();
+    (dial(rt, alloc, &served, link), roster.retry())
+}
+
+/// Dials a network, and dials it again whenever the connection has ended, as often as the limits
+/// say, with the time between two dials, until the service ends or the network is left. It is dialled
+/// once its hub has taken the loss of the last connection; what waited for that is dropped. One that
+/// was begun anew is dialled by its own link.
 pub fn stay_connected<
     R: Threads
         + Wait
@@ -175,21 +201,19 @@ pub fn stay_connected<
         + Send
         + Drop
         + 'static,
->(rt: &R, alloc: Global, shared: &Shared, at: usize, link: Link) {
-    let Some(served) = shared.served(at) else {
-        return;
-    };
+>(rt: &R, alloc: Global, shared: &Shared, station: &Station, link: Link) {
     let mut link = link;
-    for _ in 0..served.limits.dials {
-        if shared.is_stopping() {
+    for _ in 0..shared.limits().dials {
+        if shared.is_stopping() || station.slot().is_left() {
             break;
         }
-        link = served.slot.link_of_now(rt, link);
-        if is_offline(rt, &served) {
-            link.drop_unsent();
-            link = dial(rt, alloc, &served, link);
-        }
-        thread::sleep(rt, served.limits.retry);
+        link = station.slot().link_of_now(rt, link);
+        let (same, retry) = dial_now(rt, alloc, shared, station, link);
+        link = same;
+        station.rest(rt, retry);
+    }
+    if station.slot().is_left() {
+        station.slot().close(rt);
     }
     shared.dials_no_more();
 }

@@ -1,6 +1,8 @@
 //! What the log tells.
 
-use crate::shown::{Held, Parting, Shown};
+use crate::connection::Farewell;
+use crate::kept::Kept;
+use crate::shown::{Held, Parting, Shown, Words};
 use client_caps::{Caps, Moment, time_text};
 use hub_core::AttachError;
 use std::net::{IpAddr, SocketAddr};
@@ -44,15 +46,43 @@ pub enum Event<'a> {
         /// The seconds to the next dial.
         retry: u64,
     },
-    /// The connection to a network has ended with the service.
-    Parted,
+    /// The connection to a network has ended behind a last word.
+    Parted(Farewell),
+    /// A connection was given up, since the network was begun anew or left, or its settings changed.
+    GivenUp {
+        /// The seconds to the next dial.
+        retry: u64,
+    },
     /// How a network is, when that is asked for.
     Status {
         /// Since when it has taken us in; `None` where there is no connection to it.
         since: Option<Moment>,
         /// How many clients of it are served.
         sessions: u64,
+        /// How many messages are kept; `None` while the network is begun anew.
+        kept: Option<Kept>,
     },
+    /// The settings were not read again; nothing changed.
+    NotReloaded {
+        /// Why not.
+        why: &'a str,
+    },
+    /// The settings were read again.
+    Reloaded {
+        /// How many networks are served now that were not before.
+        begun: usize,
+        /// How many are served no more.
+        left: usize,
+        /// How many are dialled anew.
+        changed: usize,
+    },
+    /// A setting has changed that goes by what it was at the start.
+    NeedsRestart {
+        /// Its key.
+        key: &'a str,
+    },
+    /// There was no memory or thread to serve a network.
+    NotServed,
     /// The service ends.
     Stops,
     /// A word that is none of those that are taken.
@@ -179,7 +209,15 @@ impl Event<'_> {
                 f,
                 "connection given up: no thread to write with; dials again in {retry} s"
             ),
-            Event::Parted => write!(f, "connection ended: bnc stops"),
+            Event::Parted(farewell) => write!(f, "connection ended: {}", farewell.text()),
+            Event::GivenUp { retry } => write!(
+                f,
+                "connection given up: begun anew, or its settings changed; dials again in {retry} s"
+            ),
+            Event::NotServed => write!(
+                f,
+                "not served: out of memory or threads; reload tries again"
+            ),
             Event::PumpWithoutMemory => write!(f, "out of memory, tries again"),
             Event::BegunAnew => write!(
                 f,
@@ -193,13 +231,33 @@ impl Event<'_> {
     /// What is told of the words that control the program.
     fn write_of_control<W: fmt::Write>(&self, f: &mut fmt::Formatter<W>) -> fmt::Result {
         match self {
-            Event::Status { since, sessions } => {
+            Event::Status {
+                since,
+                sessions,
+                kept,
+            } => {
                 match since {
                     Some(since) => write!(f, "online since {}", Shown(&time_text(*since)))?,
                     None => write!(f, "offline")?,
                 }
-                write!(f, "; sessions {sessions}")
+                write!(f, "; sessions {sessions}")?;
+                match kept {
+                    Some(Kept { messages, bytes }) => {
+                        write!(f, "; messages {messages}, {bytes} bytes")
+                    }
+                    None => write!(f, "; begun anew"),
+                }
             }
+            Event::NotReloaded { why } => write!(f, "not reloaded: {}", Words(why.as_bytes())),
+            Event::Reloaded {
+                begun,
+                left,
+                changed,
+            } => write!(
+                f,
+                "reloaded: networks new {begun}, removed {left}, dialled anew {changed}"
+            ),
+            Event::NeedsRestart { key } => write!(f, "reloaded: {key} needs a restart"),
             Event::Stops => write!(f, "stops"),
             Event::Ignored { word } => write!(f, "control: ignored {}", Shown(word)),
             Event::IgnoredLine => write!(f, "control: ignored a line of more than 64 bytes"),

@@ -10,7 +10,7 @@ use crate::rejoining::rejoin;
 use crate::shared::Served;
 use hub_threads::{ReadEnd, WRITE_CALL};
 use irc_line::Line;
-use std::alloc::Global;
+use std::alloc::{AllocError, Global};
 use std::io;
 use std::rt::Clock;
 use std::sync::Wait;
@@ -54,47 +54,44 @@ impl<'a, R: Wait + Clock> Keeping<'a, R> {
         self.served.tell(self.rt, event)
     }
 
-    /// The seconds to the next dial.
-    fn retry(&self) -> u64 {
-        self.served.limits.retry.as_secs()
-    }
-
     /// Sets what holds of the connection from the welcome on.
     fn begin_live(&self, input: &mut Input<'a, R>) -> io::Result<()> {
         let call = Duration::from_millis(WRITE_CALL);
         self.connection.stream().set_write_timeout(Some(call))?;
         let served = self.served;
-        input.input_mut().begin_live(served.slot, &served.limits)
+        input
+            .input_mut()
+            .begin_live(served.station.slot(), &served.limits)
     }
 
     /// Tells the log how the connection ended, and what the network said then.
     pub(crate) fn tell_end(&self, end: NetworkEnd, input: &Input<'a, R>) {
         let said = input.parting(self.alloc);
         let said = said.as_deref();
-        let retry = self.retry();
+        let retry = self.served.retry();
         match end {
             NetworkEnd::NotRegistered(fault) => {
                 self.tell(&Event::NotRegistered { fault, said, retry })
             }
-            NetworkEnd::Lost(_) if self.connection.is_parting() => self.tell(&Event::Parted),
-            NetworkEnd::Lost(ended) => {
-                let cause = cause_of(ended);
-                self.tell(&Event::Lost { cause, said, retry })
-            }
+            NetworkEnd::Lost(ended) => match self.connection.farewell() {
+                Some(farewell) => self.tell(&Event::Parted(farewell)),
+                None => {
+                    let cause = cause_of(ended);
+                    self.tell(&Event::Lost { cause, said, retry })
+                }
+            },
             NetworkEnd::GivenUp => {}
         }
     }
 
-    /// Notes the connection, so that it is shut if its network is begun anew; false if that has
-    /// happened, or there is no memory.
-    fn is_noted(&self) -> bool {
-        match self.connection.share() {
-            Ok(noted) => {
-                let now = hub_threads::Clock::now(&SystemClock::of(self.rt));
-                self.served.slot.connect(self.rt, noted, now)
-            }
-            Err(_) => false,
-        }
+    /// Notes the connection, so that it is shut if its network is begun anew; false if since the
+    /// dial that has happened, or the network was left, or its settings changed.
+    fn note(&self) -> Result<bool, AllocError> {
+        let noted = self.connection.share()?;
+        let now = hub_threads::Clock::now(&SystemClock::of(self.rt));
+        let served = self.served;
+        let slot = served.station.slot();
+        Ok(slot.connect(self.rt, noted, now, served.changes))
     }
 }
 
@@ -105,8 +102,13 @@ impl<'a, R: Wait + Clock> Keeper<Input<'a, R>, Connection> for Keeping<'a, R> {
         writer: &mut Connection,
         lines: &[Line],
     ) -> bool {
-        if !self.is_noted() || self.begin_live(reader).is_err() {
-            let retry = self.retry();
+        let retry = self.served.retry();
+        let is_noted = self.note();
+        if is_noted == Ok(false) {
+            self.tell(&Event::GivenUp { retry });
+            return false;
+        }
+        if is_noted.is_err() || self.begin_live(reader).is_err() {
             self.tell(&Event::ConnectionWithoutMemory { retry });
             return false;
         }
@@ -119,7 +121,7 @@ impl<'a, R: Wait + Clock> Keeper<Input<'a, R>, Connection> for Keeping<'a, R> {
     }
 
     fn no_thread(&mut self) {
-        let retry = self.retry();
+        let retry = self.served.retry();
         self.tell(&Event::NoWriter { retry });
         self.connection.hang_up();
     }

@@ -4,9 +4,10 @@ use crate::anew::{OfSettings, begin_anew};
 use crate::clock::SystemClock;
 use crate::event::Event;
 use crate::reserve::Reserve;
-use crate::shared::{Served, Shared};
+use crate::shared::Shared;
 use crate::slot::Slot;
 use crate::sparing::Sparing;
+use crate::station::Station;
 use hub_core::{HubError, Pumped};
 use hub_threads::{Network, Patience, PumpEnd, REFUSALS, REFUSED_REST, Refusals};
 use net_view::NetworkView;
@@ -96,6 +97,9 @@ impl<'a, V: NetworkView + Drop> Pump<'a, V> {
         let mut patience = Patience::new(alloc);
         let mut refusals = Refusals::none();
         for _ in 0..turns {
+            if self.slot.is_closed() {
+                return PumpEnd::Turns;
+            }
             patience.give_time(rt, network, &bell, &clock);
             let outcome = self.take(rt, network);
             if let Some(end) = refusals.note(outcome) {
@@ -146,46 +150,54 @@ impl<'a, V: NetworkView + Drop> Pump<'a, V> {
 /// Tells that there is no memory, where it is time to; answers when it was told last.
 fn tell_memory<R: Wait + Clock>(
     rt: &R,
-    served: &Served<'_>,
+    shared: &Shared,
+    station: &Station,
     told: Option<Instant>,
 ) -> Option<Instant> {
     if !is_due(rt, told) {
         return told;
     }
-    served.tell(rt, &Event::PumpWithoutMemory);
+    shared
+        .log()
+        .tell(rt, &station.who(), &Event::PumpWithoutMemory);
     Instant::now(rt).ok()
 }
 
-/// Pumps the network at this place, from 0, until no network is dialled any more, or its numbers
-/// are spent. If there is no memory it goes on, and the log tells so at most once a minute; after
-/// the third time the network is begun anew.
-pub fn keep_pumping<R: Wait + Clock>(rt: &R, alloc: Global, shared: &Shared, at: usize) {
-    let Some(served) = shared.served(at) else {
-        return;
-    };
-    let start = OfSettings {
-        alloc,
-        config: shared.config(),
-        packets: served.limits.packets,
-    };
+/// Begins a network anew, by the settings of now.
+fn begin_by_settings<R: Wait + Clock>(rt: &R, alloc: Global, shared: &Shared, station: &Station) {
+    let start = OfSettings { rt, alloc, shared };
+    begin_anew(rt, alloc, station.slot(), &start);
+    // told now, since a line of the log needs memory too
+    shared.log().tell(rt, &station.who(), &Event::BegunAnew);
+}
+
+/// Pumps a network until no network is dialled any more, this one is closed, or its numbers are
+/// spent. If there is no memory it goes on, and the log tells so at most once a minute; after the
+/// third time the network is begun anew.
+pub fn keep_pumping<R: Wait + Clock>(rt: &R, alloc: Global, shared: &Shared, station: &Station) {
+    let limits = shared.limits();
+    let slot = station.slot();
     let mut pump = Pump::new(
-        served.slot,
+        slot,
         shared.reserve(),
-        served.limits.spare,
-        served.limits.turns,
+        limits.spare,
+        limits.turns,
         REFUSED_REST,
     );
     let mut told = None;
     for _ in rt.forever() {
         match pump.run(rt, alloc) {
             PumpEnd::Turns => {}
-            PumpEnd::Memory => told = tell_memory(rt, &served, told),
-            PumpEnd::Spent => return served.tell(rt, &Event::PumpSpent),
+            PumpEnd::Memory => told = tell_memory(rt, shared, station, told),
+            PumpEnd::Spent => {
+                return shared.log().tell(rt, &station.who(), &Event::PumpSpent);
+            }
+        }
+        if slot.is_closed() {
+            return;
         }
         if pump.gives_up(rt) {
-            begin_anew(rt, alloc, served.slot, &start);
-            // told now, since a line of the log needs memory too
-            served.tell(rt, &Event::BegunAnew);
+            begin_by_settings(rt, alloc, shared, station);
         }
         if shared.is_over() {
             return;

@@ -152,7 +152,7 @@ fn is_in_settings(settings: &NetworkConfig, channel: &LostChannel) -> bool {
 /// settings join.
 fn joins<R: Wait>(rt: &R, alloc: Global, served: &Served<'_>) -> Result<Vec<u8>, AllocError> {
     let mut lines = JoinLines::new(alloc);
-    let Some(network) = served.slot.network(rt) else {
+    let Some(network) = served.station.slot().network(rt) else {
         return lines.finish();
     };
     let hub = network.lock(rt);

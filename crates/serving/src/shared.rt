@@ -1,32 +1,29 @@
 //! What all threads share.
 
 use crate::event::Event;
-use crate::guests::Guests;
 use crate::limits::Limits;
-use crate::link::{Link, network_with_link};
 use crate::log::Log;
 use crate::refusals::Refusals;
 use crate::reserve::Reserve;
+use crate::roster::Roster;
 use crate::seats::Seats;
-use crate::shown::Who;
-use crate::slot::Slot;
-use bnc_config::{Config, NetworkConfig, Place};
-use quick_view::QuickView;
-use sessions::Claim;
+use crate::station::{Begun, Station};
+use crate::waiting::clients_of;
+use bnc_config::{Config, NetworkConfig};
 use std::alloc::{AllocError, Global};
+use std::mem;
 use std::rt::Clock;
 use std::sync::atomic::{AtomicBool, AtomicU64, Ordering};
-use std::sync::{Arc, Wait};
+use std::sync::{Arc, Mutex, Wait};
 
 /// What all threads share: the settings, the networks, the log, and the connections that log in.
 #[derive(Drop)]
 pub struct Shared {
-    config: Config,
+    roster: Mutex<Arc<Roster>>,
+    // how many rosters there were before that of now
+    number: AtomicU64,
     limits: Limits,
     log: Log,
-    networks: Vec<(Place, Arc<Slot<QuickView>>)>,
-    // the clients of each network that are served
-    guests: Vec<(Place, Guests)>,
     // the connections that wait for their login
     seats: Seats,
     // what the log told of connections that were refused
@@ -38,67 +35,74 @@ pub struct Shared {
     is_stopping: AtomicBool,
 }
 
-/// One network, as its own threads need it.
+/// A network, as a connection to it is served.
 #[derive(Clone, Copy)]
 pub struct Served<'a> {
-    /// Its user's name and its own.
-    pub who: Who<'a>,
+    /// The network.
+    pub station: &'a Station,
     /// Its settings.
     pub settings: &'a NetworkConfig,
-    /// Where its hub stands.
-    pub slot: &'a Slot<QuickView>,
     /// How long things may take.
     pub limits: Limits,
     /// Where it is told what happens.
     pub log: &'a Log,
+    /// How often its settings had changed when it was dialled.
+    pub changes: u64,
 }
 
 impl Served<'_> {
     /// Tells something of this network.
     pub fn tell<R: Wait + Clock>(&self, rt: &R, event: &Event) {
-        self.log.tell(rt, &self.who, event)
+        self.log.tell(rt, &self.station.who(), event)
+    }
+
+    /// The seconds to the next dial.
+    pub(crate) fn retry(&self) -> u64 {
+        self.limits.retry.as_secs()
     }
 }
 
 impl Shared {
-    /// What the threads of these settings share, with the link of each network, in the order of the
-    /// networks. `AllocError` is told where an allocation was refused.
+    /// What the threads of these settings share, and the networks that are begun, in the order of
+    /// the settings. `AllocError` is told where an allocation was refused.
     pub fn new(
         alloc: Global,
         config: Config,
         limits: Limits,
-    ) -> Result<(Shared, Vec<Link>), AllocError> {
-        let mut networks = Vec::new(alloc);
-        let mut guests = Vec::new(alloc);
-        let mut links = Vec::new(alloc);
-        for user in 0..config.user_count() {
-            for network in 0..config.network_count(user) {
-                let (hub, link) = network_with_link(alloc, config.history(), limits.packets)?;
-                let slot = Arc::new(alloc, Slot::new(alloc, hub)?)?;
-                networks.push((Place { user, network }, slot))?;
-                guests.push((Place { user, network }, Guests::new(&limits)))?;
-                links.push(link)?;
-            }
-        }
-        let dialled = AtomicU64::new(networks.len() as u64);
+    ) -> Result<(Shared, Vec<Begun>), AllocError> {
+        let (roster, begun) = Roster::first(alloc, config, &limits)?;
         let shared = Shared {
-            config,
+            roster: Mutex::new(Arc::new(alloc, roster)?),
+            number: AtomicU64::new(0),
             limits,
             log: Log::new(alloc)?,
-            networks,
-            guests,
             seats: Seats::new(alloc),
             refusals: Refusals::new(alloc)?,
             reserve: Reserve::new(alloc, limits.reserve),
-            dialled,
+            dialled: AtomicU64::new(begun.len() as u64),
             is_stopping: AtomicBool::new(false),
         };
-        Ok((shared, links))
+        Ok((shared, begun))
     }
 
-    /// The settings.
-    pub fn config(&self) -> &Config {
-        &self.config
+    /// The settings of now, and the networks that they name.
+    pub fn roster<R: Wait>(&self, rt: &R) -> Result<Arc<Roster>, AllocError> {
+        let roster = self.roster.lock(rt);
+        Arc::try_clone(&*roster)
+    }
+
+    /// Puts another roster in the place of the one of now. So many more networks are dialled.
+    pub(crate) fn replace_roster<R: Wait>(&self, rt: &R, roster: Arc<Roster>, begun: usize) {
+        self.dialled.fetch_add(begun as u64, Ordering::SeqCst);
+        let number = roster.number();
+        let gone = mem::replace(&mut *self.roster.lock(rt), roster);
+        self.number.store(number, Ordering::SeqCst);
+        drop(gone);
+    }
+
+    /// Whether this is the roster of now.
+    pub(crate) fn is_of_now(&self, roster: &Roster) -> bool {
+        self.number.load(Ordering::SeqCst) == roster.number()
     }
 
     /// How long things may take, and how many there may be.
@@ -111,11 +115,6 @@ impl Shared {
         &self.log
     }
 
-    /// The networks, each with its place in the settings.
-    pub fn networks(&self) -> &[(Place, Arc<Slot<QuickView>>)] {
-        self.networks.as_slice()
-    }
-
     /// How many connections wait for their login.
     pub fn logins<R: Wait>(&self, rt: &R) -> u64 {
         self.seats.count(rt)
@@ -123,21 +122,11 @@ impl Shared {
 
     /// How many clients of the networks are served, all together. One counts until the thread that
     /// writes to it has ended.
-    pub fn sessions(&self) -> u64 {
-        let mut count = 0u64;
-        for (_, guests) in &self.guests {
-            count = count.saturating_add(guests.count());
+    pub fn sessions<R: Wait>(&self, rt: &R) -> u64 {
+        match self.roster(rt) {
+            Ok(roster) => clients_of(roster.networks()),
+            Err(_) => 0,
         }
-        count
-    }
-
-    /// The clients that are served of the network that a client claims; `None` where there is no
-    /// such network.
-    pub(crate) fn guests_of(&self, claim: &Claim) -> Option<&Guests> {
-        let (user, network) = (claim.user.as_slice(), claim.network.as_slice());
-        let place = self.config.find(user, network)?;
-        let found = self.guests.iter().find(|one| one.0 == place)?;
-        Some(&found.1)
     }
 
     /// The seats for logins.
@@ -155,30 +144,24 @@ impl Shared {
         &self.reserve
     }
 
-    /// The network at this place among the networks, from 0.
-    pub(crate) fn served(&self, at: usize) -> Option<Served<'_>> {
-        let (place, slot) = self.networks.get(at)?;
-        let settings = self.config.network(*place)?;
-        let user = self.config.users().get(place.user)?;
+    /// A network, as a connection is served that is dialled by these settings, which had changed so
+    /// often for it; `None` where they have it no more.
+    pub(crate) fn served<'a>(
+        &'a self,
+        roster: &'a Roster,
+        station: &'a Station,
+        changes: u64,
+    ) -> Option<Served<'a>> {
+        let settings = roster.settings_of(station)?;
+        let mut limits = self.limits;
+        limits.retry = roster.retry();
         Some(Served {
-            who: Who {
-                user: user.name(),
-                client: None,
-                network: settings.name(),
-            },
+            station,
             settings,
-            slot,
-            limits: self.limits,
+            limits,
             log: &self.log,
+            changes,
         })
-    }
-
-    /// How many clients are served of the network at this place.
-    pub(crate) fn sessions_at(&self, at: usize) -> u64 {
-        match self.guests.get(at) {
-            Some((_, guests)) => guests.count(),
-            None => 0,
-        }
     }
 
     /// Begins the end of the service: nobody is accepted any more, and no network dialled.

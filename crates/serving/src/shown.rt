@@ -37,24 +37,32 @@ fn sign_in_words(byte: u8) -> char {
     }
 }
 
-/// How many bytes of a network's parting words are shown.
+/// How many bytes of words are shown.
 const WORDS: usize = 256;
 
-/// What a network said at the end, where it said something: `; it said: ` and its first 256 bytes,
-/// each that is no letter, digit, sign or space of ASCII as `?`.
+/// Words: their first 256 bytes, each that is no letter, digit, sign or space of ASCII as `?`.
+#[derive(Clone, Copy)]
+pub(crate) struct Words<'a>(pub(crate) &'a [u8]);
+
+impl fmt::Display for Words<'_> {
+    fn fmt<W: fmt::Write>(&self, f: &mut fmt::Formatter<W>) -> fmt::Result {
+        for byte in self.0.iter().take(WORDS) {
+            f.write_char(sign_in_words(*byte))?;
+        }
+        Ok(())
+    }
+}
+
+/// What a network said at the end, where it said something: `; it said: ` and the words.
 #[derive(Clone, Copy)]
 pub(crate) struct Parting<'a>(pub(crate) Option<&'a [u8]>);
 
 impl fmt::Display for Parting<'_> {
     fn fmt<W: fmt::Write>(&self, f: &mut fmt::Formatter<W>) -> fmt::Result {
-        let Some(text) = self.0 else {
-            return Ok(());
-        };
-        f.write_str("; it said: ")?;
-        for byte in text.iter().take(WORDS) {
-            f.write_char(sign_in_words(*byte))?;
+        match self.0 {
+            Some(text) => write!(f, "; it said: {}", Words(text)),
+            None => Ok(()),
         }
-        Ok(())
     }
 }
 

@@ -1,12 +1,14 @@
 //! The slot in which a network stands, and which stays when the network is begun anew.
 
-use crate::connection::Connection;
+use crate::connection::{Connection, Farewell};
 use crate::link::Link;
 use client_caps::Moment;
+use hub_core::AttachError;
 use hub_threads::Network;
 use net_view::NetworkView;
 use std::alloc::{AllocError, Global};
 use std::mem;
+use std::sync::atomic::{AtomicBool, Ordering};
 use std::sync::{Arc, Mutex, Wait};
 
 /// A client of the network.
@@ -29,6 +31,8 @@ struct Standing<V: NetworkView + Drop> {
     clients: Vec<Client>,
     // the number of the next client
     next: u64,
+    // how often the settings changed by which it is dialled
+    changes: u64,
 }
 
 impl<V: NetworkView + Drop> Standing<V> {
@@ -63,16 +67,20 @@ impl<V: NetworkView + Drop> Standing<V> {
             upstream: None,
             clients: Vec::new(*self.clients.allocator()),
             next: self.next,
+            changes: self.changes,
         };
         mem::replace(self, empty)
     }
 }
 
 /// The slot of a network. The network that stands in it is begun anew when memory is refused for
-/// too long; its connections and its link are then those of a network that is gone.
+/// too long; its connections and its link are then those of a network that is gone. A slot is left
+/// when the settings have its network no more, and closed once nobody dials it any more.
 #[derive(Drop)]
 pub struct Slot<V: NetworkView + Drop> {
     standing: Mutex<Standing<V>>,
+    is_left: AtomicBool,
+    is_closed: AtomicBool,
 }
 
 /// A client's stay at the network that stood in a slot when it came. Dropping it ends that.
@@ -117,11 +125,14 @@ impl<V: NetworkView + Drop> Slot<V> {
                 upstream: None,
                 clients: Vec::new(alloc),
                 next: 0,
+                changes: 0,
             }),
+            is_left: AtomicBool::new(false),
+            is_closed: AtomicBool::new(false),
         })
     }
 
-    /// The network; `None` while it is begun anew.
+    /// The network; `None` while it is begun anew, and where the slot is closed.
     pub fn network<R: Wait>(&self, rt: &R) -> Option<Arc<Network<V>>> {
         let standing = self.standing.lock(rt);
         standing.network_of_now()
@@ -136,11 +147,30 @@ impl<V: NetworkView + Drop> Slot<V> {
         }
     }
 
-    /// Notes the connection to the network, which has taken us in now, and is shut when the network
-    /// is begun anew; false where it was begun anew since the link was asked for.
-    pub(crate) fn connect<R: Wait>(&self, rt: &R, connection: Connection, now: Moment) -> bool {
+    /// How often the settings changed by which it is dialled.
+    pub(crate) fn changes<R: Wait>(&self, rt: &R) -> u64 {
+        self.standing.lock(rt).changes
+    }
+
+    /// Notes that the settings changed by which it is dialled.
+    pub(crate) fn change<R: Wait>(&self, rt: &R) {
         let mut standing = self.standing.lock(rt);
-        if standing.network.is_none() || standing.link.is_some() {
+        standing.changes = standing.changes.wrapping_add(1);
+    }
+
+    /// Notes the connection to the network, which has taken us in now, and is shut when the network
+    /// is begun anew; false where since the dial it was begun anew or left, or its settings changed
+    /// once more than so often.
+    pub(crate) fn connect<R: Wait>(
+        &self,
+        rt: &R,
+        connection: Connection,
+        now: Moment,
+        changes: u64,
+    ) -> bool {
+        let mut standing = self.standing.lock(rt);
+        let is_other = standing.network.is_none() || standing.link.is_some();
+        if is_other || standing.changes != changes || self.is_left() {
             return false;
         }
         standing.upstream = Some((connection, now));
@@ -163,16 +193,46 @@ impl<V: NetworkView + Drop> Slot<V> {
     }
 
     /// Has each client's session end behind a last word.
-    pub(crate) fn part_clients<R: Wait>(&self, rt: &R) {
+    pub(crate) fn part_clients<R: Wait>(&self, rt: &R, farewell: Farewell) {
         for client in &self.standing.lock(rt).clients {
-            client.connection.part();
+            client.connection.part(farewell);
         }
     }
 
     /// Has the connection to the network end behind a last word.
-    pub(crate) fn part<R: Wait>(&self, rt: &R) {
+    pub(crate) fn part<R: Wait>(&self, rt: &R, farewell: Farewell) {
         if let Some((upstream, _)) = &self.standing.lock(rt).upstream {
-            upstream.part();
+            upstream.part(farewell);
+        }
+    }
+
+    /// Whether the settings have its network no more.
+    pub(crate) fn is_left(&self) -> bool {
+        self.is_left.load(Ordering::SeqCst)
+    }
+
+    /// Whether nobody dials its network any more, since it was left.
+    pub(crate) fn is_closed(&self) -> bool {
+        self.is_closed.load(Ordering::SeqCst)
+    }
+
+    /// Lets no client in any more, and takes no connection to the network.
+    pub(crate) fn leave<R: Wait>(&self, rt: &R) {
+        // under the lock, so that who was let in before is among the clients
+        let standing = self.standing.lock(rt);
+        self.is_left.store(true, Ordering::SeqCst);
+        drop(standing);
+    }
+
+    /// Takes the network out that was left, and has its pump end. What it held is freed as soon as
+    /// its last client has gone.
+    pub(crate) fn close<R: Wait>(&self, rt: &R) {
+        self.is_closed.store(true, Ordering::SeqCst);
+        let gone = self.standing.lock(rt).network.take();
+        if let Some(network) = gone {
+            if let Ok(bell) = network.pump_bell() {
+                bell.ring();
+            }
         }
     }
 
@@ -191,22 +251,31 @@ impl<V: NetworkView + Drop> Slot<V> {
     /// Puts a network into the slot that was cleared, with its link.
     pub(crate) fn fill<R: Wait>(&self, rt: &R, network: Arc<Network<V>>, link: Link) {
         let mut standing = self.standing.lock(rt);
+        if self.is_closed() {
+            return;
+        }
         standing.network = Some(network);
         standing.link = Some(link);
     }
 }
 
 /// Lets a client in to the network in a slot; its connection is shut when the network is begun anew.
-/// `None` while that is done, or if memory is refused.
+/// `NotReady` where the slot was left; `OutOfMemory` while the network is begun anew, or if memory
+/// is refused.
 pub(crate) fn enter<V: NetworkView + Drop, R: Wait + Drop>(
     slot: &Arc<Slot<V>>,
     rt: R,
     connection: Connection,
-) -> Option<Stay<V, R>> {
-    let theirs = Arc::try_clone(slot).ok()?;
-    let entered = slot.standing.lock(&rt).enter(connection);
-    let (network, number) = entered?;
-    Some(Stay {
+) -> Result<Stay<V, R>, AttachError> {
+    let theirs = Arc::try_clone(slot)?;
+    let mut standing = slot.standing.lock(&rt);
+    if slot.is_left() {
+        return Err(AttachError::NotReady);
+    }
+    let entered = standing.enter(connection);
+    drop(standing);
+    let (network, number) = entered.ok_or(AttachError::OutOfMemory)?;
+    Ok(Stay {
         rt,
         slot: theirs,
         number,

@@ -2,10 +2,11 @@
 
 use crate::control::obey_to_the_end;
 use crate::dialling::stay_connected;
-use crate::link::Link;
 use crate::log::StandardError;
 use crate::pumping::keep_pumping;
+use crate::reloading::Source;
 use crate::shared::Shared;
+use crate::station::Begun;
 use hub_threads::small_thread;
 use std::alloc::{AllocError, Global};
 use std::io::Read;
@@ -27,9 +28,48 @@ pub fn start_log<R: Threads + Wait + Clock + Eprint + Copy + Send + Drop + 'stat
     started.or(Err(AllocError))
 }
 
-/// Starts the threads of each network: one that dials and reads it, which has a writer beside it
-/// while a connection stands, and one that pumps. `AllocError` where memory is refused or no thread
-/// can be started; those started before then run on.
+/// Starts the threads of a network: one that pumps, and one that dials and reads it, which has a
+/// writer beside it while a connection stands. `AllocError` where memory is refused or a thread can't
+/// be started; the network is left then, so that the other ends.
+pub(crate) fn start_network<
+    R: Threads
+        + Wait
+        + Clock
+        + Net<Listener = TcpListener, Stream = TcpStream>
+        + Copy
+        + Send
+        + Sync
+        + Drop
+        + 'static,
+>(
+    rt: R,
+    alloc: Global,
+    shared: &Arc<Shared>,
+    begun: Begun,
+    threads: &mut Vec<JoinHandle<()>>,
+) -> Result<(), AllocError> {
+    let Begun { station, link } = begun;
+    threads.reserve(2)?;
+    let (theirs, its) = (Arc::try_clone(shared)?, Arc::try_clone(&station)?);
+    let pump = move || keep_pumping(&rt, alloc, &theirs, &its);
+    let (theirs, its) = (Arc::try_clone(shared)?, Arc::try_clone(&station)?);
+    let dial = move || stay_connected(&rt, alloc, &theirs, &its, link);
+    let Ok(reader) = small_thread().spawn(&rt, dial) else {
+        return Err(AllocError);
+    };
+    threads.push(reader)?;
+    match small_thread().spawn(&rt, pump) {
+        Ok(pump) => Ok(threads.push(pump)?),
+        Err(_) => {
+            station.leave(&rt);
+            station.end(&rt);
+            Err(AllocError)
+        }
+    }
+}
+
+/// Starts the threads of each network. `AllocError` where memory is refused or a thread can't be
+/// started; those started before then run on.
 pub fn start_networks<
     R: Threads
         + Wait
@@ -44,25 +84,20 @@ pub fn start_networks<
     rt: R,
     alloc: Global,
     shared: &Arc<Shared>,
-    links: Vec<Link>,
+    begun: Vec<Begun>,
 ) -> Result<Vec<JoinHandle<()>>, AllocError> {
     let mut threads = Vec::new(alloc);
-    for (at, link) in links.into_iter().enumerate() {
-        let theirs = Arc::try_clone(shared)?;
-        let pump = small_thread().spawn(&rt, move || keep_pumping(&rt, alloc, &theirs, at));
-        threads.push(pump.or(Err(AllocError))?)?;
-        let theirs = Arc::try_clone(shared)?;
-        let dial = move || stay_connected(&rt, alloc, &theirs, at, link);
-        let reader = small_thread().spawn(&rt, dial);
-        threads.push(reader.or(Err(AllocError))?)?;
+    for one in begun {
+        start_network(rt, alloc, shared, one, &mut threads)?;
     }
     Ok(threads)
 }
 
-/// Starts the thread that does what the words of this input ask for, one a line. `address` is where
-/// clients are accepted. `AllocError` where memory is refused or no thread can be started.
+/// Starts the thread that does what the words of this input ask for, one a line. `source` is where the
+/// settings are read again, and `address` where clients are accepted. `AllocError` where memory is refused or no thread can be started.
 pub fn start_control<
     I: Read + Send + Drop + 'static,
+    S: Source + Send + Drop + 'static,
     R: Threads
         + Wait
         + Clock
@@ -77,12 +112,13 @@ pub fn start_control<
     alloc: Global,
     shared: &Arc<Shared>,
     input: I,
+    source: S,
     address: SocketAddr,
 ) -> Result<JoinHandle<()>, AllocError> {
     let theirs = Arc::try_clone(shared)?;
     let mut input = input;
     let started = small_thread().spawn(&rt, move || {
-        obey_to_the_end(&rt, alloc, &theirs, &mut input, address)
+        obey_to_the_end(rt, alloc, &theirs, &mut input, &source, address)
     });
     started.or(Err(AllocError))
 }

@@ -7,10 +7,12 @@ use crate::counted::Count;
 use crate::event::Event;
 use crate::guests::Guests;
 use crate::refusals::tell_refusal;
+use crate::roster::Roster;
 use crate::seats::Seat;
 use crate::shared::Shared;
 use crate::shown::Who;
 use crate::slot::{Slot, Stay, enter};
+use crate::station::Station;
 use client_caps::Caps;
 use hub_core::AttachError;
 use hub_ends::SessionId;
@@ -31,8 +33,8 @@ const GAVE_WAY: &str = "gave way, too many connections";
 /// What a client is sent whose time for a login is up, and that sent no PASS.
 const SEND_PASS: &[u8] = b"ERROR :send PASS user@client/network:password\r\n";
 
-/// What a client is told at the end of the service.
-const STOPS: &[u8] = b"ERROR :bnc stops\r\n";
+/// What a client is sent whose login was complete after the settings had changed.
+const OUTDATED: &[u8] = b"ERROR :settings changed, log in again\r\n";
 
 /// Why a login was over before it was done.
 fn cause_of_login(fault: LoginFault) -> &'static str {
@@ -96,14 +98,22 @@ struct Inside<'a, R: Wait + Drop> {
     guests: &'a Guests,
 }
 
+/// Where a client is served.
+#[derive(Clone, Copy)]
+pub(crate) struct At<'a, R> {
+    pub(crate) rt: &'a R,
+    pub(crate) alloc: Global,
+    pub(crate) shared: &'a Shared,
+    /// The settings by which it logs in.
+    pub(crate) roster: &'a Roster,
+    pub(crate) connection: &'a Connection,
+    pub(crate) peer: SocketAddr,
+}
+
 /// Watches one client.
 #[derive(Drop)]
 pub(crate) struct Watching<'a, R: Wait + Clock + Copy + Drop> {
-    rt: &'a R,
-    alloc: Global,
-    shared: &'a Shared,
-    connection: &'a Connection,
-    peer: SocketAddr,
+    at: At<'a, R>,
     // how many bytes were written to the client
     count: Count,
     // kept until the client is let in, or was told that it isn't
@@ -117,25 +127,15 @@ pub(crate) struct Watching<'a, R: Wait + Clock + Copy + Drop> {
     inside: Option<Inside<'a, R>>,
     // why its session ended
     why: Option<Leave>,
+    // whether the settings had changed when its login was complete
+    is_outdated: bool,
 }
 
 impl<'a, R: Wait + Clock + Copy + Drop> Watching<'a, R> {
     /// Watches a client from its login on.
-    pub(crate) fn start(
-        rt: &'a R,
-        alloc: Global,
-        shared: &'a Shared,
-        connection: &'a Connection,
-        peer: SocketAddr,
-        seat: Seat<R>,
-        count: Count,
-    ) -> Watching<'a, R> {
+    pub(crate) fn start(at: At<'a, R>, seat: Seat<R>, count: Count) -> Watching<'a, R> {
         Watching {
-            rt,
-            alloc,
-            shared,
-            connection,
-            peer,
+            at,
             count,
             seat: Some(seat),
             completed: None,
@@ -143,40 +143,58 @@ impl<'a, R: Wait + Clock + Copy + Drop> Watching<'a, R> {
             refusal: None,
             inside: None,
             why: None,
+            is_outdated: false,
         }
     }
 
     /// Tells the log of this client.
     fn tell(&self, event: &Event) {
-        let log = self.shared.log();
+        let log = self.at.shared.log();
         match &self.names {
-            Some(names) => log.tell(self.rt, &names.who(), event),
-            None => log.tell(self.rt, &"bnc", event),
+            Some(names) => log.tell(self.at.rt, &names.who(), event),
+            None => log.tell(self.at.rt, &"bnc", event),
         }
     }
 
     /// Tells the log of a login that was over before it was done.
     fn tell_no_login(&self, cause: &str) {
         let event = Event::NoLogin {
-            peer: self.peer,
+            peer: self.at.peer,
             cause,
         };
-        tell_refusal(self.rt, self.shared, self.peer.ip(), &"bnc", &event);
+        tell_refusal(
+            self.at.rt,
+            self.at.shared,
+            self.at.peer.ip(),
+            &"bnc",
+            &event,
+        );
     }
 
     /// Tells that a password was wrong, and waits until the time for the answer has come, which is
     /// counted from the end of the login; whatever was done meanwhile takes none of it.
     fn deny_late(&self) {
-        let event = Event::WrongPassword { peer: self.peer };
+        let event = Event::WrongPassword { peer: self.at.peer };
         if let Some(names) = &self.names {
-            tell_refusal(self.rt, self.shared, self.peer.ip(), &names.who(), &event);
+            tell_refusal(
+                self.at.rt,
+                self.at.shared,
+                self.at.peer.ip(),
+                &names.who(),
+                &event,
+            );
         }
         let passed = match &self.completed {
-            Some(completed) => completed.elapsed(self.rt).unwrap_or(Duration::ZERO),
+            Some(completed) => completed.elapsed(self.at.rt).unwrap_or(Duration::ZERO),
             None => Duration::ZERO,
         };
-        let left = self.shared.limits().wrong_password.saturating_sub(passed);
-        thread::sleep(self.rt, left);
+        let left = self
+            .at
+            .shared
+            .limits()
+            .wrong_password
+            .saturating_sub(passed);
+        thread::sleep(self.at.rt, left);
     }
 
     /// The network of a slot, for a session: one of as many as there may be.
@@ -185,11 +203,13 @@ impl<'a, R: Wait + Clock + Copy + Drop> Watching<'a, R> {
         claim: &Claim,
         slot: &Arc<Slot<QuickView>>,
     ) -> Result<Arc<Network<QuickView>>, AttachError> {
-        let guests = self.shared.guests_of(claim).ok_or(AttachError::NotReady)?;
-        let connection = self.connection.share()?;
-        let stay = enter(slot, *self.rt, connection).ok_or(AttachError::OutOfMemory)?;
+        let (user, network) = (claim.user.as_slice(), claim.network.as_slice());
+        let station = self.at.roster.station(user, network);
+        let guests = station.ok_or(AttachError::NotReady)?.guests();
+        let connection = self.at.connection.share()?;
+        let stay = enter(slot, *self.at.rt, connection)?;
         let network = Arc::try_clone(&stay.network)?;
-        if !guests.enter(self.shared.limits().sessions) {
+        if !guests.enter(self.at.shared.limits().sessions) {
             return Err(AttachError::Full);
         }
         self.inside = Some(Inside { stay, guests });
@@ -198,7 +218,7 @@ impl<'a, R: Wait + Clock + Copy + Drop> Watching<'a, R> {
 
     /// Sets what holds of the connection in a session.
     fn set_timeouts(&self) -> Result<(), AttachError> {
-        let stream = self.connection.stream();
+        let stream = self.at.connection.stream();
         let call = Duration::from_millis(WRITE_CALL);
         if stream.set_read_timeout(None).is_err() || stream.set_write_timeout(Some(call)).is_err() {
             return Err(AttachError::OutOfMemory);
@@ -206,14 +226,23 @@ impl<'a, R: Wait + Clock + Copy + Drop> Watching<'a, R> {
         Ok(())
     }
 
+    /// Ends a login by settings that had changed when it was complete.
+    fn end_outdated(&self) {
+        let mut out = self.at.connection.stream();
+        // one that has gone hears nothing
+        let _ = out.write_all(OUTDATED);
+        self.tell_no_login("the settings changed meanwhile")
+    }
+
     /// Ends a login that was over before it was done. A client that forgot PASS is told so.
     fn end_login(&self, input: &ClientInput<'a, R>) {
         let is_lost = self.seat.as_ref().is_none_or(|seat| seat.is_lost());
         match self.refusal {
+            None if self.is_outdated => self.end_outdated(),
             None => self.tell_no_login(GAVE_WAY),
             Some(Refusal::Login(_)) if is_lost => self.tell_no_login(GAVE_WAY),
             Some(Refusal::Login(LoginFault::Read)) if input.lacks_pass() => {
-                let mut out = self.connection.stream();
+                let mut out = self.at.connection.stream();
                 // one that has gone hears nothing
                 let _ = out.write_all(SEND_PASS);
                 self.tell_no_login("too late, no PASS came")
@@ -230,12 +259,11 @@ impl<'a, R: Wait + Clock + Copy + Drop> Watching<'a, R> {
             .inside
             .as_ref()
             .is_some_and(|inside| inside.stay.is_over());
-        let is_parting = self.connection.is_parting();
-        let cause = match self.why {
+        let cause = match (self.why, self.at.connection.farewell()) {
             _ if is_over => "network begun anew",
-            Some(Leave::EndOfInput) if is_parting => "bnc stops",
-            Some(why) => cause_of_leave(why),
-            None => "gone",
+            (Some(Leave::EndOfInput), Some(farewell)) => farewell.text(),
+            (Some(why), _) => cause_of_leave(why),
+            (None, _) => "gone",
         };
         self.tell(&Event::Ended {
             cause,
@@ -261,8 +289,9 @@ impl<'a, R: Wait + Clock + Copy + Drop> Watching<'a, R> {
         input: &ClientInput<'a, R>,
         served: &Result<Served<W>, OutOfMemory>,
     ) {
-        if self.inside.is_some() && self.connection.is_parting() {
-            self.connection.say_last(STOPS, self.shared.limits().stop);
+        if let (Some(_), Some(farewell)) = (&self.inside, self.at.connection.farewell()) {
+            let time = self.at.shared.limits().stop;
+            self.at.connection.say_last("ERROR", farewell, time);
         }
         match served {
             Ok(Served::NoLogin) => self.end_login(input),
@@ -279,25 +308,29 @@ impl<'a, R: Wait + Clock + Copy + Drop> Watching<'a, R> {
             Err(_) if self.inside.is_some() => self.tell(&Event::SessionWithoutMemory),
             Err(_) => self.tell_no_login("out of memory"),
         }
-        self.connection.hang_up();
+        self.at.connection.hang_up();
         if let Some(inside) = &self.inside {
             inside.guests.leave();
         }
     }
 }
 
-impl<'a, R: Wait + Clock + Copy + Drop> Watcher<QuickView, Arc<Slot<QuickView>>, ClientInput<'a, R>>
+impl<'a, R: Wait + Clock + Copy + Drop> Watcher<QuickView, Arc<Station>, ClientInput<'a, R>>
     for Watching<'a, R> {
     fn logged_in(&mut self, claim: &Claim) -> bool {
-        let Ok(completed) = Instant::now(self.rt) else {
+        let Ok(completed) = Instant::now(self.at.rt) else {
             return false;
         };
-        let Ok(names) = Names::of(self.alloc, claim) else {
+        let Ok(names) = Names::of(self.at.alloc, claim) else {
             self.refusal = Some(Refusal::Login(LoginFault::Memory));
             return false;
         };
         self.completed = Some(completed);
         self.names = Some(names);
+        if !self.at.shared.is_of_now(self.at.roster) {
+            self.is_outdated = true;
+            return false;
+        }
         self.seat.as_ref().is_some_and(|seat| seat.complete())
     }
 
@@ -305,15 +338,15 @@ impl<'a, R: Wait + Clock + Copy + Drop> Watcher<QuickView, Arc<Slot<QuickView>>,
         &mut self,
         reader: &mut ClientInput<'a, R>,
         claim: &Claim,
-        network: &Arc<Slot<QuickView>>,
+        network: &Arc<Station>,
     ) -> Result<Arc<Network<QuickView>>, AttachError> {
         // the next login may have the seat
         drop(self.seat.take());
         self.tell(&Event::LoggedIn {
-            peer: self.peer,
+            peer: self.at.peer,
             caps: claim.caps,
         });
-        let network = self.enter(claim, network)?;
+        let network = self.enter(claim, network.slot())?;
         self.set_timeouts()?;
         if let Some(inside) = &self.inside {
             reader.begin_session(Arc::try_clone(&network)?, inside.guests.pace());

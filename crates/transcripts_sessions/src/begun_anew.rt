@@ -170,8 +170,11 @@ fn beginner<R: Threads + Wait + Clock + Copy + Send + Sync + Drop + 'static>(
         let_go: Arc::try_clone(let_go)?,
     };
     let begin = move || {
-        if let Some((_, slot)) = shared.networks().first() {
-            begin_anew(&rt, alloc, slot, &start);
+        let Ok(roster) = shared.roster(&rt) else {
+            return;
+        };
+        if let Some((_, station)) = roster.networks().first() {
+            begin_anew(&rt, alloc, station.slot(), &start);
         }
     };
     Ok(thread::spawn(&rt, begin)?)
@@ -236,15 +239,16 @@ fn a_network_begun_anew_is_dialled_and_serves(rt: HostRuntime) -> Result<(), Fai
 }
 
 /// Waits until no network stands in the bouncer's slot, at most some ten seconds.
-fn wait_for_none<R: Clock + Wait>(rt: &R, bouncer: &Bouncer) {
+fn wait_for_none<R: Clock + Wait>(rt: &R, bouncer: &Bouncer) -> Result<(), Fail> {
+    let roster = bouncer.shared.roster(rt)?;
+    let (_, station) = roster.networks().first().ok_or("no network")?;
     for _ in 0..10_000 {
-        if let Some((_, slot)) = bouncer.shared.networks().first() {
-            if slot.network(rt).is_none() {
-                return;
-            }
+        if station.slot().network(rt).is_none() {
+            break;
         }
         thread::sleep(rt, Duration::from_millis(1));
     }
+    Ok(())
 }
 
 /// A login that is right, at a network that has let nobody in.
@@ -264,7 +268,7 @@ fn refused_meanwhile<
 >(rt: R, alloc: Global, bouncer: &Bouncer) -> Result<(), Fail> {
     let let_go = Arc::new(alloc, AtomicU64::new(0))?;
     let beginning = beginner(rt, alloc, bouncer, &let_go)?;
-    wait_for_none(&rt, bouncer);
+    wait_for_none(&rt, bouncer)?;
     turned_away(&rt, alloc, bouncer.address, LOGIN, "ERROR :no memory\r\n")?;
     let_go.store(1, Ordering::SeqCst);
     beginning.join(&rt);

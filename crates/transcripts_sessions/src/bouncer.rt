@@ -185,7 +185,7 @@ impl Bouncer {
     /// Waits until no client is served, at most some ten seconds; whether none is.
     pub fn is_left<R: Wait + Clock>(&self, rt: &R) -> bool {
         for _ in 0..10_000 {
-            if self.shared.sessions() == 0 {
+            if self.shared.sessions(rt) == 0 {
                 return true;
             }
             thread::sleep(rt, Duration::from_millis(1));

@@ -14,6 +14,8 @@ mod coming_back;
 #[cfg(test)]
 mod connections;
 #[cfg(test)]
+mod control;
+#[cfg(test)]
 mod dialling;
 #[cfg(test)]
 mod ending;

@@ -1,0 +1,312 @@
+//! Words that control the bouncer, and settings that are read again while it runs.
+
+use crate::bouncer::{Bouncer, limits, settings, settle, start_unlogged};
+use crate::coming_back::{PHONE, PLAIN, come, leave, let_in};
+use crate::connections::turned_away;
+use crate::peer::{Peer, same};
+use bnc_config::Config;
+use serving::{Limits, Shared, Source, go_by, obey, stop};
+use std::alloc::Global;
+use std::net::{Net, SocketAddr, TcpListener, TcpStream};
+use std::process::Abort;
+use std::rt::Clock;
+use std::sync::{Arc, Wait};
+use std::test::Fail;
+use std::thread::Threads;
+use std::time::Duration;
+
+/// The digest of the salt `a` and the password `bc`.
+const BC: &str = "ba7816bf8f01cfea414140de5dae2223b00361a396177a9cb410ff61f20015ad";
+
+/// That of `a` and `bd`.
+const BD: &str = "a52d159f262b2c6ddb724a61840befc36eb30c88877a4030b65cbe86298449c9";
+
+/// A network of the settings: its name, where it is, and our nick.
+type Named<'a> = (&'a str, SocketAddr, &'a str);
+
+/// The settings: the user ann with a password of this digest, on these networks.
+fn settings_of(alloc: Global, digest: &str, networks: &[Named<'_>]) -> Result<Config, Fail> {
+    let mut text = format!(in alloc;
+        "listen = \"127.0.0.1:6667\"\n[[user]]\nname = \"ann\"\nsalt = \"61\"\n\
+        password = \"{digest}\"\n"
+    )?;
+    for (name, address, nick) in networks {
+        let network = format!(in alloc;
+            "[[user.network]]\nname = \"{name}\"\naddress = \"{address}\"\nnick = \"{nick}\"\n\
+            user = \"ann\"\nrealname = \"Ann A\"\njoin = [\"#c\"]\n"
+        )?;
+        text.push_str(network.as_str())?;
+    }
+    Ok(Config::read(alloc, text.as_str().as_bytes())?)
+}
+
+/// Settings that can't be read.
+#[derive(Clone, Copy)]
+struct Unread;
+
+impl Source for Unread {
+    type Fault = &'static str;
+
+    fn read(&self) -> Result<Config, &'static str> {
+        Err("cannot read\nbnc: bnc.toml: not found")
+    }
+}
+
+/// The log's lines without their times.
+fn untimed(alloc: Global, log: &[u8]) -> Result<Vec<u8>, Fail> {
+    let mut text = Vec::new(alloc);
+    for line in log.split(|byte| *byte == b'\n') {
+        if let Some(line) = line.get(25..) {
+            text.extend_from_slice(line)?;
+            text.push(b'\n')?;
+        }
+    }
+    Ok(text)
+}
+
+/// What the log tells of words that a bouncer obeys which serves nobody, and whether one was to stop.
+fn told_of<
+    R: Threads
+        + Wait
+        + Clock
+        + Net<Listener = TcpListener, Stream = TcpStream>
+        + Copy
+        + Send
+        + Sync
+        + Drop
+        + 'static,
+>(rt: R, alloc: Global, words: &[u8]) -> Result<(bool, Vec<u8>), Fail> {
+    let settings = settings(alloc, "127.0.0.1:1".parse()?)?;
+    let (shared, _begun) = Shared::new(alloc, settings, limits(0, 0))?;
+    let shared = Arc::new(alloc, shared)?;
+    let mut words = words;
+    let is_told = obey(rt, alloc, &shared, &mut words, &Unread);
+    shared.log().end(&rt);
+    let mut log = Vec::new(alloc);
+    shared.log().write_to(&rt, &mut log);
+    Ok((is_told, untimed(alloc, log.as_slice())?))
+}
+
+/// What each word does, and lines that are none.
+#[test]
+fn words_one_a_line(rt: HostRuntime) -> Result<(), Fail> {
+    let rows: [(&[u8], bool, &str); 6] = [
+        (
+            b"status\n",
+            false,
+            "ann/net: offline; sessions 0; messages 0, 0 bytes\n",
+        ),
+        (
+            b"reload\n",
+            false,
+            "bnc: not reloaded: cannot read\nbnc: not reloaded: bnc.toml: not found\n",
+        ),
+        (b"stop\nstatus\n", true, ""),
+        (b"st\x1bop\nstop", false, "bnc: control: ignored st?op\n"),
+        (
+            b"1234567890123456789012345678901234567890123456789012345678901234\n",
+            false,
+            "bnc: control: ignored 1234567890123456789012345678901234567890123456789012345678901234\n",
+        ),
+        (
+            b"12345678901234567890123456789012345678901234567890123456789012345\nstop\n",
+            true,
+            "bnc: control: ignored a line of more than 64 bytes\n",
+        ),
+    ];
+    for (words, want, log) in rows {
+        let (is_told, found) = told_of(rt, rt.alloc(), words)?;
+        assert!(rt; is_told == want);
+        same(rt.alloc(), found.as_slice(), log)?;
+    }
+    Ok(())
+}
+
+/// Goes by these settings from now on.
+fn reload<
+    R: Threads
+        + Wait
+        + Clock
+        + Net<Listener = TcpListener, Stream = TcpStream>
+        + Copy
+        + Send
+        + Sync
+        + Drop
+        + 'static,
+>(
+    rt: R,
+    alloc: Global,
+    bouncer: &Bouncer,
+    digest: &str,
+    networks: &[Named<'_>],
+) -> Result<(), Fail> {
+    let config = settings_of(alloc, digest, networks)?;
+    Ok(go_by(rt, alloc, &bouncer.shared, config)?)
+}
+
+/// What a network hears first of a bouncer with the nick bea.
+const FROM_BEA: &str = "CAP LS 302\r\nNICK bea\r\nUSER ann 0 * :Ann A\r\n";
+
+/// What is answered to a wrong password, and where there is no such network.
+const WRONG: &str = ":bnc 464 * :Password incorrect\r\n";
+
+/// A network is added, and the session at the other one goes on. Then that one is removed: its client
+/// and it are told so, and nobody logs in to it any more.
+fn one_more_and_one_less<
+    R: Threads
+        + Wait
+        + Clock
+        + Net<Listener = TcpListener, Stream = TcpStream>
+        + Copy
+        + Send
+        + Sync
+        + Drop
+        + 'static,
+>(rt: R, alloc: Global, bouncer: &Bouncer, other: &TcpListener) -> Result<(), Fail> {
+    let here = ("net", bouncer.network.local_addr()?, "ann");
+    let there = ("other", other.local_addr()?, "bea");
+    let mut network = let_in(alloc, bouncer)?;
+    let mut phone = come(&rt, alloc, bouncer, PHONE, PLAIN)?;
+    reload(rt, alloc, bouncer, BC, &[there, here])?;
+    let mut second = Peer::accept(other)?;
+    second.hears(alloc, FROM_BEA)?;
+    network.say(":bob!b@h PRIVMSG #c :one\r\n")?;
+    phone.hears(alloc, ":bob!b@h PRIVMSG #c one\r\n")?;
+    reload(rt, alloc, bouncer, BC, &[there])?;
+    phone.ends_with(alloc, "ERROR :removed\r\n")?;
+    network.ends_with(alloc, "QUIT :removed\r\n")?;
+    turned_away(&rt, alloc, bouncer.address, PHONE, WRONG)
+}
+
+#[test]
+fn a_network_is_added_and_one_removed(rt: HostRuntime) -> Result<(), Fail> {
+    let alloc = rt.alloc();
+    let other = TcpListener::bind(&rt, "127.0.0.1:0")?;
+    let bouncer = start_unlogged(rt, alloc, limits(2, 1))?;
+    one_more_and_one_less(rt, alloc, &bouncer, &other)?;
+    bouncer.join(&rt);
+    Ok(())
+}
+
+/// Our nick changes: the network is left behind a word and dialled anew, and the session stays.
+fn another_nick<
+    R: Threads
+        + Wait
+        + Clock
+        + Net<Listener = TcpListener, Stream = TcpStream>
+        + Copy
+        + Send
+        + Sync
+        + Drop
+        + 'static,
+>(rt: R, alloc: Global, bouncer: &Bouncer) -> Result<(), Fail> {
+    let mut network = let_in(alloc, bouncer)?;
+    let mut phone = come(&rt, alloc, bouncer, PHONE, PLAIN)?;
+    let here = ("net", bouncer.network.local_addr()?, "bea");
+    reload(rt, alloc, bouncer, BC, &[here])?;
+    network.ends_with(alloc, "QUIT :settings changed\r\n")?;
+    phone.hears(alloc, ":ann PART #c\r\n")?;
+    let mut again = Peer::accept(&bouncer.network)?;
+    again.hears(alloc, FROM_BEA)?;
+    leave(alloc, &mut phone)
+}
+
+#[test]
+fn a_network_is_dialled_by_other_settings(rt: HostRuntime) -> Result<(), Fail> {
+    let alloc = rt.alloc();
+    let bouncer = start_unlogged(rt, alloc, limits(1, 2))?;
+    another_nick(rt, alloc, &bouncer)?;
+    bouncer.join(&rt);
+    Ok(())
+}
+
+/// The login of the phone with the password `bd`.
+const BY_BD: &str = "PASS ann@phone/net:bd\r\nNICK x\r\nUSER x 0 * :x\r\n";
+
+/// The password changes: a login that began before it is asked to come again, later ones go by the
+/// new one, and a session stays.
+fn another_password<
+    R: Threads
+        + Wait
+        + Clock
+        + Net<Listener = TcpListener, Stream = TcpStream>
+        + Copy
+        + Send
+        + Sync
+        + Drop
+        + 'static,
+>(rt: R, alloc: Global, bouncer: &Bouncer) -> Result<(), Fail> {
+    let mut network = let_in(alloc, bouncer)?;
+    let mut phone = come(&rt, alloc, bouncer, PHONE, PLAIN)?;
+    let mut late = Peer::dial(&rt, bouncer.address)?;
+    late.say("PING x\r\nPASS ann@pc/net:bc\r\n")?;
+    late.hears(alloc, ":bnc PONG bnc x\r\n")?;
+    let here = ("net", bouncer.network.local_addr()?, "ann");
+    reload(rt, alloc, bouncer, BD, &[here])?;
+    late.say("NICK x\r\nUSER x 0 * :x\r\n")?;
+    late.ends_with(alloc, "ERROR :settings changed, log in again\r\n")?;
+    turned_away(&rt, alloc, bouncer.address, PHONE, WRONG)?;
+    let mut pad = come(&rt, alloc, bouncer, BY_BD, PLAIN)?;
+    network.say(":bob!b@h PRIVMSG #c :one\r\n")?;
+    phone.hears(alloc, ":bob!b@h PRIVMSG #c one\r\n")?;
+    pad.hears(alloc, ":bob!b@h PRIVMSG #c one\r\n")?;
+    leave(alloc, &mut pad)?;
+    leave(alloc, &mut phone)
+}
+
+#[test]
+fn a_password_that_changes(rt: HostRuntime) -> Result<(), Fail> {
+    let alloc = rt.alloc();
+    let bouncer = start_unlogged(rt, alloc, limits(4, 1))?;
+    another_password(rt, alloc, &bouncer)?;
+    bouncer.join(&rt);
+    Ok(())
+}
+
+/// The words ask for the status of a network with a message, and for it to end; its client and it are
+/// told so.
+fn status_and_stop<
+    R: Threads
+        + Wait
+        + Clock
+        + Net<Listener = TcpListener, Stream = TcpStream>
+        + Copy
+        + Send
+        + Sync
+        + Drop
+        + 'static,
+>(rt: R, alloc: Global, bouncer: &Bouncer) -> Result<bool, Fail> {
+    let mut network = let_in(alloc, bouncer)?;
+    let mut phone = come(&rt, alloc, bouncer, PHONE, PLAIN)?;
+    network.say(":bob!b@h PRIVMSG #c :one\r\n")?;
+    phone.hears(alloc, ":bob!b@h PRIVMSG #c one\r\n")?;
+    settle(alloc, &mut network)?;
+    let mut words = b"status\nstop\n".as_slice();
+    let is_told = obey(rt, alloc, &bouncer.shared, &mut words, &Unread);
+    bouncer.shared.begin_stop();
+    stop(&rt, &bouncer.shared);
+    phone.ends_with(alloc, "ERROR :bnc stops\r\n")?;
+    network.ends_with(alloc, "QUIT :bnc stops\r\n")?;
+    Ok(is_told)
+}
+
+/// Whether a text stands in another.
+fn stands_in(text: &[u8], part: &[u8]) -> bool {
+    text.windows(part.len()).any(|window| window == part)
+}
+
+#[test]
+fn the_status_and_the_end(rt: HostRuntime) -> Result<(), Fail> {
+    let alloc = rt.alloc();
+    let limits = Limits {
+        stop: Duration::from_secs(1),
+        ..limits(1, 1)
+    };
+    let bouncer = start_unlogged(rt, alloc, limits)?;
+    assert!(rt; status_and_stop(rt, alloc, &bouncer)?);
+    let log = bouncer.logged(&rt, alloc)?;
+    assert!(rt; stands_in(log.as_slice(), b"; sessions 1; messages 1, 43 bytes\n"));
+    assert!(rt; stands_in(log.as_slice(), b"session ended: bnc stops; "));
+    assert!(rt; stands_in(log.as_slice(), b"connection ended: bnc stops\n"));
+    Ok(())
+}
