@@ -3,7 +3,9 @@
 use crate::control::open_control;
 use bnc_config::Config;
 use commands::{Fault, settings_text, warn_of_readers};
-use serving::{Limits, Shared, Source, accept, start_control, start_log, start_networks, stop};
+use serving::{
+    Limits, Shared, Source, Unread, accept, start_control, start_log, start_networks, stop,
+};
 use std::fs::File;
 use std::net::{Net, TcpListener, TcpStream};
 use std::rt::{Clock, Files};
@@ -21,16 +23,20 @@ fn settings_at<R: AllocGlobal + Files>(rt: &R, path: &str) -> Result<Config, Fau
 
 /// The settings file at a path, which is read again.
 #[derive(Drop)]
-struct SettingsFile<R: AllocGlobal + Files> {
+struct SettingsFile<R: AllocGlobal + Files<File = File>> {
     rt: R,
     path: String,
 }
 
-impl<R: AllocGlobal + Files> Source for SettingsFile<R> {
-    type Fault = Fault;
-
-    fn read(&self) -> Result<Config, Fault> {
-        settings_at(&self.rt, self.path.as_str())
+impl<R: AllocGlobal + Files<File = File>> Source for SettingsFile<R> {
+    fn read(&self) -> Result<Config, Unread> {
+        match settings_at(&self.rt, self.path.as_str()) {
+            Ok(config) => Ok(config),
+            Err(fault) => match format!(in self.rt.alloc(); "{fault}") {
+                Ok(text) => Err(Unread::Fault(text)),
+                Err(_) => Err(Unread::OutOfMemory),
+            },
+        }
     }
 }
 

@@ -25,37 +25,24 @@ fn prepare(stream: &TcpStream, limits: &Limits) -> io::Result<()> {
 }
 
 /// Serves a client to its end; an error where it could not be begun.
-fn serve<R: Threads + Clock + Wait + Copy + Send + Drop + 'static>(
-    rt: R,
-    alloc: Global,
-    shared: &Shared,
+fn serve<'a, R: Threads + Clock + Wait + Copy + Send + Drop + 'static>(
+    at: At<'a, R>,
     seat: Seat<R>,
-    connection: &Connection,
-    peer: SocketAddr,
 ) -> io::Result<()> {
-    let roster = shared.roster(&rt)?;
-    prepare(connection.stream(), &shared.limits())?;
-    let gate = HangingUp::on(connection.share()?);
-    let (out, count) = Counted::new(alloc, connection.share()?)?;
-    let mut input = ClientInput::start(&rt, alloc, connection, seat.time)?;
-    let place = At {
-        rt: &rt,
-        alloc,
-        shared,
-        roster: &roster,
-        connection,
-        peer,
-    };
-    let mut watching = Watching::start(place, seat, count);
+    prepare(at.connection.stream(), &at.shared.limits())?;
+    let gate = HangingUp::on(at.connection.share()?);
+    let (out, count) = Counted::new(at.alloc, at.connection.share()?)?;
+    let mut input = ClientInput::start(at.rt, at.alloc, at.connection, seat.time)?;
+    let mut watching = Watching::start(at, seat, count);
     let served = serve_session(
-        rt,
-        alloc,
+        *at.rt,
+        at.alloc,
         &mut input,
         out,
-        roster.config(),
-        roster.networks(),
+        at.roster.config(),
+        at.roster.networks(),
         &gate,
-        &SystemClock::of(&rt),
+        &SystemClock::of(at.rt),
         &mut watching,
     );
     watching.finish(&input, &served);
@@ -72,6 +59,16 @@ pub fn serve_client<R: Threads + Clock + Wait + Copy + Send + Drop + 'static>(
     connection: Connection,
     peer: SocketAddr,
 ) {
-    let _ = serve(rt, alloc, shared, seat, &connection, peer);
+    if let Ok(roster) = shared.roster(&rt) {
+        let at = At {
+            rt: &rt,
+            alloc,
+            shared,
+            roster: &roster,
+            connection: &connection,
+            peer,
+        };
+        let _ = serve(at, seat);
+    }
     connection.hang_up();
 }

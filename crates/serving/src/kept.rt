@@ -1,5 +1,6 @@
 //! How much a network keeps.
 
+use history::Entry;
 use hub_threads::Network;
 use net_view::NetworkView;
 use std::alloc::{AllocError, Global};
@@ -15,6 +16,13 @@ pub struct Kept {
     pub bytes: usize,
 }
 
+/// How many bytes the parts of a message have.
+fn size_of(entry: &Entry) -> usize {
+    let from = entry.source().len().saturating_add(entry.command().len());
+    let to = entry.target().len().saturating_add(entry.text().len());
+    from.saturating_add(to).saturating_add(entry.time().len())
+}
+
 impl Kept {
     /// What a network keeps. `AllocError` is told where memory for the count was refused.
     pub fn by<V: NetworkView + Drop, R: Wait>(
@@ -28,15 +36,7 @@ impl Kept {
         };
         let mut bytes = 0usize;
         for entry in &entries {
-            for text in [
-                entry.source(),
-                entry.command(),
-                entry.target(),
-                entry.text(),
-                entry.time(),
-            ] {
-                bytes = bytes.saturating_add(text.len());
-            }
+            bytes = bytes.saturating_add(size_of(entry));
         }
         let messages = entries.len();
         Ok(Kept { messages, bytes })

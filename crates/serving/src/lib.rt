@@ -55,7 +55,7 @@ pub use log::Log;
 pub use pumping::Pump;
 pub use recalling::Recalling;
 pub use rejoining::JoinLines;
-pub use reloading::{Source, go_by};
+pub use reloading::{Source, Unread, go_by};
 pub use reserve::Reserve;
 pub use roster::Roster;
 pub use shared::Shared;

@@ -8,20 +8,25 @@ use crate::station::{Begun, Station};
 use crate::waiting::Awaited;
 use bnc_config::{Config, NetworkConfig, Place};
 use std::alloc::{AllocError, Global};
-use std::fmt;
 use std::net::{Net, TcpListener, TcpStream};
 use std::rt::Clock;
 use std::sync::{Arc, Wait};
 use std::thread::Threads;
 use std::time::{Duration, Instant};
 
+/// Why settings were not read again.
+#[derive(Debug, Drop)]
+pub enum Unread {
+    /// They have a fault, or can't be read. Its text may have several lines.
+    Fault(String),
+    /// An allocation was refused.
+    OutOfMemory,
+}
+
 /// Where settings are read again.
 pub trait Source {
-    /// Why they can't be read.
-    type Fault: fmt::Display + Drop;
-
     /// Reads them.
-    fn read(&self) -> Result<Config, Self::Fault>;
+    fn read(&self) -> Result<Config, Unread>;
 }
 
 /// Whether a network is to be dialled anew whose settings were these and are those: what a
@@ -42,13 +47,6 @@ fn is_changed(old: &Roster, new: &Roster, station: &Station) -> bool {
     }
 }
 
-/// Whether a network stands among these.
-fn is_among(networks: &[(Place, Arc<Station>)], station: &Arc<Station>) -> bool {
-    networks
-        .iter()
-        .any(|one| Arc::as_ptr(&one.1) == Arc::as_ptr(station))
-}
-
 /// The networks of the old roster that the new one lacks.
 fn left_by(
     alloc: Global,
@@ -57,7 +55,7 @@ fn left_by(
 ) -> Result<Vec<(Place, Arc<Station>)>, AllocError> {
     let mut left = Vec::new(alloc);
     for (place, station) in old.networks() {
-        if !is_among(new.networks(), station) {
+        if new.settings_of(station).is_none() {
             left.push((*place, Arc::try_clone(station)?))?;
         }
     }
@@ -164,14 +162,8 @@ pub fn go_by<
 }
 
 /// Tells why the settings were not read again: a fault's lines, each by itself.
-fn tell_fault<R: Wait + Clock, F: fmt::Display>(rt: &R, alloc: Global, shared: &Shared, fault: &F) {
-    let Ok(text) = format!(in alloc; "{fault}") else {
-        let event = Event::NotReloaded {
-            why: "out of memory",
-        };
-        return shared.log().tell(rt, &"bnc", &event);
-    };
-    for line in text.as_str().lines() {
+fn tell_fault<R: Wait + Clock>(rt: &R, shared: &Shared, fault: &str) {
+    for line in fault.lines() {
         let why = line.strip_prefix("bnc: ").unwrap_or(line);
         shared.log().tell(rt, &"bnc", &Event::NotReloaded { why });
     }
@@ -191,12 +183,12 @@ pub(crate) fn reload<
         + Drop
         + 'static,
 >(rt: R, alloc: Global, shared: &Arc<Shared>, source: &S) {
-    match source.read() {
-        Ok(config) => {
-            if go_by(rt, alloc, shared, config).is_err() {
-                tell_fault(&rt, alloc, shared, &"out of memory");
-            }
-        }
-        Err(fault) => tell_fault(&rt, alloc, shared, &fault),
+    let done = match source.read() {
+        Ok(config) => go_by(rt, alloc, shared, config),
+        Err(Unread::Fault(fault)) => return tell_fault(&rt, shared, fault.as_str()),
+        Err(Unread::OutOfMemory) => Err(AllocError),
+    };
+    if done.is_err() {
+        tell_fault(&rt, shared, "out of memory");
     }
 }

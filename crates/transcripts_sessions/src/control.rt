@@ -5,7 +5,7 @@ use crate::coming_back::{PHONE, PLAIN, come, leave, let_in};
 use crate::connections::turned_away;
 use crate::peer::{Peer, same};
 use bnc_config::Config;
-use serving::{Limits, Shared, Source, go_by, obey, stop};
+use serving::{Limits, Shared, Source, Unread, go_by, obey, stop};
 use std::alloc::Global;
 use std::net::{Net, SocketAddr, TcpListener, TcpStream};
 use std::process::Abort;
@@ -42,13 +42,16 @@ fn settings_of(alloc: Global, digest: &str, networks: &[Named<'_>]) -> Result<Co
 
 /// Settings that can't be read.
 #[derive(Clone, Copy)]
-struct Unread;
+struct Gone {
+    alloc: Global,
+}
 
-impl Source for Unread {
-    type Fault = &'static str;
-
-    fn read(&self) -> Result<Config, &'static str> {
-        Err("cannot read\nbnc: bnc.toml: not found")
+impl Source for Gone {
+    fn read(&self) -> Result<Config, Unread> {
+        match String::from_str(self.alloc, "cannot read\nbnc: bnc.toml: not found") {
+            Ok(fault) => Err(Unread::Fault(fault)),
+            Err(_) => Err(Unread::OutOfMemory),
+        }
     }
 }
 
@@ -80,7 +83,7 @@ fn told_of<
     let (shared, _begun) = Shared::new(alloc, settings, limits(0, 0))?;
     let shared = Arc::new(alloc, shared)?;
     let mut words = words;
-    let is_told = obey(rt, alloc, &shared, &mut words, &Unread);
+    let is_told = obey(rt, alloc, &shared, &mut words, &Gone { alloc });
     shared.log().end(&rt);
     let mut log = Vec::new(alloc);
     shared.log().write_to(&rt, &mut log);
@@ -282,7 +285,7 @@ fn status_and_stop<
     phone.hears(alloc, ":bob!b@h PRIVMSG #c one\r\n")?;
     settle(alloc, &mut network)?;
     let mut words = b"status\nstop\n".as_slice();
-    let is_told = obey(rt, alloc, &bouncer.shared, &mut words, &Unread);
+    let is_told = obey(rt, alloc, &bouncer.shared, &mut words, &Gone { alloc });
     bouncer.shared.begin_stop();
     stop(&rt, &bouncer.shared);
     phone.ends_with(alloc, "ERROR :bnc stops\r\n")?;
