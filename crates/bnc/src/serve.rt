@@ -4,7 +4,8 @@ use crate::control::open_control;
 use bnc_config::Config;
 use commands::{Fault, settings_text, warn_of_readers};
 use serving::{
-    Limits, Shared, Source, Unread, accept, start_control, start_log, start_networks, stop,
+    Limits, Shared, Source, Unread, begin_end, obey, start_accepting, start_log, start_networks,
+    stop,
 };
 use std::fs::File;
 use std::net::{Net, TcpListener, TcpStream};
@@ -22,15 +23,15 @@ fn settings_at<R: AllocGlobal + Files>(rt: &R, path: &str) -> Result<Config, Fau
 }
 
 /// The settings file at a path, which is read again.
-#[derive(Drop)]
-struct SettingsFile<R: AllocGlobal + Files<File = File>> {
-    rt: R,
-    path: String,
+#[derive(Clone, Copy)]
+struct SettingsFile<'a, R: AllocGlobal + Files> {
+    rt: &'a R,
+    path: &'a str,
 }
 
-impl<R: AllocGlobal + Files<File = File>> Source for SettingsFile<R> {
+impl<R: AllocGlobal + Files> Source for SettingsFile<'_, R> {
     fn read(&self) -> Result<Config, Unread> {
-        match settings_at(&self.rt, self.path.as_str()) {
+        match settings_at(self.rt, self.path) {
             Ok(config) => Ok(config),
             Err(fault) => match format!(in self.rt.alloc(); "{fault}") {
                 Ok(text) => Err(Unread::Fault(text)),
@@ -79,12 +80,14 @@ pub fn serve_file<
     if println!(rt; "listening {address}").is_err() {
         return Err(Fault::CannotWrite);
     }
-    if let Some(words) = open_control(&rt, path) {
-        let path = String::from_str(alloc, path)?;
-        let source = SettingsFile { rt, path };
-        let _control = start_control(rt, alloc, &shared, words, source, address)?;
+    let accepting = start_accepting(rt, alloc, &shared, listener)?;
+    if let Some(mut words) = open_control(&rt, path) {
+        let source = SettingsFile { rt: &rt, path };
+        if obey(rt, alloc, &shared, &mut words, &source) {
+            begin_end(&rt, &shared, address);
+        }
     }
-    accept(rt, alloc, &listener, &shared);
+    accepting.join(&rt);
     stop(&rt, &shared);
     Ok(())
 }

@@ -1,6 +1,6 @@
 //! The state parts of bursts, kept until the view may be another.
 
-ghost use Rattle.std.specs.Prelude.{◌≡◌, false, true, IfOk, IfSome, position};
+ghost use Rattle.std.specs.Prelude.{◌≡◌, [], false, true, IfOk, IfSome, position};
 ghost use Rattle.net_view.specs.Arrival.{arrival_of};
 ghost use Rattle.net_view.specs.StateLines.{is_state_item};
 ghost use Rattle.net_view.specs.View.{View};
@@ -102,8 +102,9 @@ pub fn drop_outdated(parts: &mut Vec<StatePart>, item: &Item)
 
 /// Drops the state parts after an allocation was refused, for whoever needs the memory more.
 pub fn drop_if_short(parts: &mut Vec<StatePart>, refusal: HubError)
-    ensures { (view : View) → AreStateParts view parts.old.items →
+    ensures kept { (view : View) → AreStateParts view parts.old.items →
         AreStateParts view parts.new.items }
+    ensures dropped { refusal ≡ HubError.OutOfMemory → parts.new.items ≡ [] }
 {
     match refusal {
         HubError::OutOfMemory => parts.clear(),

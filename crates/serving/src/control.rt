@@ -162,23 +162,13 @@ pub fn obey<
     unreachable!()
 }
 
-/// Reads words, and begins the end of the service where one asks for it. The connection that it
-/// then makes to where clients are accepted ends the accepting.
-pub(crate) fn obey_to_the_end<
-    I: Read,
-    S: Source,
-    R: Threads
-        + Wait
-        + Clock
-        + Net<Listener = TcpListener, Stream = TcpStream>
-        + Copy
-        + Send
-        + Sync
-        + Drop
-        + 'static,
->(rt: R, alloc: Global, shared: &Arc<Shared>, input: &mut I, source: &S, address: SocketAddr) {
-    if obey(rt, alloc, shared, input, source) {
-        shared.begin_stop();
-        let _ = TcpStream::connect_timeout(&rt, &address, shared.limits().stop);
-    }
+/// Begins the end of the service: no network is dialled any more, and a connection to where clients
+/// are accepted ends the accepting.
+pub fn begin_end<R: Net<Listener = TcpListener, Stream = TcpStream>>(
+    rt: &R,
+    shared: &Shared,
+    address: SocketAddr,
+) {
+    shared.begin_stop();
+    let _ = TcpStream::connect_timeout(rt, &address, shared.limits().stop);
 }

@@ -1,16 +1,14 @@
-//! The threads of the networks.
+//! The threads of the networks, of the log, and the one that accepts clients.
 
-use crate::control::obey_to_the_end;
+use crate::accepting::accept;
 use crate::dialling::stay_connected;
 use crate::log::StandardError;
 use crate::pumping::keep_pumping;
-use crate::reloading::Source;
 use crate::shared::Shared;
 use crate::station::Begun;
 use hub_threads::small_thread;
 use std::alloc::{AllocError, Global};
-use std::io::Read;
-use std::net::{Net, SocketAddr, TcpListener, TcpStream};
+use std::net::{Net, TcpListener, TcpStream};
 use std::rt::Clock;
 use std::sync::{Arc, Wait};
 use std::thread::{JoinHandle, Threads};
@@ -93,11 +91,9 @@ pub fn start_networks<
     Ok(threads)
 }
 
-/// Starts the thread that does what the words of this input ask for, one a line. `source` is where the
-/// settings are read again, and `address` where clients are accepted. `AllocError` where memory is refused or no thread can be started.
-pub fn start_control<
-    I: Read + Send + Drop + 'static,
-    S: Source + Send + Drop + 'static,
+/// Starts the thread that accepts clients. `AllocError` where memory is refused or no thread can be
+/// started.
+pub fn start_accepting<
     R: Threads
         + Wait
         + Clock
@@ -111,14 +107,9 @@ pub fn start_control<
     rt: R,
     alloc: Global,
     shared: &Arc<Shared>,
-    input: I,
-    source: S,
-    address: SocketAddr,
+    listener: TcpListener,
 ) -> Result<JoinHandle<()>, AllocError> {
     let theirs = Arc::try_clone(shared)?;
-    let mut input = input;
-    let started = small_thread().spawn(&rt, move || {
-        obey_to_the_end(rt, alloc, &theirs, &mut input, &source, address)
-    });
+    let started = small_thread().spawn(&rt, move || accept(rt, alloc, &listener, &theirs));
     started.or(Err(AllocError))
 }

@@ -33,7 +33,7 @@ invariant_of-self-in-Err g c = (
       record { taken = c.in-Some.ensures.taken; comes = c.in-Some.ensures.ahead }
       c.self.invariant.0 _ _ refl (ap (shown joining) c.prepare_arrival.ensures.all) refl
       c.prepare_arrival.ensures.states refl refl refl,
-  c.drop_if_short.ensures _ c.self.invariant.1,
+  c.drop_if_short.ensures.kept _ c.self.invariant.1,
 )
 
 pub invariant_of-self-in-Err-keep : goal.invariant_of-self-in-Err-keep
@@ -42,7 +42,7 @@ invariant_of-self-in-Err-keep g c = (
       record { taken = c.in-Some.ensures.taken; comes = c.in-Some.ensures.ahead }
       c.self.invariant.0 _ _ refl (ap (shown joining) c.prepare_arrival.ensures.all) refl
       c.prepare_arrival.ensures.states c.in-Err-keep.ensures.same refl refl,
-  c.drop_if_short-in-Err-keep.ensures _ c.self.invariant.1,
+  c.drop_if_short-in-Err-keep.ensures.kept _ c.self.invariant.1,
 )
 
 pub invariant_of-self-in-Err-take : goal.invariant_of-self-in-Err-take
@@ -58,7 +58,7 @@ invariant_of-self-in-Err-take g c =
           (nothing_kept item c.self.inside.history c.keep.new.history need
           (c.in_default-keep.ensures.ok
           ∙ ap (with_entry c.self.inside.history) c.in-Ok.ensures.made.0)) refl refl,
-      c.drop_if_short-in-Err-take.ensures _
+      c.drop_if_short-in-Err-take.ensures.kept _
           (subst (λ v. AreStateParts v c.self.inside.parts.items) (sym c.in-Err-take.ensures.kept)
           c.self.invariant.1),
     )
