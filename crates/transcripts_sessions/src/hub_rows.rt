@@ -1,10 +1,10 @@
 //! What a hub does of scripts of events: what is answered, what clients and the network are sent.
 
 mod between;
-mod events;
+pub(crate) mod events;
 mod garden;
-mod replies;
-mod scripts;
+pub(crate) mod replies;
+pub(crate) mod scripts;
 mod state_parts;
 
 use crate::hub_rows::events::WELCOME;
@@ -13,7 +13,7 @@ use crate::hub_rows::scripts::{Story, check, check_text};
 use std::test::Fail;
 
 /// What a client without capabilities is sent first, behind a welcome and a JOIN of ours.
-const BURST: [&[u8]; 9] = [
+pub(crate) const BURST: [&[u8]; 9] = [
     b":bnc 001 Me :Welcome to the bouncer",
     b":bnc 002 Me :Your host is bnc, running version 1",
     b":bnc 003 Me :This server was created for you",
@@ -25,7 +25,7 @@ const BURST: [&[u8]; 9] = [
     b":bnc 366 Me #c :End of NAMES list",
 ];
 
-const STORY: Story = Story {
+pub(crate) const STORY: Story = Story {
     history: 3,
     first_number: 1,
     first_session: 0,
@@ -36,7 +36,7 @@ const STORY: Story = Story {
     images: false,
 };
 
-const MESSAGES_THAT_WERE_MISSED: [&[u8]; 9] = [
+pub(crate) const MESSAGES_THAT_WERE_MISSED: [&[u8]; 9] = [
     b"attach - pc 8",
     b"up :bob!b@h PRIVMSG #c m1",
     b"up :bob!b@h PRIVMSG #c m2",
@@ -48,7 +48,7 @@ const MESSAGES_THAT_WERE_MISSED: [&[u8]; 9] = [
     b"up :bob!b@h PRIVMSG #d m6",
 ];
 
-const MESSAGES_THAT_WERE_MISSED_TOLD: [&[u8]; 17] = [
+pub(crate) const MESSAGES_THAT_WERE_MISSED_TOLD: [&[u8]; 17] = [
     b"session 0",
     b"session 1",
     b":bnc 001 Me :Welcome to the bouncer",
@@ -135,7 +135,7 @@ fn a_message_said(rt: HostRuntime) -> Result<(), Fail> {
     )
 }
 
-const A_LOSS_WITH_TWO_CHANNELS: [&[u8]; 7] = [
+pub(crate) const A_LOSS_WITH_TWO_CHANNELS: [&[u8]; 7] = [
     b"up :Me!m@h JOIN #b",
     b"attach - - 8",
     b"piece :s 001 Yo",
@@ -145,7 +145,7 @@ const A_LOSS_WITH_TWO_CHANNELS: [&[u8]; 7] = [
     b"attach - - 8",
 ];
 
-const A_LOSS_WITH_TWO_CHANNELS_TOLD: [&[u8]; 6] = [
+pub(crate) const A_LOSS_WITH_TWO_CHANNELS_TOLD: [&[u8]; 6] = [
     b"session 0",
     b"offline",
     b"not ready",
@@ -165,7 +165,7 @@ fn a_loss_with_two_channels(rt: HostRuntime) -> Result<(), Fail> {
     )
 }
 
-const A_SESSION_THAT_IS_CUT: [&[u8]; 7] = [
+pub(crate) const A_SESSION_THAT_IS_CUT: [&[u8]; 7] = [
     b"attach - - 2",
     b"attach - - 8",
     b"drained 0 1",
@@ -175,7 +175,7 @@ const A_SESSION_THAT_IS_CUT: [&[u8]; 7] = [
     b"said 0 PING x",
 ];
 
-const A_SESSION_THAT_IS_CUT_TOLD: [&[u8]; 8] = [
+pub(crate) const A_SESSION_THAT_IS_CUT_TOLD: [&[u8]; 8] = [
     b"session 0",
     b"session 1",
     b"drained 1",

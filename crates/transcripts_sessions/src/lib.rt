@@ -18,6 +18,8 @@ mod control;
 #[cfg(test)]
 mod dialling;
 #[cfg(test)]
+mod diary;
+#[cfg(test)]
 mod ending;
 #[cfg(test)]
 mod gates;
@@ -54,6 +56,8 @@ mod registration;
 #[cfg(test)]
 mod rejoining;
 #[cfg(test)]
+mod reserve;
+#[cfg(test)]
 mod rings;
 #[cfg(test)]
 mod scenes;
@@ -71,3 +75,5 @@ mod stage;
 mod strangers;
 #[cfg(test)]
 mod streams;
+#[cfg(test)]
+mod watched;

@@ -5,12 +5,12 @@ mod words;
 use client_caps::{Caps, answer, read_request};
 use irc_line::Line;
 use sessions::{Claim, Login, LoginStep};
-use std::alloc::Global;
+use std::alloc::{AllocError, Global};
 use std::process::Abort;
 use std::test::Fail;
 
 /// The answer to `CAP LS`.
-const OFFER: &str =
+pub(crate) const OFFER: &str =
     ":bnc CAP * LS :multi-prefix extended-join account-notify away-notify server-time batch";
 
 /// The line of a text.
@@ -32,10 +32,20 @@ pub(crate) fn texts(alloc: Global, lines: &[Line]) -> Result<Vec<u8>, Fail> {
     Ok(out)
 }
 
-/// A claim, as `done: ann@pc/net bc batch`: without its client and `@` where it has none, and with
-/// the names of what is held.
-fn claimed(alloc: Global, claim: &Claim) -> Result<Vec<u8>, Fail> {
-    let mut out = Vec::from_slice(alloc, b"done: ")?;
+/// The names of capabilities, each behind a space.
+pub(crate) fn push_caps(out: &mut Vec<u8>, caps: Caps) -> Result<(), AllocError> {
+    for place in 0..6 {
+        if caps.holds(place) {
+            out.push(b' ')?;
+            out.extend_from_slice(Caps::name(place).unwrap_or(b""))?;
+        }
+    }
+    Ok(())
+}
+
+/// A claim, as `ann@pc/net bc batch`: without its client and `@` where it has none, and with the
+/// names of what is held.
+pub(crate) fn push_claim(out: &mut Vec<u8>, claim: &Claim) -> Result<(), AllocError> {
     out.extend_from_slice(claim.user.as_slice())?;
     if let Some(client) = &claim.client {
         out.push(b'@')?;
@@ -45,12 +55,13 @@ fn claimed(alloc: Global, claim: &Claim) -> Result<Vec<u8>, Fail> {
     out.extend_from_slice(claim.network.as_slice())?;
     out.push(b' ')?;
     out.extend_from_slice(claim.password.as_slice())?;
-    for place in 0..6 {
-        if claim.caps.holds(place) {
-            out.push(b' ')?;
-            out.extend_from_slice(Caps::name(place).ok_or("six names")?)?;
-        }
-    }
+    push_caps(out, claim.caps)
+}
+
+/// A claim, behind `done: `.
+fn claimed(alloc: Global, claim: &Claim) -> Result<Vec<u8>, Fail> {
+    let mut out = Vec::from_slice(alloc, b"done: ")?;
+    push_claim(&mut out, claim)?;
     Ok(out)
 }
 

@@ -1,7 +1,7 @@
-//! A writer that takes no byte, and a reader that gives one byte of a call.
+//! Writers that take no byte or can't be flushed, and a reader that gives one byte of a call.
 
 use crate::gates::Still;
-use crate::served::{is_cut, many_questions};
+use crate::served::{self, LOGIN, is_cut, many_questions, serves_over};
 use crate::stage::{BURST, JOINED, attach, stage_after};
 use hub_ends::Inlet;
 use hub_threads::{
@@ -9,6 +9,7 @@ use hub_threads::{
 };
 use irc_line::Splitter;
 use net_view::Item;
+use sessions::{LoginFault, Served, log_in};
 use std::alloc::Global;
 use std::io::{self, ErrorKind, Read, Write};
 use std::process::Abort;
@@ -52,6 +53,86 @@ fn no_byte_is_taken(rt: HostRuntime) -> Result<(), Fail> {
     let written = writer.join(&rt);
     assert!(&rt; written.outcome == Err(WriteFault));
     assert!(&rt; written.out.bytes.as_slice() == &BURST[..100]);
+    Ok(())
+}
+
+/// A writer that takes all bytes, and can be flushed so many times.
+#[derive(Drop)]
+struct Unflushed {
+    bytes: Vec<u8>,
+    good_flushes: usize,
+}
+
+impl Unflushed {
+    fn new(alloc: Global, good_flushes: usize) -> Unflushed {
+        Unflushed {
+            bytes: Vec::new(alloc),
+            good_flushes,
+        }
+    }
+}
+
+impl Write for Unflushed {
+    fn write(&mut self, buf: &[u8]) -> io::Result<usize> {
+        self.bytes.write(buf)
+    }
+
+    fn flush(&mut self) -> io::Result<()> {
+        if self.good_flushes == 0 {
+            return Err(io::Error::from(ErrorKind::BrokenPipe));
+        }
+        self.good_flushes -= 1;
+        Ok(())
+    }
+}
+
+/// A flush that fails counts as a write that failed, even if all bytes were taken.
+#[test]
+fn a_session_that_is_not_flushed(rt: HostRuntime) -> Result<(), Fail> {
+    let alloc = rt.alloc();
+    let stage = stage_after(&rt, alloc, 1, &JOINED)?;
+    let (_, end) = attach(&rt, alloc, &stage.network, b"", 8)?;
+    let writer = spawn_writer(rt, end, Unflushed::new(alloc, 0), FreeGate, u64::MAX)?;
+    let written = writer.join(&rt);
+    assert!(&rt; written.outcome == Err(WriteFault));
+    assert!(&rt; written.out.bytes.as_slice() == BURST);
+    Ok(())
+}
+
+/// A question, and a login behind it.
+const ASKS: &[u8] = b"CAP LIST\r\nPING x\r\nCAP END\r\nPASS ann@pc/net:bc\r\nNICK x\r\n\
+    USER x 0 * :A\r\n";
+
+/// A login ends at the answer that can't be flushed: what comes behind it is not answered.
+#[test]
+fn a_login_that_is_not_flushed(rt: HostRuntime) -> Result<(), Fail> {
+    let mut out = Unflushed::new(rt.alloc(), 0);
+    let mut said = ASKS;
+    match log_in(rt.alloc(), &mut said, &mut out) {
+        Err(fault) => assert!(&rt; fault == LoginFault::Write),
+        Ok(_) => return Err("it has logged in")?,
+    }
+    assert!(&rt; out.bytes.as_slice() == b":bnc CAP * LIST :\r\n".as_slice());
+    Ok(())
+}
+
+/// A client that can't be flushed to in its login gets no session. Later its session ends with the
+/// fault of its writer.
+#[test]
+fn a_client_that_is_not_flushed(rt: HostRuntime) -> Result<(), Fail> {
+    let alloc = rt.alloc();
+    let out = Unflushed::new(alloc, 0);
+    assert!(&rt; matches!(serves_over(rt, alloc, out, ASKS)?, Served::NoLogin));
+    let quits = format!(in alloc; "{LOGIN}QUIT\r\n")?;
+    // each line of the login is followed by a flush, but for its last one
+    let out = Unflushed::new(alloc, 2);
+    match serves_over(rt, alloc, out, quits.as_str().as_bytes())? {
+        Served::Ended(ended) => {
+            assert!(&rt; ended.written == Err(WriteFault));
+            assert!(&rt; ended.out.bytes.as_slice() == served::BURST.as_bytes());
+        }
+        _ => return Err("it has no session")?,
+    }
     Ok(())
 }
 

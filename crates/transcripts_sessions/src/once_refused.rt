@@ -4,7 +4,13 @@
 //! looked at and the call is made again; all then ends as if nothing had been. If it is one of the
 //! test's own, the test ends at once, and says no more than that memory was refused.
 
+mod attaching;
+mod clients;
 mod handshakes;
+mod hubs;
+mod items;
+mod runs;
+mod talking;
 
 use std::test::Fail;
 

@@ -1,6 +1,7 @@
 //! Items into hubs by the loop of a pump, and lines of clients.
 
 use crate::gates::{Stepping, Steps, Still};
+use crate::hub_rows::scripts::searching_view;
 use crate::refusing::Refusing;
 use crate::scenes::{Scene, play_on_a_stage};
 use crate::stage::{
@@ -18,6 +19,7 @@ use std::process::Abort;
 use std::sync::Wait;
 use std::test::Fail;
 use std::time::{Duration, Instant};
+use tape_view::TapeView;
 
 /// Pumps so often, with a clock that stands still and a gate that holds nobody.
 fn pump<V: NetworkView + Drop, R: Wait>(
@@ -207,8 +209,17 @@ fn time_is_given_again<V: NetworkView + Drop, R: AllocGlobal + Wait + Abort>(
     Ok(())
 }
 
-/// A network whose view is refused memory for so many topics.
-fn refusing(alloc: Global, times: u64) -> Result<Stage<Refusing<QuickView>>, Fail> {
+/// A network by the view that searches, which is refused memory for so many topics.
+fn refusing_tape(alloc: Global, times: u64) -> Result<Stage<Refusing<TapeView>>, Fail> {
+    let view = Refusing {
+        view: searching_view(alloc)?,
+        times,
+    };
+    empty_stage(alloc, view, 1, 64)
+}
+
+/// The same by the view of tables.
+fn refusing_tables(alloc: Global, times: u64) -> Result<Stage<Refusing<QuickView>>, Fail> {
     let view = Refusing {
         view: QuickView::new(alloc)?,
         times,
@@ -216,9 +227,11 @@ fn refusing(alloc: Global, times: u64) -> Result<Stage<Refusing<QuickView>>, Fai
     empty_stage(alloc, view, 1, 64)
 }
 
-/// A topic is refused so many times: some, or more than a pump goes on for.
+/// A topic is refused so many times, by both views: some, or more than a pump goes on for.
 fn play_refused<R: AllocGlobal + Wait + Abort>(rt: &R, times: u64) -> Result<(), Fail> {
-    let mut stage = refusing(rt.alloc(), times)?;
+    let mut stage = refusing_tape(rt.alloc(), times)?;
+    refused_so_often(rt, &mut stage, times)?;
+    let mut stage = refusing_tables(rt.alloc(), times)?;
     refused_so_often(rt, &mut stage, times)
 }
 
@@ -293,7 +306,7 @@ fn refused_on_and_on<V: NetworkView + Drop, R: AllocGlobal + Wait + Abort>(
 /// ends after 1,000.
 #[test]
 fn a_pump_rests_after_each_refusal(rt: HostRuntime) -> Result<(), Fail> {
-    let mut stage = refusing(rt.alloc(), u64::MAX)?;
+    let mut stage = refusing_tape(rt.alloc(), u64::MAX)?;
     put_and_pump(&rt, &mut stage, &JOINED, 4)?;
     put(rt.alloc(), &mut stage.end, &TOPIC)?;
     let began = Instant::now(&rt)?;

@@ -65,6 +65,18 @@ pub(crate) fn network_of<R: Wait>(
     Ok((network, upward))
 }
 
+/// The hub behind a lock as the network of ann's.
+pub(crate) fn of_ann(
+    alloc: Global,
+    network: Network<QuickView>,
+) -> Result<[(Place, Arc<Network<QuickView>>); 1], Fail> {
+    let place = Place {
+        user: 1,
+        network: 0,
+    };
+    Ok([(place, Arc::new(alloc, network)?)])
+}
+
 /// What came of a client, in words, and what it was sent in its session.
 fn told(alloc: Global, served: &Served<Vec<u8>>) -> Result<Vec<u8>, Fail> {
     let text = match served {
@@ -127,11 +139,7 @@ fn serves<R: Threads + Wait + Send + Copy + 'static>(
 ) -> Result<Vec<u8>, Fail> {
     let config = Config::read(alloc, SETTINGS.as_bytes())?;
     let (network, mut sent) = network_of(&rt, alloc, heard)?;
-    let place = Place {
-        user: 1,
-        network: 0,
-    };
-    let networks = [(place, Arc::new(alloc, network)?)];
+    let networks = of_ann(alloc, network)?;
     served_text(rt, alloc, &config, &networks, &mut sent, said)
 }
 
@@ -206,21 +214,15 @@ fn a_network_that_is_not_ready(rt: HostRuntime) -> Result<(), Fail> {
     )
 }
 
-/// Serves a client that says this, over this writer; whether its session was cut.
-pub(crate) fn is_cut<W: Write + Send + Drop + 'static, R: Threads + Wait + Send + Copy + 'static>(
-    rt: R,
-    alloc: Global,
-    out: W,
-    mut said: &[u8],
-) -> Result<bool, Fail> {
+/// Serves a client that says this, over this writer.
+pub(crate) fn serves_over<
+    W: Write + Send + Drop + 'static,
+    R: Threads + Wait + Send + Copy + 'static,
+>(rt: R, alloc: Global, out: W, mut said: &[u8]) -> Result<Served<W>, Fail> {
     let config = Config::read(alloc, SETTINGS.as_bytes())?;
     let (network, _sent) = network_of(&rt, alloc, &HEARD)?;
-    let place = Place {
-        user: 1,
-        network: 0,
-    };
-    let networks = [(place, Arc::new(alloc, network)?)];
-    let served = serve_session(
+    let networks = of_ann(alloc, network)?;
+    Ok(serve_session(
         rt,
         alloc,
         &mut said,
@@ -230,8 +232,17 @@ pub(crate) fn is_cut<W: Write + Send + Drop + 'static, R: Threads + Wait + Send 
         &FreeGate,
         &Still,
         &mut Unwatched,
-    )?;
-    match served {
+    )?)
+}
+
+/// Serves a client that says this, over this writer; whether its session was cut.
+pub(crate) fn is_cut<W: Write + Send + Drop + 'static, R: Threads + Wait + Send + Copy + 'static>(
+    rt: R,
+    alloc: Global,
+    out: W,
+    said: &[u8],
+) -> Result<bool, Fail> {
+    match serves_over(rt, alloc, out, said)? {
         Served::Cut => Ok(true),
         _ => Ok(false),
     }

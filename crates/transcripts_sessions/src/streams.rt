@@ -1,7 +1,8 @@
-//! Readers and writers that fail.
+//! Readers and writers that fail, and a writer whose bytes can be read when it is gone.
 
 use std::alloc::Global;
 use std::io::{self, ErrorKind, Read, Write};
+use std::sync::{Arc, Mutex, Wait};
 use std::test::Fail;
 
 /// A reader that gives pieces, each in as few reads as there is room for; then its input ends, or
@@ -89,6 +90,32 @@ impl Write for Sink {
             Ok(()) => Ok(count),
             Err(_) => Err(io::Error::from(ErrorKind::OutOfMemory)),
         }
+    }
+
+    fn flush(&mut self) -> io::Result<()> {
+        Ok(())
+    }
+}
+
+/// Bytes that were written, for a test to read.
+pub(crate) type Page = Arc<Mutex<Vec<u8>>, Global>;
+
+/// An empty page, with room for 2,000 bytes, so that no write asks for memory.
+pub(crate) fn page(alloc: Global) -> Result<Page, Fail> {
+    Ok(Arc::new(alloc, Mutex::new(Vec::with_capacity(alloc, 2_000)?))?)
+}
+
+/// A writer to a page.
+#[derive(Drop)]
+pub(crate) struct Scribe<R: Wait> {
+    pub(crate) rt: R,
+    pub(crate) page: Page,
+}
+
+impl<R: Wait> Write for Scribe<R> {
+    fn write(&mut self, buf: &[u8]) -> io::Result<usize> {
+        let mut page = self.page.lock(&self.rt);
+        page.write(buf)
     }
 
     fn flush(&mut self) -> io::Result<()> {

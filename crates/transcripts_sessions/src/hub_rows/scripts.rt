@@ -1,14 +1,14 @@
 //! Scripts of events, written as lines, and what comes of them.
 
-ghost use Rattle.std.specs.Prelude.{◌≡◌};
-ghost use Rattle.net_view.specs.View.{empty_view};
+ghost use Rattle.std.specs.Prelude.{◌≡◌, IfOk};
+ghost use Rattle.net_view.specs.View.{empty_view, view_back};
 
 use crate::hub_rows::events::{WELCOME, events_of};
 use crate::hub_rows::replies::{push_count, push_line, push_reply, stop_text};
 use hub_core::Setup;
 use hub_ends::MemoryOutlet;
 use hub_runs::{Run, run};
-use net_view::NetworkView;
+use net_view::{NetworkView, OutOfMemory};
 use quick_view::QuickView;
 use std::alloc::Global;
 use std::process::Abort;
@@ -31,7 +31,7 @@ pub(crate) struct Story {
 }
 
 /// The lines of an outlet's packets, from one on, each behind a mark.
-fn push_sent(
+pub(crate) fn push_sent(
     alloc: Global,
     text: &mut Vec<u8>,
     outlet: &MemoryOutlet,
@@ -56,12 +56,25 @@ fn outlet_of<V: NetworkView + Drop>(run: &Run<V>, story: Story) -> Option<&Memor
     run.world.hub.outlet(story.of)
 }
 
-/// What came of a run: the replies, why it stopped, what the session was sent, and the network.
-fn told<V: NetworkView + Drop>(alloc: Global, run: &Run<V>, story: Story) -> Result<Vec<u8>, Fail> {
-    let mut text = Vec::new(alloc);
+/// What was answered to the events of a run that are done.
+pub(crate) fn push_replies<V: NetworkView + Drop>(
+    text: &mut Vec<u8>,
+    run: &Run<V>,
+) -> Result<(), Fail> {
     for reply in &run.world.replies {
-        push_reply(&mut text, reply)?;
+        push_reply(text, reply)?;
     }
+    Ok(())
+}
+
+/// What came of a run: the replies, why it stopped, what the session was sent, and the network.
+pub(crate) fn told<V: NetworkView + Drop>(
+    alloc: Global,
+    run: &Run<V>,
+    story: Story,
+) -> Result<Vec<u8>, Fail> {
+    let mut text = Vec::new(alloc);
+    push_replies(&mut text, run)?;
     if let Some(stop) = run.stopped_by {
         push_line(&mut text, stop_text(stop))?;
     }
@@ -96,12 +109,20 @@ fn story_text<V: NetworkView + Drop>(
 }
 
 /// The lines, each with CR LF.
-fn joined(alloc: Global, lines: &[&[u8]]) -> Result<Vec<u8>, Fail> {
+pub(crate) fn joined(alloc: Global, lines: &[&[u8]]) -> Result<Vec<u8>, Fail> {
     let mut text = Vec::new(alloc);
     for line in lines {
         push_line(&mut text, line)?;
     }
     Ok(text)
+}
+
+/// The view that searches, to which nothing came.
+pub(crate) fn searching_view(alloc: Global) -> Result<TapeView, OutOfMemory>
+    ensures { IfOk result (λ v. view_back v ≡ empty_view) }
+{
+    let view = TapeView::new(alloc)?;
+    Ok(view)
 }
 
 /// What comes of a script over the view that searches.
@@ -111,7 +132,7 @@ fn by_tape(
     before: &[&[u8]],
     script: &[&[u8]],
 ) -> Result<Vec<u8>, Fail> {
-    let view = TapeView::new(alloc)?;
+    let view = searching_view(alloc)?;
     story_text(alloc, view, story, before, script)
 }
 
