@@ -17,7 +17,7 @@ use std::io::{ErrorKind, Read};
 use std::sync::Wait;
 
 /// How many bytes one read asks for.
-const PIECE: usize = 16_384;
+const PIECE: usize = 4_096;
 
 /// How many reads there are at most.
 const READ_LIMIT: u64 = 1_000_000_000;

@@ -26,7 +26,7 @@ pub returns-in-Ok-eq0 : goal.returns-in-Ok-eq0
 returns-in-Ok-eq0 g c =
     let gave = rw c.in-Ok-eq0.is at c.read.ensures.bytes in
     let left = g.I.Read.remaining in
-    let long : length c.read.new.buf ≡ 16384 = c.read.auto.buf
+    let long : length c.read.new.buf ≡ 4096 = c.read.auto.buf
     ∙ (c.deref_mut.ensures.len ∙ c.loop.invariant.room) in
     read_to c.args.splitter c.loop.splitter (put_of c.args.end) (put_of c.loop.end)
     (put_of c.lost-in-Ok-eq0.result.end) (left c.args.reader.now) (left c.loop.reader)
