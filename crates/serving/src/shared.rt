@@ -91,7 +91,8 @@ impl Shared {
         Arc::try_clone(&*roster)
     }
 
-    /// Puts another roster in the place of the one of now. So many more networks are dialled.
+    /// Puts another roster in the place of the one of now; `begun` networks of it are dialled from now
+    /// on.
     pub(crate) fn replace_roster<R: Wait>(&self, rt: &R, roster: Arc<Roster>, begun: usize) {
         self.dialled.fetch_add(begun as u64, Ordering::SeqCst);
         let number = roster.number();
@@ -144,8 +145,8 @@ impl Shared {
         &self.reserve
     }
 
-    /// A network, as a connection is served that is dialled by these settings, which had changed so
-    /// often for it; `None` where they have it no more.
+    /// A network, for a connection that is dialled by these settings; `changes` is how often they had
+    /// changed. `None` if they have the network no more.
     pub(crate) fn served<'a>(
         &'a self,
         roster: &'a Roster,

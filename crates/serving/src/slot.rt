@@ -159,8 +159,8 @@ impl<V: NetworkView + Drop> Slot<V> {
     }
 
     /// Notes the connection to the network, which has taken us in now, and is shut when the network
-    /// is begun anew; false where since the dial it was begun anew or left, or its settings changed
-    /// once more than so often.
+    /// is begun anew. False if the network was begun anew or left since it was dialled, or its
+    /// settings have changed; `changes` is how often they had when it was dialled.
     pub(crate) fn connect<R: Wait>(
         &self,
         rt: &R,

@@ -94,7 +94,8 @@ impl Station {
         self.slot.part_clients(rt, Farewell::Removed);
     }
 
-    /// Has the connection to a network that was left end behind a last word, and its threads after it.
+    /// Has the connection to a network that was left end behind a last word, and its threads after
+    /// it.
     pub(crate) fn end<R: Wait>(&self, rt: &R) {
         self.slot.part(rt, Farewell::Removed);
         self.bed.unpark();
