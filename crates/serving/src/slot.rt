@@ -199,11 +199,13 @@ impl<V: NetworkView + Drop> Slot<V> {
         }
     }
 
-    /// Has the connection to the network end behind a last word.
-    pub(crate) fn part<R: Wait>(&self, rt: &R, farewell: Farewell) {
-        if let Some((upstream, _)) = &self.standing.lock(rt).upstream {
+    /// Has the connection to the network end behind a last word; whether there is one.
+    pub(crate) fn part<R: Wait>(&self, rt: &R, farewell: Farewell) -> bool {
+        let standing = self.standing.lock(rt);
+        if let Some((upstream, _)) = &standing.upstream {
             upstream.part(farewell);
         }
+        standing.upstream.is_some()
     }
 
     /// Whether the settings have its network no more.

@@ -97,14 +97,16 @@ impl Station {
     /// Has the connection to a network that was left end behind a last word, and its threads after
     /// it.
     pub(crate) fn end<R: Wait>(&self, rt: &R) {
-        self.slot.part(rt, Farewell::Removed);
+        let _ = self.slot.part(rt, Farewell::Removed);
         self.bed.unpark();
     }
 
-    /// Has the network be dialled anew, by other settings.
+    /// Has the network be dialled anew, by other settings: as after a loss, or at once where there is
+    /// no connection to it.
     pub(crate) fn dial_anew<R: Wait>(&self, rt: &R) {
         self.slot.change(rt);
-        self.slot.part(rt, Farewell::Changed);
-        self.bed.unpark();
+        if !self.slot.part(rt, Farewell::Changed) {
+            self.bed.unpark();
+        }
     }
 }

@@ -23,7 +23,7 @@ pub fn stop<R: Wait + Clock>(rt: &R, shared: &Shared) {
     }
     Awaited::NoClients(networks).wait(rt, start, time / 2);
     for (_, station) in networks {
-        station.slot().part(rt, Farewell::Stops);
+        let _ = station.slot().part(rt, Farewell::Stops);
     }
     let most = time.saturating_sub(time / 4);
     Awaited::NoNetworks(networks).wait(rt, start, most);
