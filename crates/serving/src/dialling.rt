@@ -160,7 +160,7 @@ fn dial<
     link
 }
 
-/// Dials a network by the settings of now, where its hub has taken the loss of the last connection,
+/// Dials a network by the settings in force, if its hub has taken the loss of the last connection,
 /// and serves the connection to its end. Answers the link, and how long to rest.
 fn dial_now<
     R: Threads

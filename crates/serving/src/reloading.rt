@@ -29,8 +29,7 @@ pub trait Source {
     fn read(&self) -> Result<Config, Unread>;
 }
 
-/// Whether a network is to be dialled anew whose settings were these and are those: what a
-/// registration says changed, or where it is dialled.
+/// Whether a network's address or registration changed between these settings.
 fn is_dialled_otherwise(old: &NetworkConfig, new: &NetworkConfig) -> bool {
     old.address() != new.address()
         || old.nick() != new.nick()
@@ -87,8 +86,8 @@ fn start_all<
     }
 }
 
-/// Has the networks be dialled anew that both rosters have, and that are dialled otherwise. Answers
-/// how many.
+/// Dials those networks again that both rosters have and whose address or registration changed.
+/// Answers how many they are.
 fn dial_changed<R: Wait>(rt: &R, old: &Roster, new: &Roster) -> usize {
     let mut count = 0usize;
     for (_, station) in new.networks() {
@@ -100,8 +99,8 @@ fn dial_changed<R: Wait>(rt: &R, old: &Roster, new: &Roster) -> usize {
     count
 }
 
-/// Leaves networks: first their clients end, for which there is so much time, and then their
-/// connections, so no client sees itself leave its channels.
+/// Stops serving networks. Their clients are disconnected first, within this time, and then the
+/// networks, so no client sees itself leave its channels.
 fn leave_all<R: Wait + Clock>(rt: &R, networks: &[(Place, Arc<Station>)], time: Duration) {
     for (_, station) in networks {
         station.leave(rt);
@@ -125,11 +124,11 @@ fn tell_restarts<R: Wait + Clock>(rt: &R, shared: &Shared, old: &Config, new: &C
     }
 }
 
-/// Goes by other settings from now on. Users and networks are told apart by their names. New networks
-/// are served, and those that went are left: each client is told `ERROR :removed` and the network
-/// `QUIT :removed` behind what waits for it. A network whose address, nick, user, realname or password
-/// changed is dialled anew. All others go on as they are. `AllocError` where memory is refused; then
-/// nothing has changed.
+/// Puts other settings in force. Users and networks are known by their names. New networks are
+/// served. Of a network that was removed, each client is sent `ERROR :removed` and the network
+/// `QUIT :removed`, after what waits for it. A network whose address, nick, user, realname or password
+/// changed is dialled again. All others go on. `AllocError` if an allocation was refused; then nothing
+/// has changed.
 pub fn go_by<
     R: Threads
         + Wait

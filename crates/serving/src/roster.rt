@@ -8,8 +8,8 @@ use std::alloc::{AllocError, Global};
 use std::sync::Arc;
 use std::time::Duration;
 
-/// The settings of now, and the networks that they name. When the settings are read again, another
-/// roster takes the place of this one; who has a share of this one goes on with it.
+/// The settings in force, and the networks that they name. When the settings are read again, another
+/// roster replaces this one; a client that logged in by this one keeps it.
 #[derive(Drop)]
 pub struct Roster {
     config: Config,

@@ -87,22 +87,22 @@ impl Station {
         self.bed.park_timeout(rt, time);
     }
 
-    /// Has the network be served no more: it lets no client in, and the sessions of its clients end
-    /// behind a last word.
+    /// Stops serving the network: no client gets in any more, and each session ends after a last
+    /// line.
     pub(crate) fn leave<R: Wait>(&self, rt: &R) {
         self.slot.leave(rt);
         self.slot.part_clients(rt, Farewell::Removed);
     }
 
-    /// Has the connection to a network that was left end behind a last word, and its threads after
-    /// it.
+    /// Ends the connection to a network that is no longer served, after a last line. Its threads end
+    /// after it.
     pub(crate) fn end<R: Wait>(&self, rt: &R) {
         let _ = self.slot.part(rt, Farewell::Removed);
         self.bed.unpark();
     }
 
-    /// Has the network be dialled anew, by other settings: as after a loss, or at once where there is
-    /// no connection to it.
+    /// Dials the network again, by other settings: as after a loss, or at once if there is no
+    /// connection to it.
     pub(crate) fn dial_anew<R: Wait>(&self, rt: &R) {
         self.slot.change(rt);
         if !self.slot.part(rt, Farewell::Changed) {
