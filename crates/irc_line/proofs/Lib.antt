@@ -16,3 +16,4 @@ pub mod PiecesTaken
 pub mod Outcomes
 pub mod More
 pub mod Sent
+pub mod InputRead

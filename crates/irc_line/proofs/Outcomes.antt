@@ -1,24 +1,12 @@
 -- What is known of a result, from what is known of its value or its error.
-use Rattle.std.proofs.Common.{◌≡◌, Option, Some, None, Result, Ok, Err}
-use Rattle.std.specs.Prelude.{IfErr, IfNone, IfOk, IfSome, IsErr, IsErrAnd, OnErr, OnOk}
+use Rattle.std.proofs.Common.{◌≡◌, Result, Ok, Err}
+use Rattle.std.specs.Prelude.{IfErr, IfOk, IsErr, IsErrAnd, OnErr, OnOk}
 
 -- a result that is this fault
 pub refused_by : {T E : Type 0} (r : Result T E) (P : E → Type 0) (fault : E)
     → IsErrAnd r (λ f. f ≡ fault) → P fault → IfErr r P
 refused_by (Ok x) P fault same h = absurd same
 refused_by (Err f) P fault same h = rw same h
-
-pub ok_none : {T E A B : Type 0} (r : Result (Option T) E) → (A → B) → IfOk r (λ o. IfNone o A)
-    → IfOk r (λ o. IfNone o B)
-ok_none (Ok None) f h = f h
-ok_none (Ok (Some x)) f h = tt
-ok_none (Err e) f h = tt
-
-pub ok_some : {T E : Type 0} (A B : T → Type 0) (r : Result (Option T) E) → ((x : T) → A x → B x)
-    → IfOk r (λ o. IfSome o A) → IfOk r (λ o. IfSome o B)
-ok_some A B (Ok None) f h = tt
-ok_some A B (Ok (Some x)) f h = f x h
-ok_some A B (Err e) f h = tt
 
 pub ok_more : {T E : Type 0} (A B : T → Type 0) (r : Result T E) → ((x : T) → A x → B x)
     → IfOk r A → IfOk r B

@@ -4,3 +4,4 @@ pub mod Reading
 pub mod Writing
 pub mod Tags
 pub mod Lines
+pub mod Input

@@ -21,9 +21,10 @@ pub fn trim(text: &[u8]) -> &[u8]
     rest
 }
 
-/// Where this byte stands first.
-pub fn first(byte: u8, text: &[u8]) -> Option<usize>
-    ensures { result ≡ position (λ b. b == byte) text.now }
+/// Where the first such byte stands.
+pub fn place_of(byte: u8, text: &[u8]) -> Option<usize>
+    ensures place { result ≡ position (λ b. b == byte) text.now }
+    ensures within { IfSome result (λ place. place < length text.now) }
 {
     memchr(byte, text)
 }
@@ -36,7 +37,7 @@ pub fn split_byte(byte: u8, text: &[u8]) -> Option<(&[u8], &[u8])>
         ≡ x.0.now ∷ slice_split (λ b. b == byte) x.1.now) }
     ensures shorter { IfSome result (λ x. length x.0.now + 1 + length x.1.now ≡ length text.now) }
 {
-    let end = first(byte, text)?;
+    let end = place_of(byte, text)?;
     Some((&text[..end], &text[end + 1..]))
 }
 
@@ -45,7 +46,7 @@ pub fn split_token(text: &[u8]) -> (&[u8], &[u8])
     ensures before { result.0.now ≡ token text.now }
     ensures after { result.1.now ≡ after_token text.now }
 {
-    match first(b' ', text) {
+    match place_of(b' ', text) {
         Some(len) => text.split_at(len),
         None => (text, &[]),
     }
@@ -140,7 +141,7 @@ pub fn count_params(text: &[u8]) -> usize
 pub fn nick(source: &[u8]) -> &[u8]
     ensures { result.now ≡ nick_of source.now }
 {
-    match (first(b'!', source), first(b'@', source)) {
+    match (place_of(b'!', source), place_of(b'@', source)) {
         (Some(end), _) | (None, Some(end)) => &source[..end],
         (None, None) => source,
     }

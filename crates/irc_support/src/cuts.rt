@@ -1,15 +1,9 @@
 //! Bytes in texts.
 
-ghost use Rattle.std.specs.Prelude.{◌≡◌, ◌<◌, ◌==◌, IfSome, length, option_map, position};
+ghost use Rattle.std.specs.Prelude.{◌≡◌, option_map};
 ghost use Rattle.irc_support.specs.Text.{cut_at, has_byte};
 
-/// Where the first such byte stands.
-pub fn place_of(byte: u8, text: &[u8]) -> Option<usize>
-    ensures place { result ≡ position (λ c. c == byte) text.now }
-    ensures within { IfSome result (λ place. place < length text.now) }
-{
-    text.iter().position(|c| *c == byte)
-}
+use irc_line::place_of;
 
 /// What stands before the first such byte, else the whole text; and, where there is one, what
 /// stands behind it.

@@ -20,6 +20,7 @@ pub use kind::Kind;
 pub use mode_changes::{Change, ModeChanges, changes};
 pub use name_list::{NameWords, Names, next_word};
 pub use names_reply::{name_words, names};
+pub use prefix::RANK_COUNT;
 pub use ranks::{RankIter, Ranks};
 pub use std::alloc::AllocError as OutOfMemory;
 pub use support::Support;

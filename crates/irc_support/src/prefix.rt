@@ -7,11 +7,14 @@ ghost use Rattle.std.specs.Char.{is_ascii_alphabetic};
 ghost use Rattle.irc_support.specs.Text.{is_distinct};
 ghost use Rattle.irc_support.specs.Ranking.{is_ranking, is_symbol, spelled_by, ranking_in};
 
-use crate::cuts::{has, place_of};
+use crate::cuts::has;
+use irc_line::place_of;
 use std::marker::Model;
 
-/// As many ranks as `PREFIX` can name. The limit is our own.
-const RANKS: usize = 16;
+/// How many ranks `PREFIX` can name: a rank is less. The limit is our own.
+pub const RANK_COUNT: u8 = 16;
+
+const RANKS: usize = RANK_COUNT as usize;
 
 /// The letters and the symbols of the ranks, highest first.
 #[derive(Drop)]

@@ -1,0 +1,7 @@
+use Rattle.std.specs.Prelude.{◌==◌}
+use Rattle.irc_line.proofs.First.{first-position}
+use Rattle.irc_line.proofs.scan.place_of.Goals as goal
+
+pub returns-clause-place : goal.returns-clause-place
+returns-clause-place c =
+    first-position (λ b. b == c.args.byte) c.args.text.now c.memchr.result c.memchr.ensures
