@@ -1,4 +1,4 @@
-pub mod Middles
-pub mod Tiles
-pub mod Results
+pub mod Words
+pub mod Places
+pub mod Gaps
 pub mod Narrowing

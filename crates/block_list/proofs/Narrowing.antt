@@ -1,26 +1,23 @@
 -- What a binary search has found so far.
-use Rattle.std.specs.Prelude.{◌≡◌, ℕ, ◌+◌, ◌<◌, ◌≤◌, true, false, List, length}
+use Rattle.block_list.proofs.Words
+use Words.{◌≡◌, ◌⊎◌, ℕ, ◌+◌, ◌<◌, ◌≤◌, List, length, refl, sym, ap, subst, ◌∙◌, arith}
+use Words.{inl, inr, HoldsAt}
+use Rattle.std.specs.Prelude.{true, false}
 use Rattle.std.specs.declared.cmp.Ordering.{Ordering}
-use Rattle.std.specs.declared.cmp.Ordering.TheVariants.{Less, Equal, Greater}
+use Rattle.std.specs.declared.cmp.Ordering.TheVariants.{Less, Greater}
 use Rattle.std.specs.Ordering.{is_gt, ordering_index}
-use Rattle.std.specs.List.{AllWithin, HoldsAt}
-use Rattle.std.specs.List.Sorted.{IsNonDecreasingBy, IsPartitionPoint}
-use Rattle.std.proofs.Common.{refl, sym, ap, subst, ◌∙◌, arith, get_or, ◌⊎◌, inl, inr}
+use Rattle.std.specs.List.{AllWithin}
+use Rattle.std.specs.List.Sorted.{IsBinarySearchResult, IsNonDecreasingBy}
+use Rattle.std.proofs.Common.{Err}
 
 top : (o : Ordering) → 2 ≤ ordering_index o → o ≡ Greater
-top Less h = absurd (omega arith)
-top Equal h = absurd (omega arith)
-top Greater h = refl
+top o h = grind arith
 
 bottom : (o : Ordering) → ordering_index o ≤ 0 → o ≡ Less
-bottom Less h = refl
-bottom Equal h = absurd (omega arith)
-bottom Greater h = absurd (omega arith)
+bottom o h = grind arith
 
 is_Greater : (o : Ordering) → is_gt o ≡ true → o ≡ Greater
-is_Greater Less h = cc
-is_Greater Equal h = cc
-is_Greater Greater h = refl
+is_Greater o h = grind arith
 
 module _ {X : Type 0} (ord : X → Ordering) (xs : List X) where
   -- what is looked for is not before low, and before high
@@ -29,55 +26,77 @@ module _ {X : Type 0} (ord : X → Ordering) (xs : List X) where
     pub above : IsNonDecreasingBy (λ y. ordering_index (ord y)) xs
         → AllWithin (λ y. ord y ≡ Greater) xs high (length xs)
 
-  pub whole : (high : ℕ) → length xs ≤ high → Narrowed 0 high
-  whole high l = record { below = inl refl; above = λ up k d a b. absurd (omega arith) }
-
-  from_Greater : (m low : ℕ) → m ≤ low → HoldsAt (λ y. ord y ≡ Greater) xs m
+  from_Greater : (place : ℕ) → HoldsAt (λ y. ord y ≡ Greater) xs place
       → IsNonDecreasingBy (λ y. ordering_index (ord y)) xs
-      → AllWithin (λ y. ord y ≡ Greater) xs low (length xs)
-  from_Greater m low h p up k d a b =
-      top _ (subst (λ (o : Ordering). ordering_index o ≤ ordering_index (ord (get_or xs k d))) (p d)
-      (up m k d (omega arith) b))
+      → AllWithin (λ y. ord y ≡ Greater) xs place (length xs)
+  from_Greater place at up k d a b =
+      let rises = up place k d a b in
+      let here = ap ordering_index (at d) in
+      top _ (omega (arith, rises, here))
 
-  pub lower : (low high middle : ℕ) → Narrowed low high
-      → HoldsAt (λ y. is_gt (ord y) ≡ true) xs middle → Narrowed low middle
-  lower low high middle n p =
-      record {
-        below = n.below;
-        above = from_Greater middle middle (omega arith) (λ d. is_Greater _ (p d));
-      }
+-- what is known of each order that a closure follows, by its answers at items
+module _ {X : Type 0} (answers : X → Ordering → Type 0) (xs : List X) where
+  abbrev pub Follows : (X → Ordering) → Type 0
+  Follows ord = (item : X) (answer : Ordering) → answers item answer → answer ≡ ord item
 
-  pub upper : (low high middle new : ℕ) → ((k : ℕ) → new ≤ k → k < length xs → high ≤ k)
-      → Narrowed low high → HoldsAt (λ y. is_gt (ord y) ≡ false) xs middle → Narrowed middle new
-  upper low high middle new h n p =
-      record { below = inr p; above = λ up k d a b. n.above up k d (h k a b) b }
+  abbrev pub Found : ℕ → ℕ → Type 0
+  Found low high = (ord : X → Ordering) → Follows ord → Narrowed ord xs low high
 
-  pub moved : (low high start new : ℕ) → start ≡ low
-      → ((k : ℕ) → new ≤ k → k < length xs → high ≤ k) → Narrowed low high → Narrowed start new
-  moved low high start new e h n = record {
-    below = subst (λ k. (k ≡ 0) ⊎ HoldsAt (λ y. is_gt (ord y) ≡ false) xs k) (sym e) n.below;
-    above = λ up k d a b. n.above up k d (h k a b) b;
-  }
+  -- its answer at the item of a place
+  pub record Answered (place : ℕ) (o : Ordering) : Type 0 where
+    pub item : X
+    pub at : HoldsAt (λ y. y ≡ item) xs place
+    pub said : answers item o
 
-  pub after_Less : (low high : ℕ) → high ≤ low + 1 → low < length xs → Narrowed low high
-      → HoldsAt (λ y. ord y ≡ Less) xs low
-      → IsNonDecreasingBy (λ y. ordering_index (ord y)) xs
-      → IsPartitionPoint (λ y. ord y ≡ Less) (λ y. ord y ≡ Greater) xs (low + 1)
-  after_Less low high one in' n p up = (
-    λ k d a b. bottom _ (subst
-        (λ (o : Ordering). ordering_index (ord (get_or xs k d)) ≤ ordering_index o) (p d)
-        (up k low d (omega arith) in')),
-    λ k d a b. n.above up k d (omega arith) b,
-  )
+  pub all_ahead : (high : ℕ) → length xs ≤ high → Found 0 high
+  all_ahead high l ord f =
+      record { below = inl refl; above = λ up k d a b. absurd (omega arith) }
 
-  pub at_Greater : (low high : ℕ) → Narrowed low high → HoldsAt (λ y. ord y ≡ Greater) xs low
-      → IsNonDecreasingBy (λ y. ordering_index (ord y)) xs
-      → IsPartitionPoint (λ y. ord y ≡ Less) (λ y. ord y ≡ Greater) xs low
-  at_Greater low high n p up = (
-    λ k d a b. elim n.below [
-      | inl e ↦ absurd (omega arith)
-      | inr q ↦
-          (let t = sym (ap is_gt (p d)) ∙ q d in absurd cc)
-    ],
-    from_Greater low low (omega arith) p up,
-  )
+  pub answered : (place : ℕ) {o : Ordering} → Answered place o → (ord : X → Ordering)
+      → Follows ord → HoldsAt (λ y. ord y ≡ o) xs place
+  answered place a ord f d = ap ord (a.at d) ∙ sym (f _ _ a.said)
+
+module _ {X : Type 0} {answers : X → Ordering → Type 0} {xs : List X} where
+  module _ {low high : ℕ} (found : Found answers xs low high) where
+    pub moved : (start new : ℕ) → start ≡ low
+        → ((k : ℕ) → new ≤ k → k < length xs → high ≤ k) → Found answers xs start new
+    moved start new e h ord f =
+        let n = found ord f in
+        subst (λ k. Narrowed ord xs k new) (sym e)
+        (record { below = n.below; above = λ up k d a b. n.above up k d (h k a b) b })
+
+    pub lower : {place : ℕ} {o : Ordering} → Answered answers xs place o → true ≡ is_gt o
+        → Found answers xs low place
+    lower {place} {o} a e ord f = record {
+      below = (found ord f).below;
+      above =
+          from_Greater ord xs place (λ d. answered answers xs _ a ord f d ∙ is_Greater o (sym e));
+    }
+
+    pub upper : {place : ℕ} {o : Ordering} (new : ℕ) → Answered answers xs place o
+        → false ≡ is_gt o → high ≡ new → Found answers xs place new
+    upper new a e same ord f = record {
+      below = inr (λ d. ap is_gt (answered answers xs _ a ord f d) ∙ sym e);
+      above = λ up k d a b. (found ord f).above up k d (omega arith) b;
+    }
+
+    pub ended : Answered answers xs low Less → high ≤ low + 1 → low < length xs
+        → (ord : X → Ordering) → Follows answers xs ord
+        → IsBinarySearchResult ord xs (Err (low + 1))
+    ended a one in' ord f up = (
+      λ k d a0 b.
+          let rises = up k low d (omega arith) in' in
+          let here = ap ordering_index (answered answers xs _ a ord f d) in
+          bottom _ (omega (arith, rises, here)),
+      λ k d a b. (found ord f).above up k d (omega arith) b,
+    )
+
+    pub missed : Answered answers xs low Greater → (ord : X → Ordering) → Follows answers xs ord
+        → IsBinarySearchResult ord xs (Err low)
+    missed a ord f up = (
+      λ k d a0 b. elim (found ord f).below [
+        | inl z ↦ absurd (omega arith)
+        | inr q ↦ (let t = sym (ap is_gt (answered answers xs _ a ord f d)) ∙ q d in absurd cc)
+      ],
+      from_Greater ord xs low (answered answers xs _ a ord f) up,
+    )

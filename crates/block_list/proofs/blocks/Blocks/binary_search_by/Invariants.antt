@@ -1,17 +1,14 @@
-use Rattle.std.proofs.Common.{◌-◌, length, ◌+◌, ◌*◌, ◌/◌, ◌<◌, ◌≤◌, ◌≡◌, ◌^◌}
+use Rattle.std.proofs.Common.{◌-◌, length, ◌+◌, ◌*◌, ◌/◌, ◌<◌, ◌≤◌, ◌^◌}
 use Rattle.std.specs.Fn.{FnReturnsAt}
-use Rattle.std.specs.declared.cmp.Ordering.{Ordering}
-use Rattle.block_list.proofs.Narrowing.{Narrowed}
+use Rattle.block_list.proofs.Narrowing.{Found}
 use Rattle.block_list.proofs.blocks.Blocks.binary_search_by.Given as goal
 
 abbrev pub invariant-loop-count : goal.invariant-loop-count
 invariant-loop-count g l = record {
   some : 0 < l.count;
   within : l.first + l.count ≤ (l.self-inside.len - 1) / 128 + 1;
-  narrowed : (ord : g.row.T.Denot → Ordering) →
-      ((item : g.row.T.Denot) (answer : Ordering) → FnReturnsAt g.F.Fn l.order item answer →
-      answer ≡ ord item) →
-      Narrowed ord l.self.items (l.first * 128) ((l.first + l.count) * 128);
+  narrowed : Found (FnReturnsAt g.F.Fn l.order) l.self.items (l.first * 128)
+      ((l.first + l.count) * 128);
 }
 
 abbrev pub decreases-loop-count : goal.decreases-loop-count
@@ -24,10 +21,8 @@ invariant-loop-size g l = record {
   reached : l.first * 128 + l.base + l.size ≤ length l.self.items;
   block : l.base + l.size ≤ 128;
   small : length l.self.items ≤ 2 ^ 63;
-  narrowed : (ord : g.row.T.Denot → Ordering) →
-      ((item : g.row.T.Denot) (answer : Ordering) → FnReturnsAt g.F.Fn l.order item answer →
-      answer ≡ ord item) →
-      Narrowed ord l.self.items (l.first * 128 + l.base) (l.first * 128 + l.base + l.size);
+  narrowed : Found (FnReturnsAt g.F.Fn l.order) l.self.items (l.first * 128 + l.base)
+      (l.first * 128 + l.base + l.size);
 }
 
 abbrev pub decreases-loop-size : goal.decreases-loop-size
