@@ -1,23 +1,18 @@
 -- The view after an item, from maps that answer alike; and what the laws of the step ask of a view:
 -- views of transcripts have it.
-use Rattle.net_view.proofs.Words
-use Words.{◌≡◌, ◌||◌, arith, ℕ, Bool, false, cond, List, [], is_some, ForSome, nat_list_cmp_total}
-use Words.{Option, Some, None, refl, sym, ap, Text, rank_count, ranks_that, has_rank, same}
-use Words.{bytes_cmp, Told, name_before, says_on, says_topic, says_mode, says_member, says_rank}
-use Words.{Arrival, Channel, Person, View, view_of, channel_after, channels_after, people_after}
-use Words.{had_rank, is_seen, old_member, person_from, told_person, true, is_us, standing_of}
-use Words.{after_told, person_after}
 use Rattle.std.specs.FinMap as fin
-use Rattle.net_view.proofs.{FormSound.view_ranked, SoundStep.view_sound}
-use Rattle.net_view.proofs.Keys.{bytes_exact, same_by_keys}
 use Rattle.net_view.proofs.AfterMaps.{channels_are, people_are, seen_somewhere}
-pub use Rattle.net_view.proofs.AfterMaps.{channel_is, seen_in}
-pub use Rattle.net_view.proofs.Keys.{is_same, same_refl}
-
--- each member's ranks are a set
-abbrev pub AreSets : Channel → Type 0
-AreSets ch = (n : Text)
-    → ForSome (fin.get ch.members n) (λ ranks. ranks_that (has_rank ranks) ≡ ranks)
+use Rattle.net_view.proofs.{FormSound.view_ranked, Keys.{bytes_exact, same_by_keys}}
+use Rattle.net_view.proofs.{SoundStep.view_sound, Words.{◌||◌, ◌≡◌, Arrival, Bool, Channel}}
+use Rattle.net_view.proofs.Words.{ForSome, List, None, Option, Person, Some, Text, Told, View, []}
+use Rattle.net_view.proofs.Words.{after_told, ap, arith, bytes_cmp, channel_after, channels_after}
+use Rattle.net_view.proofs.Words.{cond, false, had_rank, has_rank, is_seen, is_some, is_us}
+use Rattle.net_view.proofs.Words.{name_before, nat_list_cmp_total, old_member, people_after}
+use Rattle.net_view.proofs.Words.{person_after, person_from, rank_count, ranks_that, refl, same}
+use Rattle.net_view.proofs.Words.{says_member, says_mode, says_on, says_rank, says_topic}
+use Rattle.net_view.proofs.Words.{standing_of, sym, told_person, true, view_of, ℕ}
+pub use Rattle.net_view.proofs.{AfterMaps.{channel_is, seen_in}, Keys.{is_same, same_refl}}
+pub use Rattle.net_view.specs.MemberSets.{AreSets, HasSets, IsKnowing}
 
 -- nobody holds no rank
 pub no_ranks : ranks_that (λ rank. false) ≡ []
@@ -39,16 +34,8 @@ member_stays ch sets n =
 abbrev pub us_of : View → Text → Bool
 us_of v = is_us (standing_of v)
 
--- the ranks of each member are a set
-abbrev pub HasSets : View → Type 0
-HasSets v = (c : Text) → ForSome (fin.get v.channels c) AreSets
-
 pub view_sets : (items : List Arrival) → HasSets (view_of items)
 view_sets items c ch at n ranks is = grind (arith, view_ranked)
-
--- who is known is a member of some channel
-abbrev pub IsKnowing : View → Type 0
-IsKnowing v = (n : Text) → fin.contains_key v.people n ≡ is_seen v.channels n
 
 pub view_knowing : (items : List Arrival) → IsKnowing (view_of items)
 view_knowing items = (view_sound items).known

@@ -1,12 +1,10 @@
 -- The view after what tells of a person alone: ACCOUNT and AWAY; and after what tells of the
 -- settings alone.
-use Rattle.net_view.proofs.Words.{◌≡◌, arith, List, Option, Text, Settles, Supports, HasAccount}
-use Rattle.net_view.proofs.Words.{IsAway, settings_after, Person, View, standing_of, after_told}
-use Rattle.net_view.proofs.Words.{readied}
-use Rattle.net_view.proofs.AfterAlike.{HasSets, IsKnowing, us_of, look_ups, get_put}
-use Rattle.net_view.proofs.AfterAlike.{all_channels_stay, all_persons_stay, quiet_channel}
-use Rattle.net_view.proofs.AfterAlike.{view_after}
-use Rattle.net_view.specs.Changes.{with_account, with_away, on_person}
+use Rattle.net_view.proofs.AfterAlike.{HasSets, IsKnowing, all_channels_stay, all_persons_stay}
+use Rattle.net_view.proofs.AfterAlike.{get_put, look_ups, quiet_channel, us_of, view_after}
+use Rattle.net_view.proofs.Words.{◌≡◌, HasAccount, IsAway, List, Option, Person, Settles, Supports}
+use Rattle.net_view.proofs.Words.{Text, View, after_told, arith, readied, settings_after}
+use Rattle.net_view.{proofs.Words.standing_of, specs.Changes.{on_person, with_account, with_away}}
 
 module _ (v : View) (sets : HasSets v) (known : IsKnowing v) where
   -- an ACCOUNT of who is known (IRCv3 account-notify)

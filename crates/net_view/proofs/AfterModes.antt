@@ -1,18 +1,12 @@
 -- The view after what tells of a channel alone: TOPIC, 332 and 331, MODE and 324. What a MODE and a
 -- 324 leave is said by look-ups: any maps that answer so are the channel's.
-use Rattle.net_view.proofs.Words.{◌≡◌, ℕ, List, option_map, unwrap_or, nat_cmp, Option}
-use Rattle.net_view.proofs.Words.{Some, None, false, refl, Text, ranks_that, has_rank, bytes_cmp}
-use Rattle.net_view.proofs.Words.{LetterChange, ModeChange, Titled, Changed, Listed, last_in}
-use Rattle.net_view.proofs.Words.{setting_of, rank_in_change, Channel, View, after_told}
 use Rattle.std.specs.FinMap as fin
-use Rattle.net_view.proofs.AfterAlike.{HasSets, IsKnowing, us_of, look_ups, member_stays}
-use Rattle.net_view.proofs.AfterAlike.{channel_is, seen_put, view_put, view_stays}
-use Rattle.net_view.specs.Changes.{with_topic, on_channel}
-
--- ranks after changes of letters
-abbrev pub ranks_changed : List LetterChange → Text → List ℕ → List ℕ
-ranks_changed letters n ranks =
-    ranks_that (λ rank. unwrap_or (last_in (rank_in_change n rank) letters) (has_rank ranks rank))
+use Rattle.net_view.proofs.AfterAlike.{HasSets, IsKnowing, channel_is, look_ups, member_stays}
+use Rattle.net_view.proofs.{AfterAlike.{seen_put, us_of, view_put, view_stays}, Words.◌≡◌}
+use Rattle.net_view.proofs.Words.{Changed, Channel, LetterChange, List, Listed, ModeChange, None}
+use Rattle.net_view.proofs.Words.{Option, Some, Text, Titled, View, after_told, bytes_cmp, false}
+use Rattle.net_view.proofs.Words.{last_in, nat_cmp, option_map, refl, setting_of, unwrap_or, ℕ}
+use Rattle.net_view.specs.{Changes.{on_channel, with_topic}, MemberSets.ranks_changed}
 
 module _ (v : View) (sets : HasSets v) (known : IsKnowing v) (c : Text) where
   -- ---- TOPIC, 332 and 331

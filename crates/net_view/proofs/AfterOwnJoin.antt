@@ -1,10 +1,9 @@
 -- The view after our own JOIN of a channel: it is as fresh, and who was seen there alone is gone.
-use Rattle.net_view.proofs.Words.{◌≡◌, true, is_some, Option, Some, None, Text, bytes_cmp, Name}
-use Rattle.net_view.proofs.Words.{Joined, is_us, begins, Channel, View, standing_of}
-use Rattle.net_view.proofs.Words.{after_told, is_seen, told_person}
 use Rattle.std.specs.FinMap as fin
-use Rattle.net_view.proofs.AfterAlike.{HasSets, IsKnowing, us_of, look_ups, no_ranks, channel_is}
-use Rattle.net_view.proofs.AfterAlike.{get_put, view_put}
+use Rattle.net_view.proofs.AfterAlike.{HasSets, IsKnowing, channel_is, get_put, look_ups, no_ranks}
+use Rattle.net_view.proofs.{AfterAlike.{us_of, view_put}, Words.{◌≡◌, Channel, Joined, Name, None}}
+use Rattle.net_view.proofs.Words.{Option, Some, Text, View, after_told, begins, bytes_cmp, is_seen}
+use Rattle.net_view.proofs.Words.{is_some, is_us, standing_of, told_person, true}
 use Rattle.net_view.specs.Changes.{fresh_channel}
 
 module _ (v : View) (sets : HasSets v) (known : IsKnowing v) (channel who : Name)

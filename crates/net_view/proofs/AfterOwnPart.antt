@@ -1,9 +1,8 @@
 -- The view after our own PART: the channel goes, and who was seen there alone.
-use Rattle.net_view.proofs.Words.{◌≡◌, true, Text, bytes_cmp, Parted, Channel, View, is_us}
-use Rattle.net_view.proofs.Words.{standing_of, after_told, is_seen}
 use Rattle.std.specs.FinMap as fin
-use Rattle.net_view.proofs.AfterAlike.{HasSets, IsKnowing, us_of, look_ups, quiet_channel}
-use Rattle.net_view.proofs.AfterAlike.{view_after}
+use Rattle.net_view.proofs.AfterAlike.{HasSets, IsKnowing, look_ups, quiet_channel, us_of}
+use Rattle.net_view.proofs.{AfterAlike.view_after, Words.{◌≡◌, Channel, Parted, Text, View}}
+use Rattle.net_view.proofs.Words.{after_told, bytes_cmp, is_seen, is_us, standing_of, true}
 
 module _ (v : View) (channel who : Text) (ours : is_us (standing_of v) who ≡ true)
     (sets : HasSets v) (known : IsKnowing v) where

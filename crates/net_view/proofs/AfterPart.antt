@@ -1,11 +1,10 @@
 -- The view after another's PART, by what it changes in the maps of the view before.
-use Rattle.net_view.proofs.Words.{◌≡◌, false, cond, Some, refl, Text, Told, Parted, Kicked, Channel}
-use Rattle.net_view.proofs.Words.{View, standing_of, after_told, channel_after, is_seen, is_us}
-use Rattle.net_view.proofs.Words.{without_member}
 use Rattle.std.specs.FinMap as fin
-use Rattle.net_view.specs.Changes.{parted_view, parted_from}
-use Rattle.net_view.proofs.AfterAlike.{HasSets, IsKnowing, us_of, look_ups, member_stays}
-use Rattle.net_view.proofs.AfterAlike.{channel_is, removed_none, seen_put, view_put, view_stays}
+use Rattle.net_view.proofs.AfterAlike.{HasSets, IsKnowing, channel_is, look_ups, member_stays}
+use Rattle.net_view.proofs.AfterAlike.{removed_none, seen_put, us_of, view_put, view_stays}
+use Rattle.net_view.proofs.Words.{◌≡◌, Channel, Kicked, Parted, Some, Text, Told, View, after_told}
+use Rattle.net_view.proofs.Words.{channel_after, cond, false, is_seen, is_us, refl, standing_of}
+use Rattle.net_view.{proofs.Words.without_member, specs.Changes.{parted_from, parted_view}}
 
 module _ (v : View) (channel who : Text) (other : is_us (standing_of v) who ≡ false)
     (sets : HasSets v) (known : IsKnowing v) where

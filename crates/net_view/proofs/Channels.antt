@@ -1,15 +1,14 @@
 -- What no item names has no answer; so the channels of a view are what is found of each by looking
 -- back.
 use Rattle.net_view.proofs.Words
-use Words.{◌≡◌, ◌∷◌, ◌⊎◌, arith, ℕ, Bool, false, List, [], map, list_any, unwrap_or, nat_cmp}
-use Words.{eq_by_cmp, Option, option_or, option_and_then, Some, None, refl, Text, same, Told}
-use Words.{ModeChange, Listing, Reading, ours, last_in}
-use Words.{last_of, name_before, name_on, setting_of, says_mode, mode_of, lists, says_member, named}
-use Words.{letters_in, people_in, channels_in, is_some, nat_cmp_total, nat_list_cmp_total}
-use Words.{table_gets, member_of, channel_of, channels_of}
+use Words.{◌∷◌, ◌≡◌, ◌⊎◌, Bool, List, Listing, ModeChange, None, Option, Reading, Some, Text, Told}
+use Words.{[], arith, channel_of, channels_in, channels_of, eq_by_cmp, false, is_some, last_in}
+use Words.{last_of, letters_in, list_any, lists, map, member_of, mode_of, name_before, name_on}
+use Words.{named, nat_cmp, nat_cmp_total, nat_list_cmp_total, option_and_then, option_or, ours}
+use Words.{people_in, refl, same, says_member, says_mode, setting_of, table_gets, unwrap_or, ℕ}
 use Rattle.std.specs.FinMap as fin
-use Rattle.net_view.specs.View.{modes_of, members_of}
-use Rattle.net_view.proofs.{Tests.any_append, Tests.absent, Tests.cond_and_false, Keys.bytes_exact}
+use Rattle.net_view.proofs.{Keys.bytes_exact, Tests.{absent, any_append, cond_and_false}}
+use Rattle.net_view.specs.View.{members_of, modes_of}
 
 pub covers_on : (items : List Reading) (c : Text)
     → list_any (same c) (named channels_in items) ≡ false → name_on items c ≡ None

@@ -1,12 +1,11 @@
 -- What takes us off every channel leaves nobody known.
-use Rattle.net_view.proofs.Words.{◌≡◌, ◌∷◌, ◌++◌, Bool, true, List, [], Text, bytes_cmp, Told}
-use Rattle.net_view.proofs.Words.{Arrival, Lost, told, Standing, standing_after, is_us, ends, table}
-use Rattle.net_view.proofs.Words.{Channel, Person, View, view_of, standing_of, after_told}
-use Rattle.net_view.proofs.Words.{people_after, after, arith, empty_view}
 use Rattle.std.specs.FinMap as fin
-use Rattle.net_view.specs.View.{lost_view}
+use Rattle.net_view.proofs.{AfterMaps.channels_are, StepLaw.view_step, Words.{◌++◌, ◌∷◌, ◌≡◌}}
+use Rattle.net_view.proofs.Words.{Arrival, Bool, Channel, List, Lost, Person, Standing, Text, Told}
+use Rattle.net_view.proofs.Words.{View, [], after, after_told, arith, bytes_cmp, empty_view, ends}
+use Rattle.net_view.proofs.Words.{is_us, people_after, standing_after, standing_of, table, told}
+use Rattle.net_view.{proofs.Words.{true, view_of}, specs.View.lost_view}
 use Rattle.std.proofs.lemmas.List.{nil_from_length}
-use Rattle.net_view.proofs.{StepLaw.view_step, AfterMaps.channels_are}
 
 pub no_keys : fin.keys (fin.empty {X = Channel} {R = bytes_cmp}) ≡ []
 no_keys = grind (arith, fin.len-empty bytes_cmp Channel, fin.len-entries, nil_from_length)

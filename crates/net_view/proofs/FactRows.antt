@@ -1,9 +1,8 @@
 -- Modes, topics and what is known of persons: looked back through by computation.
-use Rattle.net_view.proofs.Words.{◌≡◌, ◌∷◌, ◌++◌, List, [], map, Option, Some, None, refl, codes}
-use Rattle.net_view.proofs.Words.{Text, mode_of}
 use Prim.Native.String.{String}
-use Rattle.net_view.specs.Topic.{topic_of}
-use Rattle.net_view.proofs.Transcripts.{reading, read, member, members, joined, with_bob}
+use Rattle.net_view.proofs.Transcripts.{joined, member, members, read, reading, with_bob}
+use Rattle.net_view.proofs.Words.{◌++◌, ◌∷◌, ◌≡◌, List, None, Option, Some, Text, [], codes, map}
+use Rattle.net_view.{proofs.Words.{mode_of, refl}, specs.Topic.topic_of}
 
 -- the settings of these letters
 abbrev modes : String → List String → List (Option (Option Text))

@@ -1,16 +1,15 @@
 -- What every view is like, so that what is written of it is read back: tokens, letters of modes,
 -- ranks.
-use Rattle.net_view.proofs.Words.{◌≡◌, ◌∷◌, arith, ℕ, true, false, List, [], map, reverse, list_any}
-use Rattle.net_view.proofs.Words.{filter_map, nat_cmp, eq_by_cmp, Option, Some, refl, Text, Token}
-use Rattle.net_view.proofs.Words.{ChangeParts, ranks_that, has_rank, Arrival, ModeChange}
-use Rattle.net_view.proofs.Words.{state_lines, told, mode_change, readings_of, settings_of}
-use Rattle.net_view.proofs.Words.{rank_decided, named, letters_in, Channel, view_of, Received, Lost}
 use Rattle.std.specs.FinMap as fin
-use Rattle.irc_support.specs.Written.{AreTokens, is_sign}
-use Rattle.irc_support.proofs.{ModesRead.changes_unsigned, TokensRead.tokens_set}
-use Rattle.irc_support.proofs.{RankSets.ranks_that-has_rank}
-use Rattle.net_view.proofs.{Tests.any_append, PartsSound.Each, Holds.of_told, Channels.covers_mode}
-use Rattle.net_view.proofs.{Channels.modes_get, Channels.members_get, Channels.channels_get}
+use Rattle.irc_support.proofs.{ModesRead.changes_unsigned, RankSets.ranks_that-has_rank}
+use Rattle.irc_support.{proofs.TokensRead.tokens_set, specs.Written.{AreTokens, is_sign}}
+use Rattle.net_view.proofs.Channels.{channels_get, covers_mode, members_get, modes_get}
+use Rattle.net_view.proofs.{Holds.of_told, PartsSound.Each, Tests.any_append, Words.{◌∷◌, ◌≡◌}}
+use Rattle.net_view.proofs.Words.{Arrival, ChangeParts, Channel, List, Lost, ModeChange, Option}
+use Rattle.net_view.proofs.Words.{Received, Some, Text, Token, [], arith, eq_by_cmp, false}
+use Rattle.net_view.proofs.Words.{filter_map, has_rank, letters_in, list_any, map, mode_change}
+use Rattle.net_view.proofs.Words.{named, nat_cmp, rank_decided, ranks_that, readings_of, refl}
+use Rattle.net_view.proofs.Words.{reverse, settings_of, state_lines, told, true, view_of, ℕ}
 
 -- ---- letters of modes are no signs
 

@@ -1,9 +1,8 @@
 -- Facts of what an option or a list has.
-use Rattle.net_view.proofs.Words.{◌≡◌, ◌∷◌, arith, Bool, true, cond, IfSome, List, [], ForSome}
-use Rattle.net_view.proofs.Words.{Option, Some, None, option_map, Parts, has_command, Token, Told}
-use Rattle.net_view.proofs.Words.{Silent, StateLine, state_lines, told, Received, last_in}
-use Rattle.net_view.specs.StateLines.{told_by}
-use Rattle.net_view.proofs.PartsSound.{Each}
+use Rattle.net_view.proofs.{PartsSound.Each, Words.{◌∷◌, ◌≡◌, Bool, ForSome, IfSome, List, None}}
+use Rattle.net_view.proofs.Words.{Option, Parts, Received, Silent, Some, StateLine, Token, Told, []}
+use Rattle.net_view.proofs.Words.{arith, cond, has_command, last_in, option_map, state_lines, told}
+use Rattle.net_view.{proofs.Words.true, specs.StateLines.told_by}
 
 pub for_some : {X : Type 0} (P : X → Type 0) (o : Option X) → IfSome o P → ForSome o P
 for_some P o h x e = grind arith

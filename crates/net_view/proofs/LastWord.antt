@@ -1,10 +1,9 @@
 -- What is found by looking back is what the last item that speaks says.
-use Rattle.net_view.proofs.Words.{◌≡◌, ◌⊎◌, ◌∷◌, ◌++◌, ◌∙◌, arith, Bool, true, List, [], Option}
-use Rattle.net_view.proofs.Words.{Some, None, refl, sym, cond, append_assoc, same_Some, unwrap_or}
-use Rattle.net_view.proofs.Words.{option_or, option_and_then, Text, Told, Reading, ours}
-use Rattle.net_view.proofs.Words.{last, last_of, name_before, name_traced, is_on, Says, in_sight}
-use Rattle.net_view.proofs.Words.{known, IsSaidLast}
-use Rattle.net_view.specs.Found.{IsSaidLastOf, IsKnown}
+use Rattle.net_view.proofs.Words.{◌++◌, ◌∙◌, ◌∷◌, ◌≡◌, ◌⊎◌, Bool, IsSaidLast, List, None, Option}
+use Rattle.net_view.proofs.Words.{Reading, Says, Some, Text, Told, [], append_assoc, arith, cond}
+use Rattle.net_view.proofs.Words.{in_sight, is_on, known, last, last_of, name_before, name_traced}
+use Rattle.net_view.proofs.Words.{option_and_then, option_or, ours, refl, same_Some, sym, true}
+use Rattle.net_view.{proofs.Words.unwrap_or, specs.Found.{IsKnown, IsSaidLastOf}}
 
 cases : {X : Type 0} (xs : List X) → (xs ≡ []) ⊎ ((x : X) × (rest : List X) × (xs ≡ x ∷ rest))
 cases [] = grind arith

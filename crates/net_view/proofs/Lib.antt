@@ -11,8 +11,6 @@ pub mod PartsSound
 pub mod ToldSound
 pub mod Holds
 pub mod PeopleSound
-pub mod MembersSpelled
-pub mod ChannelSound
 pub mod SoundStep
 pub mod Accounts
 pub mod AfterAlike
@@ -39,3 +37,4 @@ mod FactRows
 mod LineRows
 mod SeenRows
 pub mod KeyPlaces
+pub mod Walks

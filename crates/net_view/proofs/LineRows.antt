@@ -1,10 +1,9 @@
 -- What each of the seventeen state lines tells, under the default settings.
-use Rattle.net_view.proofs.Words.{◌≡◌, ◌∷◌, true, false, [], Some, None, refl, codes, parts_of}
-use Rattle.net_view.proofs.Words.{Name, Told, Silent, Welcomed, Supports, Settles, Renamed, Parted}
-use Rattle.net_view.proofs.Words.{Kicked, Quits, Joined, Changed, Listed, Titled, Present}
-use Rattle.net_view.proofs.Words.{HasAccount, IsAway, Received, told}
 use Prim.Native.String.{String}
-use Rattle.net_view.proofs.Transcripts.{reading}
+use Rattle.net_view.proofs.{Transcripts.reading, Words.{◌∷◌, ◌≡◌, Changed, HasAccount, IsAway}}
+use Rattle.net_view.proofs.Words.{Joined, Kicked, Listed, Name, None, Parted, Present, Quits}
+use Rattle.net_view.proofs.Words.{Received, Renamed, Settles, Silent, Some, Supports, Titled, Told}
+use Rattle.net_view.proofs.Words.{Welcomed, [], codes, false, parts_of, refl, told, true}
 
 abbrev tells : String → Told
 tells line = told [] (Received (parts_of (codes line)))

@@ -1,11 +1,10 @@
 -- Who is a member and which ranks are held, which channels we are on, our own nick and the
 -- settings: looked back through by computation.
-use Rattle.net_view.proofs.Words.{◌≡◌, ◌∷◌, ◌++◌, true, false, List, [], take, Option, Some, None}
-use Rattle.net_view.proofs.Words.{refl, codes, Text, Lost, readings_of, name_traced, name_on}
 use Prim.Native.String.{String}
-use Rattle.net_view.specs.Transcript.{standing}
-use Rattle.net_view.proofs.Transcripts.{reading, heard, read, member, members, welcome, joined}
-use Rattle.net_view.proofs.Transcripts.{with_bob}
+use Rattle.net_view.proofs.Transcripts.{heard, joined, member, members, read, reading, welcome}
+use Rattle.net_view.proofs.{Transcripts.with_bob, Words.{◌++◌, ◌∷◌, ◌≡◌, List, Lost, None, Option}}
+use Rattle.net_view.proofs.Words.{Some, Text, [], codes, false, name_on, name_traced, readings_of}
+use Rattle.net_view.{proofs.Words.{refl, take, true}, specs.Transcript.standing}
 
 -- ranks go along with a NICK, and a MODE finds them under the new one
 abbrev renamed : List String

@@ -1,16 +1,14 @@
 -- What the parts of a line give is well formed.
 use Rattle.net_view.proofs.Words
-use Words.{◌≡◌, ◌<◌, ◌∷◌, arith, ℕ, Bool, true, cond, IfSome, ForSome, unwrap_or, List, [], ⊤}
-use Words.{filter_map, option_and_then, Option, Some, None, position-Some, Parts, is_nameable, Text}
-use Words.{Token, ranking_of, has_rank, kind_of, key_by, is_channel, word_of, Name, Told}
-use Words.{LetterChange, ModeChange, Listing, Welcomed, Joined, Renamed, Changed, Listed, Titled}
-use Words.{Present, HasAccount, IsAway, listing, rank_limit, IsFilled, IsAccount, IsKept}
-use Rattle.std.specs.{List.AllByRecursion}
-use Rattle.std.proofs.lemmas.{Bool.eqb-true}
-use Rattle.irc_support.specs.{NamesReply.shows_rank}
+use Words.{◌<◌, ◌∷◌, ◌≡◌, Bool, Changed, ForSome, HasAccount, IfSome, IsAccount, IsAway, IsFilled}
+use Words.{IsKept, Joined, LetterChange, List, Listed, Listing, ModeChange, Name, None, Option}
+use Words.{Parts, Present, Renamed, Some, Text, Titled, Token, Told, Welcomed, [], arith, cond}
+use Words.{filter_map, has_rank, is_channel, is_nameable, key_by, kind_of, listing, option_and_then}
+use Words.{position-Some, rank_limit, ranking_of, true, unwrap_or, word_of, ℕ, ⊤}
 use Rattle.irc_support.proofs.{RankPlaces.ranking_of-is, Spelling.paired}
-use Rattle.net_view.specs.{StateLines.actor_nick}
-use Rattle.net_view.proofs.{RankSets.has_of_set}
+use Rattle.{irc_support.specs.NamesReply.shows_rank, net_view.proofs.RankSets.has_of_set}
+use Rattle.{net_view.specs.StateLines.actor_nick, std.proofs.lemmas.Bool.eqb-true}
+use Rattle.std.specs.List.{AllByRecursion}
 
 pub record IsSoundName (settings : List Token) (x : Name) : Type 0 where
   pub nameable : is_nameable x.spelled ≡ true

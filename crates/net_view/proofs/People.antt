@@ -1,15 +1,14 @@
 -- The persons of a view are those in sight, and what is known of each.
-use Rattle.net_view.proofs.Words
-use Words.{◌≡◌, ◌∷◌, arith, true, false, List, [], is_some, list_any, option_and_then}
-use Words.{nat_list_cmp_total, None, refl, Text, same, bytes_cmp, Reading, is_on, is_member, named}
-use Words.{channels_in, Says, in_sight, known, says_spelling, says_account, says_away}
-use Words.{table_gets, Channel, Person, channels_of, people_of, old_member, is_seen}
 use Rattle.std.specs.FinMap as fin
-use Rattle.std.proofs.Math.Path.{fun_ext}
-use Rattle.net_view.specs.{View.person_of, Step.members_at}
-use Rattle.net_view.proofs.{Tests.any_append, Tests.any_false, Tests.is_some_map, Keys.bytes_exact}
-use Rattle.net_view.proofs.{Keys.met_at, Keys.some_key, Channels.covers_on, Channels.covers_member}
-use Rattle.net_view.proofs.{Channels.members_get, Channels.channels_get}
+use Rattle.net_view.proofs.Channels.{channels_get, covers_member, covers_on, members_get}
+use Rattle.net_view.proofs.{Keys.{bytes_exact, met_at, some_key}, Tests.{any_append, any_false}}
+use Rattle.net_view.proofs.{Tests.is_some_map, Words.{◌∷◌, ◌≡◌, Channel, List, None, Person}}
+use Rattle.net_view.proofs.Words.{Reading, Says, Text, [], arith, bytes_cmp, channels_in}
+use Rattle.net_view.proofs.Words.{channels_of, false, in_sight, is_member, is_on, is_seen, is_some}
+use Rattle.net_view.proofs.Words.{known, list_any, named, nat_list_cmp_total, old_member}
+use Rattle.net_view.proofs.Words.{option_and_then, people_of, refl, same, says_account, says_away}
+use Rattle.net_view.{proofs.Words.{says_spelling, table_gets, true}, specs.Step.members_at}
+use Rattle.{net_view.specs.View.person_of, std.proofs.Math.Path.fun_ext}
 
 pub unseen_none : (says : Says) (items : List Reading) (n : Text) → in_sight items n ≡ false
     → known says items n ≡ None

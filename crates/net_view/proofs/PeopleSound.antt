@@ -1,10 +1,9 @@
 -- How an item spells persons.
-use Rattle.net_view.proofs.Words
-use Words.{◌≡◌, ◌∷◌, arith, Bool, true, false, IfSome, IsSomeAnd, is_some, List, [], unwrap_or}
-use Words.{Some, None, Text, Token, Told, Listing, last_in, name_before, lists, says_member}
-use Words.{spelled_in, says_spelling, IsSpelling}
-use Rattle.net_view.proofs.{Keys.is_same, PartsSound.IsSoundTold, PartsSound.IsSoundListing}
-use Rattle.net_view.proofs.{Holds.of_last}
+use Rattle.net_view.proofs.{Holds.of_last, Keys.is_same, PartsSound.{IsSoundListing, IsSoundTold}}
+use Rattle.net_view.proofs.Words.{◌∷◌, ◌≡◌, Bool, IfSome, IsSomeAnd, IsSpelling, List, Listing}
+use Rattle.net_view.proofs.Words.{None, Some, Text, Token, Told, [], arith, false, is_some, last_in}
+use Rattle.net_view.proofs.Words.{lists, name_before, says_member, says_spelling, spelled_in, true}
+use Rattle.net_view.proofs.Words.{unwrap_or}
 
 -- what is said is sound
 pub said_spelling : (settings : List Token) (us on : Text → Bool) (t : Told) (n : Text)

@@ -1,17 +1,15 @@
 -- The view of a transcript with one more item is the step of its view.
 use Rattle.net_view.proofs.Words
-use Words.{◌≡◌, ◌∷◌, arith, ℕ, Bool, true, false, cond, List, [], is_some, unwrap_or, Some, None}
-use Words.{Text, ranks_that, Told, Listing, Reading, ours, last_in, begins, name_on, lists}
-use Words.{says_member, says_rank, member_of, channel_named, channel_of, channels_of, old_member}
-use Words.{channel_from, channels_after, sym, refl, people_of, people_after, ◌++◌, reverse-append}
-use Words.{Silent, Arrival, Standing, table, view_back, view_of, empty_view, after}
-use Rattle.net_view.specs.{Members.rank_in_listing, StateLines.is_state_item}
-use Rattle.net_view.proofs.AfterMaps.{people_are, channels_are, channel_is}
-use Rattle.net_view.proofs.Channels.{members_get, modes_get, channels_get}
-use Rattle.net_view.proofs.People.{on_channels, sight_seen, people_get, spelling_field}
-use Rattle.net_view.proofs.People.{account_field, away_field}
-use Rattle.net_view.proofs.RankSets.{ranks_alike, has-ranks, is_rank}
-use Rattle.net_view.proofs.{Tests.when, Commands.told-unread}
+use Words.{◌++◌, ◌∷◌, ◌≡◌, Arrival, Bool, List, Listing, None, Reading, Silent, Some, Standing}
+use Words.{Text, Told, [], after, arith, begins, channel_from, channel_named, channel_of}
+use Words.{channels_after, channels_of, cond, empty_view, false, is_some, last_in, lists, member_of}
+use Words.{name_on, old_member, ours, people_after, people_of, ranks_that, refl, reverse-append}
+use Words.{says_member, says_rank, sym, table, true, unwrap_or, view_back, view_of, ℕ}
+use Rattle.net_view.proofs.{AfterMaps.{channel_is, channels_are, people_are}, Channels.channels_get}
+use Rattle.net_view.proofs.{Channels.{members_get, modes_get}, Commands.told-unread}
+use Rattle.net_view.proofs.People.{account_field, away_field, on_channels, people_get, sight_seen}
+use Rattle.net_view.proofs.{People.spelling_field, RankSets.{has-ranks, is_rank, ranks_alike}}
+use Rattle.net_view.{proofs.Tests.when, specs.{Members.rank_in_listing, StateLines.is_state_item}}
 
 -- who becomes a member by an item other than our own JOIN has each rank decided by it
 pub last_listed : (n : Text) (rank : ℕ) (ls : List Listing)

@@ -1,14 +1,12 @@
 -- What each line tells is well formed, whichever lines the views read, and only 005 tells more
 -- settings.
-use Rattle.net_view.proofs.Words
-use Words.{◌≡◌, ◌∷◌, ◌<◌, arith, true, List, [], map, filter_map, codes, Parts, has_command}
-use Words.{Text, Token, words, word_of, Supports, LetterChange, Arrival, Received}
-use Words.{Lost, mode_change, listing, state_lines, told, position-Some, ℕ, IfSome, rank_limit}
-use Rattle.net_view.specs.StateLines.{letter_change}
-use Rattle.net_view.proofs.PartsSound.{IsSoundListing, Each, IsSoundMode, IsSoundTold}
-use Rattle.net_view.proofs.PartsSound.{each_found, listing_sound}
-use Rattle.net_view.proofs.Holds.{of_told}
-use Rattle.irc_support.specs.Ranking.{rank_of_letter}
+use Rattle.{irc_support.specs.Ranking.rank_of_letter, net_view.proofs.Holds.of_told}
+use Rattle.net_view.proofs.PartsSound.{Each, IsSoundListing, IsSoundMode, IsSoundTold, each_found}
+use Rattle.net_view.proofs.{PartsSound.listing_sound, Words.{◌<◌, ◌∷◌, ◌≡◌, Arrival, IfSome}}
+use Rattle.net_view.proofs.Words.{LetterChange, List, Lost, Parts, Received, Supports, Text, Token}
+use Rattle.net_view.proofs.Words.{[], arith, codes, filter_map, has_command, listing, map}
+use Rattle.net_view.proofs.Words.{mode_change, position-Some, rank_limit, state_lines, told, true}
+use Rattle.net_view.{proofs.Words.{word_of, words, ℕ}, specs.StateLines.letter_change}
 
 module _ (settings : List Token) where
   listings_sound : (texts : List Text)

@@ -1,13 +1,12 @@
 -- Worked transcripts as text.
-use Rattle.net_view.proofs.Words.{◌∷◌, ◌++◌, ℕ, List, [], map, reverse, Option, Some, None, codes}
-use Rattle.net_view.proofs.Words.{filter, parts_of, Text, is_word, set_tokens, ranking_of}
-use Rattle.net_view.proofs.Words.{rank_count, ranks_that, kind_of, is_channel, changes, words}
-use Rattle.net_view.proofs.Words.{Arrival, Received, state_lines, told, Reading, readings_of}
-use Rattle.net_view.proofs.Words.{is_member, rank_decided}
 use Prim.Native.String.{String}
+use Rattle.{irc_support.specs.{Ranking.spelled_by, Settings.mapping_of}, net_view.proofs.Words.◌++◌}
+use Rattle.net_view.proofs.Words.{◌∷◌, Arrival, List, None, Option, Reading, Received, Some, Text}
+use Rattle.net_view.proofs.Words.{[], changes, codes, filter, is_channel, is_member, is_word}
+use Rattle.net_view.proofs.Words.{kind_of, map, parts_of, rank_count, rank_decided, ranking_of}
+use Rattle.net_view.proofs.Words.{ranks_that, readings_of, reverse, set_tokens, state_lines, told}
+use Rattle.net_view.{proofs.Words.{words, ℕ}, specs.Facts.{account_of, away_of, spelling_of}}
 use Rattle.std.proofs.Common.{if◌then◌else◌}
-use Rattle.irc_support.specs.{Ranking.spelled_by, Settings.mapping_of}
-use Rattle.net_view.specs.Facts.{spelling_of, account_of, away_of}
 
 -- what it takes to compute what transcripts mean
 unfoldable pub reading : Unit {0}

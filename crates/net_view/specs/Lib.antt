@@ -25,6 +25,7 @@ pub mod View
 pub mod Step
 pub mod Changes
 pub mod Readers
+pub mod Walks
 pub mod Seen
 pub mod Agrees
 pub mod Sound
@@ -33,3 +34,4 @@ pub mod Found
 pub mod StateCommands
 pub mod Tells
 pub mod Least
+pub mod MemberSets

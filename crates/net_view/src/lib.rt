@@ -8,6 +8,7 @@ pub mod laws;
 mod network_view;
 mod state_command;
 mod state_line;
+mod walk;
 
 pub use channel::{Channel, Member};
 pub use item::Item;
@@ -15,3 +16,4 @@ pub use network_view::NetworkView;
 pub use state_command::StateCommand;
 pub use state_line::{Telling, is_state_line, is_word, told, told_as};
 pub use std::alloc::AllocError as OutOfMemory;
+pub use walk::{Members, Modes};

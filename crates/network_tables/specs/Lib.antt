@@ -2,6 +2,7 @@ pub mod Head
 pub mod Sought
 pub mod Table
 pub mod Numbered
+pub mod Marks
 pub mod Modes
 pub mod Shown
 pub mod People

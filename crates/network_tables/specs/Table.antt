@@ -1,5 +1,5 @@
 -- Entries in the order of their keys.
-use Rattle.std.specs.Prelude.{ℕ, T, map, if◌then◌else◌}
+use Rattle.std.specs.Prelude.{ℕ, T, Bool, List, map, if◌then◌else◌}
 use Rattle.std.specs.Coded.{Coded, code_by, coded×, coded_ℕ, coded_list}
 use Rattle.std.specs.Option.{unwrap_or}
 use Rattle.std.specs.Borrow.{Bor}
@@ -8,6 +8,7 @@ use Rattle.std.specs.FinMap as fin
 use Rattle.std.proofs.Common.{refl}
 use Rattle.irc_support.specs.Text.{Text}
 use Rattle.net_view.specs.Names.{bytes_cmp}
+use Rattle.network_tables.specs.Marks.{AreMarked}
 use Rattle.network_tables.specs.declared.slot.Slot.{Slot}
 
 -- all entries by their keys, and for how many more there is room
@@ -31,8 +32,10 @@ tabled entries = record {
   spare = entries.spare;
 }
 
-abbrev pub IsTabled : {X A : Type 0} → Shelf (Slot X A) → Type 0
-IsTabled entries = T (fin.is_sorted bytes_cmp (map entry_of entries.items))
+-- in the order of their keys, each with its mark up
+abbrev pub IsTabled : {X A : Type 0} → Shelf (Slot X A) → List Bool → Type 0
+IsTabled entries marks =
+    T (fin.is_sorted bytes_cmp (map entry_of entries.items)) × AreMarked marks (tabled entries).all
 
 -- a value in the place of another, where there is one
 abbrev pub swapped_in : {X : Type 0} → fin.FinMap bytes_cmp X → Text → X → fin.FinMap bytes_cmp X

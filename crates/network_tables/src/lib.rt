@@ -1,6 +1,7 @@
 //! Persons, channels and members by the keys of their names, in tables in the order of the keys.
 #![tactic(auto)]
 
+mod marks;
 mod modes;
 mod numbered;
 mod person;

@@ -56,19 +56,21 @@ impl<V, A: Allocator> Model for Numbered<V, A> {
 }
 
 /// The number of the cell of what is looked for. It is first looked for in the cell in which it
-/// stood last.
+/// stood last, if that is known.
 fn number_of<V, A: Allocator>(
     index: &Table<usize, A>,
     cells: &Slab<Keyed<V, A>, A>,
-    near: usize,
+    near: Option<usize>,
     sought: Sought<'_>,
 ) -> Option<usize>
     requires { AreTied index.now.all cells.now }
     ensures { result ≡ fin.get index.now.all (sought_key sought.entry) }
 {
-    if let Some(known) = cells.get(near) {
-        if order(&known.key, sought).is_eq() {
-            return Some(near);
+    if let Some(last) = near {
+        if let Some(known) = cells.get(last) {
+            if order(&known.key, sought).is_eq() {
+                return Some(last);
+            }
         }
     }
     index.get(sought).copied()
@@ -107,11 +109,11 @@ impl<V, A: Allocator> Numbered<V, A> {
         ensures { option_map (λ value. value.now) result ≡ fin.get self.now.all (sought_key
             sought.entry) }
     {
-        self.get_near(usize::MAX, sought)
+        self.get_near(None, sought)
     }
 
     /// The same, which is first looked for in the cell in which it stood last.
-    pub fn get_near(&self, near: usize, sought: Sought<'_>) -> Option<&V>
+    pub fn get_near(&self, near: Option<usize>, sought: Sought<'_>) -> Option<&V>
         ensures { option_map (λ value. value.now) result ≡ fin.get self.now.all (sought_key
             sought.entry) }
     {
@@ -124,7 +126,7 @@ impl<V, A: Allocator> Numbered<V, A> {
 
     /// The number of the cell of this key, or the one that it would get now.
     pub fn number_for(&self, key: &[u8]) -> usize {
-        match number_of(&self.index, &self.cells, usize::MAX, Sought::Key(key)) {
+        match number_of(&self.index, &self.cells, None, Sought::Key(key)) {
             Some(number) => number,
             None => self.cells.vacant_key(),
         }
@@ -150,7 +152,7 @@ impl<V: Drop, A: Allocator> Numbered<V, A> {
 
     /// Changes the value that is looked for, first in the cell in which it stood last, and this
     /// one, each into the other's place; whether there is one.
-    pub fn swap(&mut self, near: &mut usize, sought: Sought<'_>, value: &mut V) -> bool
+    pub fn swap(&mut self, near: &mut Option<usize>, sought: Sought<'_>, value: &mut V) -> bool
         ensures found { result ≡ fin.contains_key self.old.all (sought_key sought.entry) }
         ensures all { self.new.all ≡ swapped_in self.old.all (sought_key sought.entry) value.old }
         ensures value { value.new ≡ swapped_out self.old.all (sought_key sought.entry) value.old }
@@ -159,7 +161,7 @@ impl<V: Drop, A: Allocator> Numbered<V, A> {
         match number_of(&self.index, &self.cells, *near, sought) {
             Some(number) => {
                 swap_in(&mut self.cells, number, value);
-                *near = number;
+                *near = Some(number);
                 true
             }
             None => false,

@@ -74,12 +74,12 @@ pub fn new_person<A: Allocator + Copy>(
 }
 
 /// Names a person, who may come into sight, and tells the account, where one is told. What else is
-/// known of the person stays. The person is first looked for in the cell near; the number of the
-/// person's cell.
+/// known of the person stays. The person is first looked for in the cell `near`, if that is known.
+/// Answers the number of the person's cell.
 pub fn name_person<A: Allocator + Copy>(
     alloc: A,
     people: &mut People<A>,
-    near: usize,
+    near: Option<usize>,
     person: Fresh<Person<A>, A>,
     account: Option<Option<Vec<u8, A>>>,
 ) -> usize
@@ -99,7 +99,8 @@ pub fn name_person<A: Allocator + Copy>(
     known.value.away = old.away;
     if in_sight {
         people.swap(&mut near, Sought::Key(&known.key), &mut known.value);
-        near
+        // where it was found
+        near.unwrap_or(0)
     } else {
         people.put(Fresh { known, number })
     }
@@ -116,7 +117,7 @@ pub fn set_account<A: Allocator + Copy>(
         who.entry)
         (with_account (option_map (λ t. t.items) account)) }
 {
-    let mut near = usize::MAX;
+    let mut near = None;
     let mut person = nobody(alloc);
     if people.swap(&mut near, who, &mut person) {
         person.account = account;
@@ -135,7 +136,7 @@ pub fn set_away<A: Allocator + Copy>(
         who.entry)
         (with_away (option_map (λ t. t.items) away)) }
 {
-    let mut near = usize::MAX;
+    let mut near = None;
     let mut person = nobody(alloc);
     if people.swap(&mut near, who, &mut person) {
         person.away = away;

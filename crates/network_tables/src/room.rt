@@ -124,7 +124,7 @@ pub fn set_topic<A: Allocator + Copy>(
         channel.entry)
         (with_topic (option_map (λ t. t.items) topic)) }
 {
-    let mut near = usize::MAX;
+    let mut near = None;
     let mut room = no_room(alloc);
     if rooms.swap(&mut near, channel, &mut room) {
         room.topic = topic;
@@ -143,7 +143,7 @@ pub fn set_modes<A: Allocator + Copy>(
         channel.entry)
         (with_modes modes) }
 {
-    let mut near = usize::MAX;
+    let mut near = None;
     let mut room = no_room(alloc);
     if rooms.swap(&mut near, channel, &mut room) {
         room.modes = modes;
@@ -169,7 +169,7 @@ fn add_member<A: Allocator + Copy>(
 pub fn seat<A: Allocator + Copy>(
     alloc: A,
     rooms: &mut Rooms<A>,
-    near: usize,
+    near: Option<usize>,
     channel: Sought<'_>,
     member: Box<Entry<Ranks, A>, A>,
 ) -> Result<(), OutOfMemory>
@@ -200,7 +200,7 @@ pub fn unseat<A: Allocator + Copy>(
     ensures was { result ≡ is_some (old_member
         (fin.get (rooms_of rooms.old.all) (sought_key channel.entry)) (sought_key who.entry)) }
 {
-    let mut near = usize::MAX;
+    let mut near = None;
     let mut room = no_room(alloc);
     if rooms.swap(&mut near, channel, &mut room) {
         let was = room.members.remove(who);

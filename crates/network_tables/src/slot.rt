@@ -24,8 +24,14 @@ pub(crate) fn new_entry<V: Drop, A: Allocator + Copy>(
     ensures key { IfOk result (λ entry. entry.value.key.items ≡ key.items) }
     ensures value { IfOk result (λ entry. entry.value.value ≡ value) }
 {
-    let near = usize::MAX;
-    Ok(Box::new(alloc, Entry { key, value, near })?)
+    Ok(Box::new(
+        alloc,
+        Entry {
+            key,
+            value,
+            near: 0,
+        },
+    )?)
 }
 
 /// An entry behind a pointer, with the first eight bytes of its key beside it: what stands behind a

@@ -38,10 +38,7 @@ pub(crate) fn order_behind(key: &[u8], sought: Sought<'_>) -> Ordering
     let Sought::Name(mapping, name) = sought else {
         return order(key, sought);
     };
-    if key.len() < 8 {
-        return order(key, sought);
-    }
-    if name.len() < 8 {
+    if key.len() < 8 || name.len() < 8 {
         return order(key, sought);
     }
     mapping.order_to_key(rest(name), rest(key)).reverse()

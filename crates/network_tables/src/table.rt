@@ -12,6 +12,7 @@ ghost use Rattle.network_tables.specs.Sought.{sought_key};
 ghost use Rattle.network_tables.specs.Head.{head_of, AreBytesTo};
 
 use crate::OutOfMemory;
+use crate::marks::{is_up, marks_of, put_up};
 use crate::slot::{Entry, Slot};
 use crate::sought::{Sought, head, key_head, order, order_behind};
 use block_list::Blocks;
@@ -20,10 +21,21 @@ use std::cmp::Ordering;
 use std::marker::Model;
 use std::mem;
 
+/// How many entries a table has at least that has marks.
+const FEWEST_MARKED: usize = 64;
+
+/// How many entries come at least before its marks are made anew, so that those of entries that
+/// went are taken down.
+const FEWEST_NEW: usize = 256;
+
 /// Values by key, in the order of the keys, byte by byte.
 #[derive(Drop)]
 pub struct Table<V, A: Allocator> {
     pub(crate) entries: Blocks<Slot<V, A>, A>,
+    // those of all entries are up; none in a table that is small
+    pub(crate) marks: Vec<bool, A>,
+    // how many entries came since they were made, at most the greatest count
+    came: usize,
 }
 
 impl<V, A: Allocator> Model for Table<V, A> {
@@ -35,7 +47,7 @@ impl<V, A: Allocator> Model for Table<V, A> {
 
     ghost view = { λ t. tabled t.entries };
 
-    ghost invariant = { λ t. IsTabled t.entries };
+    ghost invariant = { λ t. IsTabled t.entries t.marks.items };
 }
 
 /// How an entry stands to what is looked for, whose head is this.
@@ -72,10 +84,10 @@ fn place_of<V, A: Allocator>(
 }
 
 /// Where the entry that is looked for stands, or would stand. It is first looked for at the place
-/// near which it stood last; that place is then where it was found.
+/// near which it stood last, if there is one; that place is then where it was found.
 fn place_near<V, A: Allocator>(
     slots: &Blocks<Slot<V, A>, A>,
-    near: &mut usize,
+    near: &mut Option<usize>,
     sought: Sought<'_>,
 ) -> Result<usize, usize>
     ensures bound { IsSearchInRange result (length slots.now.items) }
@@ -83,15 +95,16 @@ fn place_near<V, A: Allocator>(
         (λ slot. bytes_cmp slot.entry.value.key.items (sought_key sought.entry)) slots.now.items
         result }
 {
-    let last = *near;
-    if last < slots.len() {
-        if order(&slots.at(last).entry.key, sought).is_eq() {
-            return Ok(last);
+    if let Some(last) = *near {
+        if last < slots.len() {
+            if order(&slots.at(last).entry.key, sought).is_eq() {
+                return Ok(last);
+            }
         }
     }
     match place_of(slots, head(sought), sought) {
         Ok(place) => {
-            *near = place;
+            *near = Some(place);
             Ok(place)
         }
         Err(place) => Err(place),
@@ -139,10 +152,14 @@ pub(crate) fn remove_at<T: Drop, A: Allocator>(items: &mut Vec<T, A>, place: usi
 impl<V, A: Allocator> Table<V, A> {
     /// A table without entries.
     pub fn new(alloc: A) -> Table<V, A>
+    where
+        A: Copy,
         ensures { result.all ≡ fin.empty }
     {
         Table {
             entries: Blocks::new(alloc),
+            marks: Vec::new(alloc),
+            came: 0,
         }
     }
 
@@ -175,7 +192,7 @@ impl<V, A: Allocator> Table<V, A> {
     }
 
     /// The same, near the place where it stood last.
-    pub fn get_near(&self, near: &mut usize, sought: Sought<'_>) -> Option<&V>
+    pub fn get_near(&self, near: &mut Option<usize>, sought: Sought<'_>) -> Option<&V>
         ensures { option_map (λ value. value.now) result ≡ fin.get self.now.all (sought_key
             sought.entry) }
     {
@@ -191,22 +208,32 @@ impl<V, A: Allocator> Table<V, A> {
         requires bytes { AreBytesTo 8 (sought_key sought) }
         ensures { result ≡ fin.contains_key self.now.all (sought_key sought.entry) }
     {
-        self.get_by(head, sought).is_some()
+        is_up(&self.marks, head) && self.get_by(head, sought).is_some()
+    }
+
+    /// Whether it has grown enough to have marks, or so much has come that they tell little.
+    fn needs_marks(&self) -> bool {
+        let len = self.entries.len();
+        if self.marks.is_empty() {
+            len >= FEWEST_MARKED
+        } else {
+            self.came >= len.max(FEWEST_NEW)
+        }
     }
 
     /// The same, near the place where it stood last.
-    pub fn contains_near(&self, near: &mut usize, sought: Sought<'_>) -> bool
+    pub fn contains_near(&self, near: &mut Option<usize>, sought: Sought<'_>) -> bool
         ensures { result ≡ fin.contains_key self.now.all (sought_key sought.entry) }
     {
         self.get_near(near, sought).is_some()
     }
 
     /// Where to look first for what belongs to the entry at a place; nothing else is said of it.
-    pub fn near_at(&self, place: usize) -> usize {
+    pub fn near_at(&self, place: usize) -> Option<usize> {
         if place < self.entries.len() {
-            self.entries.at(place).entry.near
+            Some(self.entries.at(place).entry.near)
         } else {
-            usize::MAX
+            None
         }
     }
 
@@ -231,7 +258,12 @@ impl<V: Drop, A: Allocator> Table<V, A> {
         ensures all { self.new.all ≡ self.old.all }
         ensures room { OnOk result (more ≤ self.new.spare) }
     {
-        self.entries.reserve(more)
+        self.entries.reserve(more)?;
+        if self.needs_marks() {
+            self.marks = marks_of(*self.marks.allocator(), &self.entries)?;
+            self.came = 0;
+        }
+        Ok(())
     }
 
     /// Puts an entry in its place, or in the place of one of the same key.
@@ -241,18 +273,20 @@ impl<V: Drop, A: Allocator> Table<V, A> {
             ≡ fin.insert self.old.all entry.value.key.items entry.value.value }
         ensures room { self.old.spare ≤ self.new.spare + 1 }
     {
-        let mut near = usize::MAX;
+        let mut near = None;
         self.insert_near(&mut near, entry);
     }
 
     /// The same, near the place where the one of the same key stood last.
-    pub fn insert_near(&mut self, near: &mut usize, entry: Box<Entry<V, A>, A>)
+    pub fn insert_near(&mut self, near: &mut Option<usize>, entry: Box<Entry<V, A>, A>)
         requires { 0 < self.old.spare }
         ensures all { self.new.all
             ≡ fin.insert self.old.all entry.value.key.items entry.value.value }
         ensures room { self.old.spare ≤ self.new.spare + 1 }
     {
         let head = key_head(&entry.key);
+        put_up(&mut self.marks, head);
+        self.came = self.came.saturating_add(1);
         let found = place_near(&self.entries, near, Sought::Key(&entry.key));
         let slot = Slot { head, entry };
         match found {
@@ -263,7 +297,7 @@ impl<V: Drop, A: Allocator> Table<V, A> {
 
     /// Changes the value that is looked for, near the place where it stood last, and this one, each
     /// into the other's place; whether there is one.
-    pub fn swap(&mut self, near: &mut usize, sought: Sought<'_>, value: &mut V) -> bool
+    pub fn swap(&mut self, near: &mut Option<usize>, sought: Sought<'_>, value: &mut V) -> bool
         ensures found { result ≡ fin.contains_key self.old.all (sought_key sought.entry) }
         ensures all { self.new.all ≡ swapped_in self.old.all (sought_key sought.entry) value.old }
         ensures value { value.new ≡ swapped_out self.old.all (sought_key sought.entry) value.old }
@@ -299,6 +333,9 @@ impl<V: Drop, A: Allocator> Table<V, A> {
         ensures room { self.old.spare ≤ self.new.spare }
         ensures left { IsSome result → self.old.spare + 1 ≤ self.new.spare }
     {
+        if !is_up(&self.marks, head) {
+            return None;
+        }
         match place_of(&self.entries, head, sought) {
             Ok(place) => Some(self.entries.remove(place).entry),
             Err(_) => None,

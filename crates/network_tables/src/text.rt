@@ -10,6 +10,7 @@ use std::alloc::Allocator;
 pub fn bytes<A: Allocator>(text: &Option<Vec<u8, A>>) -> Option<&[u8]>
     ensures { option_map (λ t. t.now) result ≡ option_map (λ t. t.items) text.now }
 {
+    // `as_deref` wants a lifetime of the allocator, which nothing gives here
     match text {
         Some(text) => Some(text.as_slice()),
         None => None,

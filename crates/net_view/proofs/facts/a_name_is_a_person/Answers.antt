@@ -1,7 +1,7 @@
 use Rattle.net_view.proofs.Words.{arith, Quits, is_us, standing_of, view_of, after}
 use Rattle.net_view.proofs.facts.a_name_is_a_person.Goals as goal
 use Rattle.net_view.proofs.{Keys.is_same, Keys.same_refl, AfterMaps.get-channels_after}
-use Rattle.net_view.proofs.{AfterMaps.seen_somewhere, MembersSpelled.in_channel_after}
+use Rattle.net_view.proofs.{AfterMaps.seen_somewhere, SoundStep.in_channel_after}
 use Rattle.net_view.proofs.{StepLaw.view_step, Emptied.emptied, SoundStep.view_sound}
 
 pub returns : goal.returns

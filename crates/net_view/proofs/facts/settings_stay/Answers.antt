@@ -1,6 +1,5 @@
-use Rattle.net_view.proofs.Words.{arith, after}
 use Rattle.net_view.proofs.facts.settings_stay.Goals as goal
-use Rattle.net_view.proofs.{SoundStep.view_sound, StepLaw.view_step}
+use Rattle.net_view.proofs.{SoundStep.view_sound, StepLaw.view_step, Words.{after, arith}}
 
 pub returns : goal.returns
 unfolding after

@@ -1,8 +1,7 @@
-use Rattle.net_view.proofs.Words.{arith, view_of}
 use Rattle.net_view.proofs.facts.views_are_sound.Goals as goal
-use Rattle.net_view.proofs.{Channels.channels_get, LastWord.last_found, SoundStep.view_sound}
-use Rattle.net_view.proofs.FormSound.{tokens_formed, letters_unsigned, view_ranked}
-use Rattle.net_view.proofs.WrittenViews.{views_are_clean}
+use Rattle.net_view.proofs.{Channels.channels_get, FormSound.{letters_unsigned, tokens_formed}}
+use Rattle.net_view.proofs.{FormSound.view_ranked, LastWord.last_found, SoundStep.view_sound}
+use Rattle.net_view.proofs.{Words.{arith, view_of}, WrittenViews.views_are_clean}
 
 pub returns : goal.returns
 unfolding view_of

@@ -1,7 +1,6 @@
-use Rattle.net_view.proofs.Words.{◌≡◌, ◌∷◌, ◌++◌, List, [], arith, append_assoc, Arrival, view_of}
 use Rattle.net_view.proofs.laws.a_view_is_a_state.Goals as goal
-use Rattle.std.proofs.Common.{append-nil}
-use Rattle.net_view.proofs.StepLaw.{view_step}
+use Rattle.net_view.proofs.{StepLaw.view_step, Words.{◌++◌, ◌∷◌, ◌≡◌, Arrival, List, []}}
+use Rattle.{net_view.proofs.Words.{append_assoc, arith, view_of}, std.proofs.Common.append-nil}
 
 stay : (items others more : List Arrival) → view_of items ≡ view_of others
     → view_of (items ++ more) ≡ view_of (others ++ more)

@@ -1,6 +1,5 @@
-use Rattle.net_view.proofs.Words.{is_word}
 use Rattle.net_view.proofs.state_line.is_word.Goals as goal
-use Rattle.std.proofs.Common.{rules}
+use Rattle.{net_view.proofs.Words.is_word, std.proofs.Common.rules}
 
 pub returns-in-empty : goal.returns-in-empty
 unfolding is_word

@@ -1,12 +1,9 @@
-use Rattle.net_view.proofs.Words
-use Words.{◌≡◌, ◌∙◌, arith, ap, refl, List, Option, Some, option_map, unwrap_or, Token, Told}
-use Words.{StateCommand, state_lines}
 use Rattle.net_view.proofs.state_line.told_as.Goals as goal
-use Rattle.net_view.proofs.Commands.{has_found, told_read}
-use Rattle.net_view.specs.{StateLines.or_silent, Tells.meant}
 use Rattle.net_view.specs.declared.state_command.StateCommand.TheVariants as command
-use Rattle.net_view.specs.declared.state_line.Telling.{Telling}
-use Rattle.net_view.specs.declared.state_line.Telling.TheVariants.{Silent}
+use Rattle.net_view.proofs.{Commands.{has_found, told_read}, Words.{◌∙◌, ◌≡◌, List, Option, Some}}
+use Rattle.net_view.proofs.Words.{StateCommand, Token, Told, ap, arith, option_map, refl}
+use Rattle.net_view.{proofs.Words.{state_lines, unwrap_or}, specs.StateLines.or_silent}
+use Rattle.net_view.specs.{Tells.meant, declared.state_line.Telling.{Telling, TheVariants.Silent}}
 
 pub returns-in-Join : goal.returns-in-Join
 unfolding state_lines

@@ -9,9 +9,9 @@ use Rattle.network_tables.proofs.numbered.number_of.Goals as goal
 pub returns-then-is_eq : goal.returns-then-is_eq
 returns-then-is_eq g c =
     let key = sought_key c.args.sought in
-    let known = c.in-Some.known.now in
+    let known = c.in-Some-get.known.now in
     let same_key = is_same known.key.items key (ap is_eq (sym (c.order.ensures
     ∙ ap (λ text. bytes_cmp text key) c.deref.ensures.value)) ∙ sym c.is_eq.ensures ∙
     c.if-is_eq.true) in
-    sym (ap (fin.get c.args.index.now.all) (sym same_key) ∙ c.requires.known c.args.near known (sym
-    c.in-Some.ensures))
+    sym (ap (fin.get c.args.index.now.all) (sym same_key) ∙ c.requires.known c.in-Some.last known (sym
+    c.in-Some-get.ensures))

@@ -1,7 +1,6 @@
-use Rattle.net_view.proofs.Words.{arith, bytes_eq-Decides}
 use Rattle.net_view.proofs.state_command.StateCommand.likely.Goals as goal
+use Rattle.net_view.proofs.{Commands.same_byte, Words.{arith, bytes_eq-Decides}}
 use Rattle.std.proofs.lemmas.List.{length-map}
-use Rattle.net_view.proofs.Commands.{same_byte}
 
 pub returns-in_default-2 : goal.returns-in_default-2
 returns-in_default-2 c it e =

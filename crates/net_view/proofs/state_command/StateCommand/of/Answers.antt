@@ -1,6 +1,5 @@
-use Rattle.net_view.proofs.Words.{arith}
 use Rattle.net_view.proofs.state_command.StateCommand.of.Goals as goal
-use Rattle.net_view.proofs.Commands.{has_found, is_there}
+use Rattle.net_view.proofs.{Commands.{has_found, is_there}, Words.arith}
 
 pub returns-in_err-likely-clause-value : goal.returns-in_err-likely-clause-value
 returns-in_err-likely-clause-value g c = grind (arith, has_found c.args.line.now)

@@ -11,6 +11,6 @@ pub returns : goal.returns
 returns g c =
     subst (λ es. OnOk c.copies_in.result (map (option_map (λ k. k.items))
     c.copies_in.new.copies.items ≡ copies_of c.args.key.now (sought_key c.args.who) es))
-    (sym (entries_are c.self.inside.entries.items c.self.invariant)
+    (sym (entries_are c.self.inside.entries.items c.self.invariant.0)
     ∙ ap (λ t. fin.entries (rooms_of t.all)) c.self.view_is)
     c.copies_in.ensures

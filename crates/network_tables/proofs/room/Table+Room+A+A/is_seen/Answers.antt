@@ -10,6 +10,6 @@ returns g c =
     let n = sought_key c.args.who in
     let xs = c.self.inside.entries.items in
     c.is_member_of_any.ensures
-    ∙ seen_is (map room_entry xs) n (rooms_sorted xs c.self.invariant)
-    ∙ ap (λ cs. is_seen cs n) (sym (rooms_are xs c.self.invariant))
+    ∙ seen_is (map room_entry xs) n (rooms_sorted xs c.self.invariant.0)
+    ∙ ap (λ cs. is_seen cs n) (sym (rooms_are xs c.self.invariant.0))
     ∙ ap (λ t. is_seen (rooms_of t.all) n) c.self.view_is

@@ -19,7 +19,7 @@ returns-then-place-len g c =
       (c.as_slice.ensures.value ∙ ap (λ e. e.key.items) c.deref.ensures) i,
       (c.deref-then-place-len.ensures i).value,
     ))
-    ∙ entry_there bytes_cmp entry_of c.self.inside.entries.items c.self.invariant c.args.place
+    ∙ entry_there bytes_cmp entry_of c.self.inside.entries.items c.self.invariant.0 c.args.place
     (Some c.at-slot.result.now)
     (sym (slice_get_read c.self.inside.entries.items _ c.args.place c.at-slot.result.now
     c.len.ensures c.if-place-len.true c.at-slot.ensures))
@@ -29,6 +29,6 @@ pub returns-else-place-len : goal.returns-else-place-len
 returns-else-place-len g c =
     let long = c.len.ensures in
     let past = c.if-place-len.false in
-    entry_there bytes_cmp entry_of c.self.inside.entries.items c.self.invariant c.args.place None
+    entry_there bytes_cmp entry_of c.self.inside.entries.items c.self.invariant.0 c.args.place None
     (none_past c.self.inside.entries.items c.args.place (omega (arith, long, past)))
     ∙ ap (λ t. slice_get (fin.entries t.all) c.args.place) c.self.view_is

@@ -10,7 +10,7 @@ use Rattle.network_tables.proofs.table.Table.get_near.Goals as goal
 pub returns-in-Ok : goal.returns-in-Ok
 returns-in-Ok g c =
     ap (λ e. Some e.value) c.deref.ensures
-    ∙ got nat_list_cmp_total bytes_exact entry_of c.self.inside.entries.items c.self.invariant
+    ∙ got nat_list_cmp_total bytes_exact entry_of c.self.inside.entries.items c.self.invariant.0
     (sought_key c.args.sought) c.in-Ok.place
     c.in-Ok.ensures.bound
     c.in-Ok.ensures.place c.at.result.now c.at.ensures
@@ -18,7 +18,7 @@ returns-in-Ok g c =
 
 pub returns-in-Err : goal.returns-in-Err
 returns-in-Err g c =
-    got_none nat_list_cmp_total bytes_exact entry_of c.self.inside.entries.items c.self.invariant
+    got_none nat_list_cmp_total bytes_exact entry_of c.self.inside.entries.items c.self.invariant.0
     (sought_key c.args.sought) c.in-Err.field-0
     c.in-Err.ensures.bound
     c.in-Err.ensures.place

@@ -8,5 +8,5 @@ use Rattle.network_tables.proofs.table.Table.len.Goals as goal
 pub returns : goal.returns
 returns g c =
     c.len.ensures ∙ sym (length-map c.self.inside.entries.items entry_of)
-    ∙ ap length (sym (fin.entries-from_sorted bytes_cmp _ c.self.invariant))
+    ∙ ap length (sym (fin.entries-from_sorted bytes_cmp _ c.self.invariant.0))
     ∙ ap (λ t. length (fin.entries t.all)) c.self.view_is

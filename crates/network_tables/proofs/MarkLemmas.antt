@@ -1,0 +1,106 @@
+-- The marks of a table's keys, by what becomes of its entries.
+use Rattle.net_view.proofs.Words
+use Words.{◌≡◌, ◌+◌, ◌<◌, ◌∷◌, ℕ, suc, Bool, true, false, List, [], map, is_some, length, None}
+use Words.{refl, arith, Text, bytes_cmp}
+use Rattle.std.specs.Prelude.{T, zero}
+use Rattle.std.specs.FinMap as fin
+use Rattle.std.proofs.Common.{get_or, set}
+use Rattle.std.proofs.lemmas.{Bool.cases_eq, List.get_or_default}
+use Rattle.net_view.proofs.AfterAlike.{look_ups, is_same}
+use Rattle.network_tables.specs.Head.{head_of}
+use Rattle.network_tables.specs.Marks.{AreMarked, is_marked, mark_of}
+use Rattle.network_tables.specs.{Shown.shown}
+use Rattle.network_tables.proofs.ShownLemmas.{contains-shown}
+
+-- a mark that is put up is up, and the others are as they were
+up_there : (marks : List Bool) (i : ℕ) → get_or (set marks i true) i true ≡ true
+up_there [] i = refl
+up_there (m ∷ marks) zero = refl
+up_there (m ∷ marks) (suc i) = up_there marks i
+
+up_still : (marks : List Bool) (i j : ℕ) → get_or marks j true ≡ true
+    → get_or (set marks i true) j true ≡ true
+up_still [] i j up = refl
+up_still (m ∷ marks) zero zero up = refl
+up_still (m ∷ marks) zero (suc j) up = up
+up_still (m ∷ marks) (suc i) zero up = up
+up_still (m ∷ marks) (suc i) (suc j) up = up_still marks i j up
+
+pub marked_there : (marks : List Bool) (head : ℕ)
+    → is_marked (set marks (mark_of head) true) head ≡ true
+marked_there marks head = up_there marks (mark_of head)
+
+pub marked_still : (marks : List Bool) (i head : ℕ) → is_marked marks head ≡ true
+    → is_marked (set marks i true) head ≡ true
+marked_still marks i head up = up_still marks i (mark_of head) up
+
+module _ {X : Type 0} (marks : List Bool) (m : fin.FinMap bytes_cmp X)
+    (marked : AreMarked marks m) where
+  pub marked_inserted : (k : Text) (v : X)
+      → AreMarked (set marks (mark_of (head_of k)) true) (fin.insert m k v)
+  marked_inserted k v q has =
+      let still = marked_still marks (mark_of (head_of k)) (head_of q) in
+      grind (look_ups, is_same q k, marked_there marks (head_of k), marked q)
+
+  pub marked_removed : (k : Text) → AreMarked marks (fin.remove m k)
+  marked_removed k q has = grind (look_ups, marked q)
+
+  pub marked_retained : (p : Text → Bool) → AreMarked marks (fin.retain_keys m p)
+  marked_retained p q has = grind (look_ups, marked q)
+
+  -- a value that is changed where it is leaves the keys
+  pub marked_written : (k : Text) (v : X) → fin.contains_key m k ≡ true
+      → AreMarked marks (fin.insert m k v)
+  marked_written k v there q has = grind (look_ups, is_same q k, marked q, marked k)
+
+  -- a key whose mark is down is not there
+  pub not_there : (k : Text) → is_marked marks (head_of k) ≡ false → None ≡ fin.get m k
+  not_there k down = grind (arith, marked k)
+
+-- the same, by what the table and its marks became
+pub put_marked : {X : Type 0} (old new : List Bool) (m n : fin.FinMap bytes_cmp X) (k : Text)
+    (v : X) (head : ℕ) → AreMarked old m → n ≡ fin.insert m k v
+    → new ≡ set old (mark_of head) true → head ≡ head_of k → AreMarked new n
+put_marked old new m n k v head marked is marks_are head_is q has =
+    grind (arith, marked_inserted old m marked k v q)
+
+-- values that are shown otherwise leave the keys
+pub marked_shown : {X Z : Type 0} (f : X → Z) (h : Z → Z) (marks : List Bool)
+    (m n : fin.FinMap bytes_cmp X) → AreMarked marks m → shown f n ≡ shown h (shown f m)
+    → AreMarked marks n
+marked_shown f h marks m n marked e q has =
+    marked q (cc (
+      contains-shown bytes_cmp f m q,
+      contains-shown bytes_cmp h (shown f m) q,
+      contains-shown bytes_cmp f n q,
+    ))
+
+pub none_marked : (X : Type 0) (marks : List Bool) → AreMarked {X = X} marks fin.empty
+none_marked X marks q has = grind (arith, fin.get-empty {X = X} bytes_cmp q)
+
+-- the marks of all of a list
+module _ {E X : Type 0} (f : E → Text × X) (marks : List Bool) where
+  found_marked : (xs : List E) → ((j : ℕ) (d : E) → j < length xs
+      → is_marked marks (head_of (f (get_or xs j d)).0) ≡ true) → (q : Text)
+      → is_some (fin.find bytes_cmp q (map f xs)) ≡ true → is_marked marks (head_of q) ≡ true
+  found_marked [] each q has = cc
+  found_marked (x ∷ xs) each q has =
+      let later = found_marked xs (λ j d l. each (suc j) d (omega (arith, l))) q in
+      let first = each zero x (omega arith) in
+      grind (arith, is_same q (f x).0)
+
+  pub all_marked : (xs : List E) → T (fin.is_sorted bytes_cmp (map f xs)) → ((j : ℕ) (d : E)
+      → j < length xs → is_marked marks (head_of (f (get_or xs j d)).0) ≡ true)
+      → AreMarked marks (fin.from_sorted {R = bytes_cmp} (map f xs))
+  all_marked xs h each q has =
+      found_marked xs each q (cc (fin.get-from_sorted bytes_cmp (map f xs) q h))
+
+  -- one more slot
+  pub marked_next : (xs : List E) (new : List Bool) (i : ℕ) (x : E) (head : ℕ) → i < length xs
+      → x ≡ get_or xs i x → head ≡ head_of (f x).0 → new ≡ set marks (mark_of head) true
+      → ((j : ℕ) (d : E) → j < i → is_marked marks (head_of (f (get_or xs j d)).0) ≡ true)
+      → (j : ℕ) (d : E) → j < i + 1 → is_marked new (head_of (f (get_or xs j d)).0) ≡ true
+  marked_next xs new i x head l is head_is new_is marked j d m =
+      let here = get_or_default xs i d x l in
+      let still = marked_still marks (mark_of head) (head_of (f (get_or xs j d)).0) in
+      grind (arith, cases_eq j i, marked_there marks head, marked j d)

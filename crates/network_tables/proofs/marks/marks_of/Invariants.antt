@@ -1,0 +1,10 @@
+use Rattle.std.proofs.Common.{◌≡◌, ℕ, ◌<◌, true, get_or}
+use Rattle.network_tables.specs.Head.{head_of}
+use Rattle.network_tables.specs.Marks.{is_marked}
+use Rattle.network_tables.specs.Table.{entry_of}
+use Rattle.network_tables.proofs.marks.marks_of.Given as goal
+
+abbrev pub invariant-loop-place : goal.invariant-loop-place
+invariant-loop-place g l =
+    (j : ℕ) (d : _) → j < l.place →
+    is_marked l.marks.items (head_of (entry_of (get_or l.slots.items j d)).0) ≡ true
