@@ -6,7 +6,7 @@ use Rattle.std.specs.FinMap as fin
 use Rattle.net_view.specs.LookBack.{last_in}
 use Rattle.net_view.specs.Modes.{setting_of}
 use Rattle.net_view.specs.View.{Channel}
-use Rattle.net_view.proofs.AfterModes.{ranks_changed}
+use Rattle.net_view.specs.MemberSets.{ranks_changed}
 use Rattle.std.proofs.Common.{Option, Some, None}
 use Rattle.irc_line.specs.Line.{Parts}
 use Rattle.irc_support.specs.Text.{Text}

@@ -54,7 +54,7 @@ fn keep_listed<A: Allocator + Copy>(
     ensures person_room { people.old.spare ≤ people.new.spare + 1 }
 {
     let Listed { mut member, person } = listed;
-    member.near = name_person(alloc, people, usize::MAX, person, None);
+    member.near = name_person(alloc, people, None, person, None);
     members.insert(member);
 }
 

@@ -10,10 +10,9 @@ ghost use Rattle.irc_support.specs.ChangeShown.{shown_change};
 ghost use Rattle.net_view.specs.StateLines.{letter_change, mode_change, setting_by};
 ghost use Rattle.net_view.specs.LookBack.{last_in};
 ghost use Rattle.net_view.specs.Modes.{setting_of};
-ghost use Rattle.net_view.proofs.AfterModes.{ranks_changed};
+ghost use Rattle.net_view.specs.MemberSets.{AreSets, ranks_changed};
 ghost use Rattle.quick_view.specs.Moding.{modes_in, letters_in, rank_after, IsModed};
 ghost use Rattle.network_tables.specs.Rooms.{channel_of};
-ghost use Rattle.net_view.proofs.AfterAlike.{AreSets};
 
 use crate::OutOfMemory;
 use irc_line::Line;
@@ -115,7 +114,7 @@ fn change_rank<A: Allocator, B: Allocator>(
         return;
     }
     let who = Sought::Name(support.mapping(), nick);
-    let mut near = usize::MAX;
+    let mut near = None;
     let Some(ranks) = members.get_near(&mut near, who) else {
         return;
     };

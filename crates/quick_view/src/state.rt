@@ -36,10 +36,9 @@ impl<A: Allocator + Copy> State<A> {
     ghost use Rattle.net_view.specs.Changes.{readied, joined_view, parted_view, on_person};
     ghost use Rattle.net_view.specs.Changes.{on_channel};
     ghost use Rattle.net_view.specs.Changes.{with_topic, with_account, with_away};
-    ghost use Rattle.net_view.proofs.AfterAlike.{IsKnowing};
     ghost use Rattle.quick_view.specs.Kept.{view_kept};
     ghost use Rattle.quick_view.specs.Views.{quitted_view, left_view, entered_view, renamed_view};
-    ghost use Rattle.net_view.proofs.AfterAlike.{HasSets};
+    ghost use Rattle.net_view.specs.MemberSets.{HasSets, IsKnowing};
     ghost use Rattle.net_view.specs.Step.{after_told};
     ghost use Rattle.net_view.specs.Told.{Changed, Listed};
     ghost use Rattle.quick_view.specs.Moding.{letters_in, modes_in};
@@ -162,7 +161,7 @@ impl<A: Allocator + Copy> State<A> {
     {
         let mapping = self.support.mapping();
         let channel = Sought::Name(mapping, channel);
-        let mut near = usize::MAX;
+        let mut near = None;
         if !self.rooms.contains_near(&mut near, channel) {
             return Ok(());
         }
@@ -173,7 +172,7 @@ impl<A: Allocator + Copy> State<A> {
         let number = self.people.number_for(&person.known.key);
         member.near = number;
         seat(self.alloc, &mut self.rooms, near, channel, member)?;
-        name_person(self.alloc, &mut self.people, number, person, account);
+        name_person(self.alloc, &mut self.people, Some(number), person, account);
         Ok(())
     }
 
@@ -234,11 +233,11 @@ impl<A: Allocator + Copy> State<A> {
         let account = copy_of_told(self.alloc, account)?;
         let person = new_person(self.alloc, mapping, who)?;
         let room = fresh_room(self.alloc, mapping, channel, who)?;
-        let mut near = usize::MAX;
+        let mut near = None;
         let again = self
             .rooms
             .contains_near(&mut near, Sought::Name(mapping, channel));
-        name_person(self.alloc, &mut self.people, usize::MAX, person, account);
+        name_person(self.alloc, &mut self.people, None, person, account);
         self.rooms.insert_near(&mut near, room);
         if again {
             retain_seen(&mut self.people, &self.rooms);
@@ -283,7 +282,7 @@ impl<A: Allocator + Copy> State<A> {
         ensures kept { OnErr result (view_kept self.new ≡ view_kept self.old) }
     {
         let channel = Sought::Name(self.support.mapping(), channel);
-        let mut near = usize::MAX;
+        let mut near = None;
         let mut room = no_room(self.alloc);
         if self.rooms.swap(&mut near, channel, &mut room) {
             let changed = change_room(self.alloc, &mut room, &self.support, line);
@@ -323,7 +322,7 @@ impl<A: Allocator + Copy> State<A> {
         ensures kept { OnErr result (view_kept self.new ≡ view_kept self.old) }
     {
         let channel = Sought::Name(self.support.mapping(), channel);
-        let mut near = usize::MAX;
+        let mut near = None;
         if !self.rooms.contains_near(&mut near, channel) {
             return Ok(());
         }

@@ -19,7 +19,7 @@ impl<A: Allocator + Copy> State<A> {
     ghost use Rattle.net_view.specs.Changes.{readied, joined_view};
     ghost use Rattle.net_view.specs.Step.{after_told};
     ghost use Rattle.net_view.specs.Told.{Supports, Joined, Parted, Quits, Renamed};
-    ghost use Rattle.net_view.proofs.AfterAlike.{HasSets};
+    ghost use Rattle.net_view.specs.MemberSets.{HasSets};
     ghost use Rattle.quick_view.specs.Kept.{view_kept};
 
     /// `005`.
@@ -29,6 +29,7 @@ impl<A: Allocator + Copy> State<A> {
             view_kept self.new ≡ after_told (view_kept self.old) (Supports line.now.params)) }
         ensures kept { OnErr result (view_kept self.new ≡ view_kept self.old) }
     {
+        // one question at a time, here and at a JOIN, since each answer has a law of its own
         let welcomed = self.own.is_some();
         if !welcomed {
             return Ok(());

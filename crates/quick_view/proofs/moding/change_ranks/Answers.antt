@@ -3,7 +3,7 @@ use Rattle.std.specs.List.{filter_map}
 use Rattle.std.specs.FinMap as fin
 use Rattle.irc_support.specs.ChangeShown.{shown_change}
 use Rattle.net_view.specs.StateLines.{letter_change}
-use Rattle.net_view.proofs.AfterModes.{ranks_changed}
+use Rattle.net_view.specs.MemberSets.{ranks_changed}
 use Rattle.quick_view.proofs.LastLemmas.{ranks_step, still_set, none_left}
 use Rattle.quick_view.proofs.moding.change_ranks.Goals as goal
 

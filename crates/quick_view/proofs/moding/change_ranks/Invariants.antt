@@ -5,7 +5,7 @@ use Rattle.std.specs.FinMap as fin
 use Rattle.irc_support.specs.Line.{changes_in}
 use Rattle.irc_support.specs.Text.{Text}
 use Rattle.net_view.specs.StateLines.{letter_change}
-use Rattle.net_view.proofs.AfterModes.{ranks_changed}
+use Rattle.net_view.specs.MemberSets.{ranks_changed}
 use Rattle.quick_view.proofs.LastLemmas.{IsSet}
 use Rattle.quick_view.proofs.moding.change_ranks.Given as goal
 

@@ -2,7 +2,7 @@ use Rattle.std.proofs.Common.{Some, None, sym, ap, ◌∙◌, option_map}
 use Rattle.irc_names.specs.CaseMapping.{key_of}
 use Rattle.net_view.specs.Readers.{account_shown}
 use Rattle.quick_view.proofs.ReadLemmas.{account_is}
-use Rattle.quick_view.proofs.quick_view.QuickViewNetworkView.account_of.Goals as goal
+use Rattle.quick_view.proofs.table_view.TableViewNetworkView.account_of.Goals as goal
 
 pub returns-in-Some : goal.returns-in-Some
 returns-in-Some g c =

@@ -2,7 +2,7 @@ use Rattle.std.proofs.Common.{Some, sym, ap, ◌∙◌, option_map}
 use Rattle.net_view.specs.Readers.{member_shown, MemberParts}
 use Rattle.network_tables.specs.Table.{entry_now}
 use Rattle.quick_view.proofs.ReadLemmas.{no_room, no_member, member_there, never_unknown}
-use Rattle.quick_view.proofs.quick_view.QuickViewNetworkView.member_at.Goals as goal
+use Rattle.quick_view.proofs.table_view.TableViewNetworkView.member_at.Goals as goal
 
 pub returns-in_default : goal.returns-in_default
 returns-in_default g c =

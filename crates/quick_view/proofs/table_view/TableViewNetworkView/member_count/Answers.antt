@@ -5,7 +5,7 @@ use Rattle.net_view.specs.View.{Channel}
 use Rattle.net_view.specs.Readers.{channel_shown}
 use Rattle.network_tables.specs.Table.{entry_now}
 use Rattle.quick_view.proofs.ReadLemmas.{room_shown}
-use Rattle.quick_view.proofs.quick_view.QuickViewNetworkView.member_count.Goals as goal
+use Rattle.quick_view.proofs.table_view.TableViewNetworkView.member_count.Goals as goal
 
 pub returns-in-Some : goal.returns-in-Some
 returns-in-Some g c =

@@ -8,7 +8,7 @@ use Rattle.net_view.proofs.Commands.{is_read}
 use Rattle.quick_view.specs.Kept.{view_kept}
 use Rattle.network_tables.proofs.Outcomes.{on_ok}
 use Rattle.quick_view.proofs.TakeLemmas.{after_line, line_taken, loss_taken, still_from_lines}
-use Rattle.quick_view.proofs.quick_view.QuickViewNetworkView.take.Goals as goal
+use Rattle.quick_view.proofs.table_view.TableViewNetworkView.take.Goals as goal
 
 pub invariant_of-self : goal.invariant_of-self
 invariant_of-self g c =
