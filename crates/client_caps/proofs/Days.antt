@@ -1,20 +1,19 @@
 -- The days of the calendar, counted one by one.
-use Rattle.std.proofs.Common.{◌≡◌, ℕ, zero, suc, ◌+◌, ◌<◌, ◌≤◌, inl, inr, true, false, refl, sym}
-use Rattle.std.proofs.Common.{◌∙◌, arith, ℤ, pos, unsigned_abs, nat_lt, cond, subst, ap}
-use Rattle.std.proofs.lemmas.Int.{by_lt_z}
-use Rattle.std.proofs.lemmas.Bool.Decides.{nat_tests}
-use Rattle.std.specs.Int.{IsInRange}
-use Rattle.std.proofs.lemmas.Bool.{cases_order}
-use Rattle.jiff_core.specs.Calendar.{IsCivilDate, IsYear, day_count, days_from_civil, days_in_month}
+use Rattle.client_caps.proofs.Words.{◌+◌, ◌<◌, ◌∙◌, ◌≡◌, ◌≤◌, Date, ap, arith, inl}
+use Rattle.client_caps.proofs.Words.{inr, nat_tests, refl, subst, suc, sym, zero, ℕ}
+use Rattle.jiff_core.specs.declared.civil.date.Date as civil
+use Rattle.client_caps.specs.{Moment.date_of, Moment.day_after}
 use Rattle.jiff_core.proofs.CalendarLemmas.{day_count-day, day_count-lt_month, day_count-lt_year}
 use Rattle.jiff_core.proofs.CalendarLemmas.{day_count-epoch, days_from_civil-day_count}
 use Rattle.jiff_core.proofs.CalendarLemmas.{days_in_month_bounds}
 use Rattle.jiff_core.proofs.DateLemmas.{days_from_civil-day, days_from_civil-next_month}
 use Rattle.jiff_core.proofs.DateLemmas.{days_from_civil-next_year}
-use Rattle.jiff_core.proofs.SignedLemmas.{signed_arith}
-use Rattle.jiff_core.specs.declared.civil.date.Date as civil
-use Rattle.jiff_core.specs.Date.{epoch_day}
-use Rattle.client_caps.specs.Moment.{Date, date_of, day_after}
+use Rattle.jiff_core.proofs.{SignedLemmas.signed_arith}
+use Rattle.jiff_core.specs.Calendar.{IsCivilDate, IsYear, day_count, days_from_civil, days_in_month}
+use Rattle.jiff_core.specs.{Date.epoch_day}
+use Rattle.std.proofs.Common.{ℤ, pos, unsigned_abs}
+use Rattle.std.proofs.{lemmas.Int.by_lt_z, lemmas.Bool.cases_order}
+use Rattle.std.specs.{Int.IsInRange}
 
 -- a date of the calendar, and its day number
 pub record IsDay (n : ℕ) (date : Date) : Type 0 where
@@ -67,29 +66,15 @@ day_after_is n date is =
     let y = date.year in
     let m = date.month in
     let d = date.day in
-    let ds = days_in_month (pos y) m in
-    let month_is = is.month in
-    let day_is = is.day in
-    elim (nat_lt d ds) as (λ b. nat_lt d ds ≡ b
-    → IsDay (suc n) (cond b (record { year = y; month = m; day = d + 1 })
-    (cond (nat_lt m 12) (record { year = y; month = m + 1; day = 1 })
-    (record { year = y + 1; month = 1; day = 1 })))) [
-      | true ↦ λ e.
-          let lt : d < ds = grind (arith, nat_tests) in
-          next_day n y m d is.number is.month is.day.0 lt
-      | false ↦ λ e.
-          let last : d ≡ ds = grind (arith, nat_tests) in
-          elim (nat_lt m 12) as (λ b. nat_lt m 12 ≡ b
-          → IsDay (suc n) (cond b (record { year = y; month = m + 1; day = 1 })
-          (record { year = y + 1; month = 1; day = 1 }))) [
-            | true ↦ λ f.
-                let lt : m < 12 = grind (arith, nat_tests) in
-                next_month n y m d is.number is.month.0 lt last
-            | false ↦ λ f.
-                let twelve : m ≡ 12 = grind (arith, nat_tests) in
-                next_year n y m d is.number twelve last
-          ] refl
-    ] refl
+    grind (
+      arith,
+      nat_tests,
+      is.month,
+      is.day,
+      next_day n y m d is.number is.month is.day.0,
+      next_month n y m d is.number is.month.0,
+      next_year n y m d is.number,
+    )
 
 pub days_count : (n : ℕ) → IsDay n (date_of n)
 unfolding date_of

@@ -2,7 +2,7 @@
 -- negotiation) and PING (RFC 2812, section 3.7.2). Commands and subcommands are compared without
 -- regard to the case of ASCII letters. Our name, the text of 410 and that a PONG has the first
 -- parameter of the PING alone are our own choice.
-use Rattle.std.specs.Prelude.{Bool, true, false, List, [], ◌∷◌, ◌++◌, codes, slice_get, take}
+use Rattle.std.specs.Prelude.{Bool, false, List, [], ◌∷◌, codes, filter, map, slice_get, take}
 use Rattle.std.specs.Prelude.{Option, Some, None, if◌then◌else◌, unwrap_or}
 use Rattle.std.specs.List.{join_with_byte}
 use Rattle.std.specs.Option.{option_map_or}
@@ -10,7 +10,7 @@ use Rattle.std.specs.Str.{str_eq_ignore_ascii_case}
 use Rattle.irc_line.specs.Line.{Parts, has_command}
 use Rattle.irc_line.specs.Writing.{untagged_line}
 use Rattle.irc_support.specs.Text.{Text}
-use Rattle.client_caps.specs.Caps.{Caps, cap_names}
+use Rattle.client_caps.specs.Caps.{Caps, cap_name, cap_names, holds, offered_caps}
 use Rattle.client_caps.specs.Images.{word_at}
 use Rattle.client_caps.specs.declared.answers.Asked.{Asked}
 use Rattle.client_caps.specs.declared.answers.Asked.TheVariants.{Offered, Held, Change, End}
@@ -54,20 +54,9 @@ name_shown nick = unwrap_or nick (codes "*")
 abbrev pub cap_line : Option Text → Text → Text → Parts
 cap_line nick word text = from_bouncer (codes "CAP") (name_shown nick ∷ word ∷ text ∷ [])
 
--- a name, where it is held
-abbrev pub named : Bool → Text → List Text
-named true name = name ∷ []
-named false name = []
-
 -- the names of those that are held, in the order in which they are offered
 abbrev pub names_held : Caps → List Text
-names_held caps =
-    named caps.multi_prefix (codes "multi-prefix")
-    ++ (named caps.extended_join (codes "extended-join")
-    ++ (named caps.account_notify (codes "account-notify")
-    ++ (named caps.away_notify (codes "away-notify")
-    ++ (named caps.server_time (codes "server-time")
-    ++ named caps.batch (codes "batch")))))
+names_held caps = map cap_name (filter (holds caps) offered_caps)
 
 -- the subcommand that was not known, where it is a word
 abbrev pub subcommand_shown : Parts → Text

@@ -12,11 +12,9 @@ ghost use Rattle.net_view.specs.StateLines.{is_state_line};
 ghost use Rattle.client_caps.specs.Caps.{Caps};
 ghost use Rattle.client_caps.specs.Answers.{answer_to, asked, asked_by_cap, asked_text, cap_line};
 ghost use Rattle.client_caps.specs.Answers.{from_bouncer, has_subcommand, name_shown, names_held};
-ghost use Rattle.client_caps.specs.Answers.{named, pong_line, subcommand_shown};
+ghost use Rattle.client_caps.specs.Answers.{pong_line, subcommand_shown};
 
-use crate::caps::{
-    ACCOUNT_NOTIFY, AWAY_NOTIFY, BATCH, Caps, EXTENDED_JOIN, MULTI_PREFIX, SERVER_TIME,
-};
+use crate::caps::{Cap, Caps};
 use irc_line::Line;
 use net_view::{OutOfMemory, is_word};
 use std::alloc::Allocator;
@@ -140,32 +138,16 @@ fn cap_line<B: Allocator + Drop>(
     from_bouncer(alloc, b"CAP", &[name, word, text])
 }
 
-/// Adds a name to others, where it is held.
-fn push_held<'a, B: Allocator>(
-    names: &mut Vec<&'a [u8], B>,
-    name: &'a [u8],
-    is_held: bool,
-) -> Result<(), OutOfMemory>
-    ensures { OnOk result (map (λ n. n.now) names.new.items
-        ≡ map (λ n. n.now) names.old.items ++ named is_held name.now) }
-{
-    if is_held {
-        names.push(name)?;
-    }
-    Ok(())
-}
-
 /// The names of the capabilities that are held, in the order in which they are offered.
 fn names_held<B: Allocator>(alloc: B, held: Caps) -> Result<Vec<&'static [u8], B>, OutOfMemory>
     ensures { IfOk result (λ names. map (λ n. n.now) names.items ≡ names_held held) }
 {
-    let mut names = Vec::with_capacity(alloc, 6)?;
-    push_held(&mut names, MULTI_PREFIX, held.multi_prefix)?;
-    push_held(&mut names, EXTENDED_JOIN, held.extended_join)?;
-    push_held(&mut names, ACCOUNT_NOTIFY, held.account_notify)?;
-    push_held(&mut names, AWAY_NOTIFY, held.away_notify)?;
-    push_held(&mut names, SERVER_TIME, held.server_time)?;
-    push_held(&mut names, BATCH, held.batch)?;
+    let mut names = Vec::with_capacity(alloc, Cap::ALL.len())?;
+    for cap in Cap::ALL {
+        if held.holds(cap) {
+            names.push(cap.name())?;
+        }
+    }
     Ok(names)
 }
 
@@ -185,6 +167,7 @@ fn push_word<B: Allocator>(
 }
 
 /// The words, with one space between them.
+#[tactic(auto, using(crate::proofs::JoinedTexts::joined_steps))]
 fn joined<B: Allocator>(alloc: B, words: &[&[u8]]) -> Result<Vec<u8, B>, OutOfMemory>
     ensures { IfOk result (λ text. text.items ≡ join_with_byte 32 (map (λ w. w.now) words.now)) }
 {
@@ -214,6 +197,7 @@ fn held_line<B: Allocator + Copy + Drop>(
 }
 
 /// The subcommand of a CAP, as it can stand in an answer: `*` where it is missing or no word.
+#[tactic(auto, using(crate::proofs::AnswerTexts::param_steps))]
 fn subcommand_shown<A: Allocator>(line: &Line<A>) -> &[u8]
     ensures shown { result.now ≡ subcommand_shown line.now }
     ensures word { IsTrue (is_middle result.now) }
@@ -242,6 +226,7 @@ fn unknown_line<A: Allocator, B: Allocator + Drop>(
 }
 
 /// `:bnc PONG bnc x`.
+#[tactic(auto, using(crate::proofs::AnswerTexts::param_steps))]
 fn pong_line<A: Allocator, B: Allocator + Drop>(
     alloc: B,
     line: &Line<A>,
@@ -297,6 +282,7 @@ pub fn answer<A: Allocator, B: Allocator + Copy + Drop>(
 }
 
 /// No view reads an answer: none is a state line.
+#[tactic(auto, unfolding(net_view::specs::StateLines::state_lines))]
 pub fn answers_tell_nothing()
     ensures { (nick : Option Text) (held : Caps) (granted : Bool) (line : Parts) →
         IfSome (answer_to nick held granted line) (λ answer. is_state_line answer ≡ false) }

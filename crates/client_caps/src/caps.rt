@@ -1,10 +1,64 @@
 //! The capabilities that a client can hold.
 
 ghost use Rattle.std.specs.Prelude.{◌≡◌, option_map, slice_get};
-ghost use Rattle.client_caps.specs.Caps.{cap_names, holds, no_caps, with_cap};
+ghost use Rattle.client_caps.specs.Caps.{cap_name, cap_named, cap_names, holds, no_caps, with_cap};
 
-/// Which capabilities a client holds (IRCv3 capability negotiation). The six have places from 0 to
-/// 5, in the order in which they are offered.
+/// A capability (IRCv3 capability negotiation).
+#[derive(Clone, Copy, Debug, PartialEq, Eq)]
+pub enum Cap {
+    /// `multi-prefix`.
+    MultiPrefix,
+    /// `extended-join`.
+    ExtendedJoin,
+    /// `account-notify`.
+    AccountNotify,
+    /// `away-notify`.
+    AwayNotify,
+    /// `server-time`.
+    ServerTime,
+    /// `batch`.
+    Batch,
+}
+
+impl Cap {
+    /// The six, in the order in which they are offered.
+    pub const ALL: [Cap; 6] = [
+        Cap::MultiPrefix,
+        Cap::ExtendedJoin,
+        Cap::AccountNotify,
+        Cap::AwayNotify,
+        Cap::ServerTime,
+        Cap::Batch,
+    ];
+
+    /// The name, as in `CAP LS`.
+    pub fn name(self) -> &'static [u8]
+        ensures { result.now ≡ cap_name self }
+    {
+        match self {
+            Cap::MultiPrefix => b"multi-prefix",
+            Cap::ExtendedJoin => b"extended-join",
+            Cap::AccountNotify => b"account-notify",
+            Cap::AwayNotify => b"away-notify",
+            Cap::ServerTime => b"server-time",
+            Cap::Batch => b"batch",
+        }
+    }
+
+    /// The capability of this name, in lower case; `None` if it is none of the six.
+    pub(crate) fn named(name: &[u8]) -> Option<Cap>
+        ensures { result ≡ cap_named name.now }
+    {
+        for cap in Cap::ALL {
+            if name == cap.name() {
+                return Some(cap);
+            }
+        }
+        None
+    }
+}
+
+/// Which capabilities a client holds.
 #[derive(Clone, Copy, Debug, PartialEq, Eq)]
 pub struct Caps {
     /// All symbols of a member in a name list, and not the highest alone (IRCv3 multi-prefix).
@@ -22,18 +76,6 @@ pub struct Caps {
     pub batch: bool,
 }
 
-pub(crate) const MULTI_PREFIX: &[u8] = b"multi-prefix";
-
-pub(crate) const EXTENDED_JOIN: &[u8] = b"extended-join";
-
-pub(crate) const ACCOUNT_NOTIFY: &[u8] = b"account-notify";
-
-pub(crate) const AWAY_NOTIFY: &[u8] = b"away-notify";
-
-pub(crate) const SERVER_TIME: &[u8] = b"server-time";
-
-pub(crate) const BATCH: &[u8] = b"batch";
-
 impl Caps {
     /// No capability.
     pub const fn none() -> Caps
@@ -49,50 +91,39 @@ impl Caps {
         }
     }
 
-    /// The name of the capability at this place, as in `CAP LS`; `None` from 6 on.
+    /// The name of the capability at this place of [`Cap::ALL`]; `None` from 6 on.
     pub fn name(place: usize) -> Option<&'static [u8]>
         ensures { option_map (λ name. name.now) result ≡ slice_get cap_names place }
     {
-        match place {
-            0 => Some(MULTI_PREFIX),
-            1 => Some(EXTENDED_JOIN),
-            2 => Some(ACCOUNT_NOTIFY),
-            3 => Some(AWAY_NOTIFY),
-            4 => Some(SERVER_TIME),
-            5 => Some(BATCH),
-            _ => None,
+        Some(Cap::ALL.get(place)?.name())
+    }
+
+    /// Whether the capability is held.
+    pub fn holds(self, cap: Cap) -> bool
+        ensures { result ≡ holds self cap }
+    {
+        match cap {
+            Cap::MultiPrefix => self.multi_prefix,
+            Cap::ExtendedJoin => self.extended_join,
+            Cap::AccountNotify => self.account_notify,
+            Cap::AwayNotify => self.away_notify,
+            Cap::ServerTime => self.server_time,
+            Cap::Batch => self.batch,
         }
     }
 
-    /// Whether the capability at this place is held; never from 6 on.
-    pub fn holds(self, place: usize) -> bool
-        ensures { result ≡ holds self place }
+    /// The same with the capability held, or not held.
+    pub fn with(mut self, cap: Cap, held: bool) -> Caps
+        ensures { result ≡ with_cap self cap held }
     {
-        match place {
-            0 => self.multi_prefix,
-            1 => self.extended_join,
-            2 => self.account_notify,
-            3 => self.away_notify,
-            4 => self.server_time,
-            5 => self.batch,
-            _ => false,
+        match cap {
+            Cap::MultiPrefix => self.multi_prefix = held,
+            Cap::ExtendedJoin => self.extended_join = held,
+            Cap::AccountNotify => self.account_notify = held,
+            Cap::AwayNotify => self.away_notify = held,
+            Cap::ServerTime => self.server_time = held,
+            Cap::Batch => self.batch = held,
         }
-    }
-
-    /// The same with the capability at this place held, or not held. From 6 on nothing changes.
-    pub(crate) fn with(self, place: usize, held: bool) -> Caps
-        ensures { result ≡ with_cap self place held }
-    {
-        let mut caps = self;
-        match place {
-            0 => caps.multi_prefix = held,
-            1 => caps.extended_join = held,
-            2 => caps.account_notify = held,
-            3 => caps.away_notify = held,
-            4 => caps.server_time = held,
-            5 => caps.batch = held,
-            _ => {}
-        }
-        caps
+        self
     }
 }

@@ -95,6 +95,7 @@ fn push_space<A: Allocator>(is_first: bool, out: &mut Vec<u8, A>) -> Result<(), 
 }
 
 /// The words of a `353`, each with the highest of its symbols alone, and one space between them.
+#[tactic(auto, using(crate::proofs::JoinedTexts::joined_steps))]
 fn highest_names<V: NetworkView, A: Allocator, B: Allocator>(
     alloc: B,
     view: &V,
@@ -268,6 +269,7 @@ fn sent_as<V: NetworkView, A: Allocator, B: Allocator + Copy + Drop>(
 /// of that form, else the moment (IRCv3 multi-prefix, extended-join, account-notify, away-notify,
 /// server-time). A line that is sent as it is takes one allocation. `OutOfMemory` is told where an
 /// allocation was refused, and for no other cause.
+#[tactic(auto, unfolding(crate::specs::Images::image_of))]
 pub fn image<V: NetworkView, A: Allocator, B: Allocator + Copy + Drop>(
     alloc: B,
     view: &V,
@@ -290,6 +292,7 @@ pub fn image<V: NetworkView, A: Allocator, B: Allocator + Copy + Drop>(
 }
 
 /// Adds that we leave the channel at a place, where there is one.
+#[tactic(auto, using(crate::proofs::ImageMade::one_part))]
 fn push_part<V: NetworkView, A: Allocator + Copy + Drop>(
     alloc: A,
     view: &V,
@@ -310,6 +313,7 @@ fn push_part<V: NetworkView, A: Allocator + Copy + Drop>(
 /// What a client is sent for a loss of the connection: that we leave each channel, as
 /// `:Me PART #c`, in the order of the channels' keys. The view is the one before the loss.
 /// `OutOfMemory` is told where an allocation was refused, and for no other cause.
+#[tactic(auto, using(crate::proofs::ImageMade::part_steps))]
 pub fn part_lines<V: NetworkView, A: Allocator + Copy + Drop>(
     alloc: A,
     view: &V,

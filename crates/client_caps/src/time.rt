@@ -77,6 +77,7 @@ fn hour_text(ms: u32) -> [u8; 13]
 /// A moment as the tag `time` has it, in UTC and to the millisecond: 24 bytes, as
 /// `2000-02-29T00:00:00.007Z` (IRCv3 server-time). A moment that comes after
 /// `9999-12-31T23:59:59.999Z` counts as that one (our own choice). Takes no memory.
+#[tactic(auto, using(crate::proofs::TimeText::time_formed, crate::proofs::TimeText::time_tagged), unfolding(crate::specs::Moment::time_text_of))]
 pub fn time_text(moment: Moment) -> [u8; 24]
     ensures text { result ≡ time_text_of moment.0 }
     // It has the form of a time, and can stand in a tag.
@@ -92,6 +93,7 @@ pub fn time_text(moment: Moment) -> [u8; 24]
 }
 
 /// The tag that says when a line came: its own time, where it has one, else the moment's.
+#[tactic(auto, using(crate::proofs::TimeText::time_found))]
 pub fn time_tag<A: Allocator>(line: &Line<A>, moment: Moment) -> [u8; 29]
     ensures { result ≡ codes "time=" ++ unwrap_or (time_of line.now) (time_text_of moment.0) }
 {
@@ -104,7 +106,7 @@ pub fn time_tag<A: Allocator>(line: &Line<A>, moment: Moment) -> [u8; 29]
 }
 
 /// When a line came, as tags tell it: its own time, where it has one, else the moment's; 24 bytes.
-#[tactic(auto, using(crate::proofs::TimeText::shown_tagged))]
+#[tactic(auto, using(crate::proofs::TimeText::shown_tagged, crate::proofs::TimeText::time_found))]
 pub fn shown_time<A: Allocator>(line: &Line<A>, moment: Moment) -> [u8; 24]
     ensures time { result ≡ unwrap_or (time_of line.now) (time_text_of moment.0) }
     ensures tag { IsTrue (list_all is_tag_byte
