@@ -1,50 +1,180 @@
--- Entries are put into the groups of their channels.
-use Rattle.std.proofs.Common.{◌≡◌, ℕ, zero, suc, ◌+◌, ◌<◌, ◌≤◌, inl, inr, List}
-use Rattle.std.proofs.Common.{[], ◌∷◌, ◌++◌}
-use Rattle.std.proofs.Common.{Option, Some, None, refl, sym, ap, ◌∙◌, arith, map, take, drop}
-use Rattle.std.proofs.Common.{length, get_or}
-use Rattle.std.proofs.Common.{slice_index_or, slice_set}
-use Rattle.std.specs.Prelude.{option_to_list}
-use Rattle.std.specs.List.{fold, slice_get}
-use Rattle.std.specs.Borrow.{Bor}
-use Rattle.std.specs.Option.{option_map}
+-- Entries are put into the groups of their channels, and what is said of these is the playback.
+use Rattle.welcome.proofs.Words
+use Words.{◌++◌, ◌+◌, ◌<◌, ◌∙◌, ◌∷◌, ◌≡◌, ◌≤◌, All-from_recursion, AllByRecursion, Arrival, Bool}
+use Words.{Bor, Caps, CaseMapping, Channel, EntryParts, Equal, Greater, Less, List, Ordering, Parts}
+use Words.{Text, View, [], ap, append-nil, append_assoc, arith, backlog_of, backlogs_of, batch_name}
+use Words.{below_all, bytes_cmp, bytes_exact, channel_names_of, channel_shown, codes, cond, drop}
+use Words.{entries_got, entry_line, enumerate_from, false, filter, filter-append, flat_map}
+use Words.{flat_map-append, fold, from_bouncer, get_or, grouped_by, inl, inr, is_for}
+use Words.{is_for_a_channel, is_same, key_by, key_of, length, length-append, length-map, list_any}
+use Words.{map, map-append, map-map, mapping_of, nat_list_cmp_total, not, option_map}
+use Words.{option_to_list, playback_of, refl, same, slice_get, slice_get_cases, slice_index_or, suc}
+use Words.{sym, take, true, view_of, view_sound, written, ℕ}
 use Rattle.std.specs.FinMap as fin
-use Rattle.std.proofs.lemmas.List.{length-map, map-append, map_more}
-use Rattle.std.proofs.lemmas.List.Sums.{fold_push}
-use Rattle.std.proofs.lemmas.Option.{slice_get_cases}
-use Rattle.irc_names.specs.declared.case_mapping.CaseMapping.{CaseMapping}
-use Rattle.irc_support.specs.Text.{Text}
-use Rattle.net_view.specs.View.{Channel, View}
-use Rattle.net_view.specs.Readers.{channel_shown}
-use Rattle.history.specs.Entry.{EntryParts}
-use Rattle.welcome.specs.Arranged.{channel_names_of, grouped_by, place_among, push_at}
-use Rattle.welcome.proofs.Places.{take_next}
+use Rattle.{client_caps.proofs.JoinedTexts.next_left, std.proofs.Common.{Err, replicate, slice_set}}
+use Rattle.std.proofs.{Common.zero, lemmas.List.{drop-map, get_or-map, map_more}}
+use Rattle.std.proofs.lemmas.List.{Kept.AllPairs-cons, Recursion.is_position_or_len}
+use Rattle.std.proofs.lemmas.List.{Sorted.searchable_from_sorted, Sums.fold_push}
+use Rattle.std.proofs.lemmas.{List.Sums.position_or_len_is, Option.slice_get-map, Simd.splat_is_map}
+use Rattle.std.specs.{List.{AllPairs, position_or_len, Sorted.IsBinarySearchResult}, Ordering.is_eq}
+use Rattle.welcome.{proofs.{EachOf.each_mapped, Places.take_next}, specs.Arranged.AreInKeyOrder}
+use Rattle.welcome.specs.Arranged.{arranged_of, groups_of, place_among, push_at}
+
+-- ---- lines said one behind the other
+
+-- one more line
+pub said_next : (before now then : Text) (done : List Parts) (line : Parts)
+    → now ≡ before ++ flat_map written done → then ≡ now ++ written line
+    → then ≡ before ++ flat_map written (done ++ line ∷ [])
+said_next before now then done line is e =
+    rw (e, is) (simp (append_assoc, flat_map-append, append-nil))
+
+-- four lines
+pub four_said : (said : Parts → Text) (t0 t1 t2 t3 t4 : Text) (a b c d : Parts)
+    → t1 ≡ t0 ++ said a → t2 ≡ t1 ++ said b → t3 ≡ t2 ++ said c → t4 ≡ t3 ++ said d
+    → t4 ≡ t0 ++ flat_map said (a ∷ b ∷ c ∷ d ∷ [])
+four_said said t0 t1 t2 t3 t4 a b c d e1 e2 e3 e4 =
+    rw (e4, e3, e2, e1) (simp (append_assoc, append-nil))
+
+-- a line, three blocks and a line
+pub block : (said : Parts → Text) (t0 t1 t2 t3 t4 t5 : Text) (first last : Parts)
+    (xs ys zs : List Parts)
+    → t1 ≡ t0 ++ said first → t2 ≡ t1 ++ flat_map said xs → t3 ≡ t2 ++ flat_map said ys
+    → t4 ≡ t3 ++ flat_map said zs → t5 ≡ t4 ++ said last →
+    t5 ≡ t0 ++ flat_map said (first ∷ (xs ++ (ys ++ (zs ++ last ∷ []))))
+block said t0 t1 t2 t3 t4 t5 first last xs ys zs e1 e2 e3 e4 e5 =
+    rw (e5, e4, e3, e2, e1) (simp (append_assoc, flat_map-append, append-nil))
+
+-- ---- the messages of a channel as bytes
+
+-- what is lent of entries
+pub lent_mapped : {X : Type 0} (f : EntryParts → X) (es : List (Bor EntryParts))
+    → map (λ (e : Bor EntryParts). f e.now) es ≡ map f (map (λ (e : Bor EntryParts). e.now) es)
+lent_mapped f es = sym (map-map f (λ (e : Bor EntryParts). e.now) es)
+
+pub around : (said : Parts → Text) (t0 t1 t2 t3 : Text) (first last : Parts) (xs : List Parts)
+    → t1 ≡ t0 ++ said first → t2 ≡ t1 ++ flat_map said xs → t3 ≡ t2 ++ said last
+    → t3 ≡ t0 ++ flat_map said (first ∷ (xs ++ last ∷ []))
+around said t0 t1 t2 t3 first last xs e1 e2 e3 =
+    rw (e3, e2, e1) (simp (append_assoc, flat_map-append, append-nil))
+
+pub plain_backlog : (caps : Caps) (place : ℕ) (name : Text) (es : List (Bor EntryParts))
+    → caps.batch ≡ false → map (λ (e : Bor EntryParts). entry_line caps [] e.now) es
+    ≡ backlog_of caps place name (map (λ (e : Bor EntryParts). e.now) es)
+plain_backlog caps place name [] b = refl
+plain_backlog caps place name (e ∷ es) b = rw b (lent_mapped (entry_line caps []) (e ∷ es))
+
+-- ---- what is put into the groups of the channels is the playback
+
+-- the key of whom or what an entry is for
+abbrev pub key_in : View → EntryParts → Text
+key_in v e = key_by v.settings e.target
+
+-- each channel is kept by its name's key
+abbrev pub AreKeyed : View → List (Text × Channel) → Type 0
+AreKeyed v cs = AllByRecursion (λ (c : Text × Channel). key_by v.settings c.1.name ≡ c.0) cs
+
+abbrev pub names_in : List (Text × Channel) → List Text
+names_in cs = map (λ (c : Text × Channel). c.1.name) cs
+
+abbrev in_groups : View → List EntryParts → List (Text × Channel) → List (List EntryParts)
+in_groups v es cs = map (λ (c : Text × Channel). filter (is_for v c.0) es) cs
+
+-- an entry of a lesser key is for none of these channels
+others : (v : View) (es : List EntryParts) (e : EntryParts) (cs : List (Text × Channel))
+    → below_all bytes_cmp (key_in v e) cs ≡ true
+    → in_groups v (es ++ e ∷ []) cs ≡ in_groups v es cs
+others v es e [] below = refl
+others v es e (c ∷ cs) below =
+    let next = filter-append (is_for v c.0) es (e ∷ []) in
+    grind (arith, next, append-nil, others v es e cs)
+
+-- one entry more
+pushed_in : (v : View) (es : List EntryParts) (e : EntryParts) (cs : List (Text × Channel))
+    (rest : List EntryParts) → fin.is_sorted bytes_cmp cs ≡ true → AreKeyed v cs →
+    push_at (place_among (mapping_of v.settings) e.target (names_in cs)) e
+    (in_groups v es cs ++ rest ∷ [])
+    ≡ in_groups v (es ++ e ∷ []) cs
+    ++ cond (list_any (same (key_in v e)) (map (λ (c : Text × Channel). c.0) cs)) rest
+    (rest ++ e ∷ []) ∷ []
+pushed_in v es e [] rest sorted keyed = refl
+pushed_in v es e (c ∷ cs) rest sorted keyed =
+    let place : ℕ = place_among (mapping_of v.settings) e.target (names_in cs) in
+    let later : place + 1 ≡ suc place = omega arith in
+    let more = pushed_in v es e cs rest (grind arith) keyed.1 in
+    let next = filter-append (is_for v c.0) es (e ∷ []) in
+    let same = is_same (key_in v e) c.0 in
+    grind (arith, later, keyed.0, sorted, same, next, others v es e cs, append-nil, more)
+
+-- the entries that are for no channel
+abbrev pub left_over : View → List EntryParts → List EntryParts
+left_over v es = filter (λ e. not (is_for_a_channel v e)) es
+
+pushed_next : (v : View) (es : List EntryParts) (e : EntryParts)
+    → AreKeyed v (fin.entries v.channels) →
+    push_at (place_among (mapping_of v.settings) e.target (channel_names_of v)) e (groups_of v es)
+    ≡ groups_of v (es ++ e ∷ [])
+pushed_next v es e keyed =
+    let cs = fin.entries v.channels in
+    let sorted : fin.is_sorted bytes_cmp cs ≡ true = grind (arith, fin.entries_sorted v.channels) in
+    let next = pushed_in v es e cs (left_over v es) sorted keyed in
+    let left = filter-append (λ e. not (is_for_a_channel v e)) es (e ∷ []) in
+    grind (arith, next, fin.contains_key-keys v.channels (key_in v e), left, append-nil)
+
+folded : (v : View) (done es : List EntryParts) → AreKeyed v (fin.entries v.channels) →
+    fold (λ groups (e : EntryParts).
+    push_at (place_among (mapping_of v.settings) e.target (channel_names_of v)) e groups)
+    (groups_of v done) es ≡ groups_of v (done ++ es)
+folded v done [] keyed = ap (groups_of v) (sym (append-nil done))
+folded v done (e ∷ es) keyed =
+    let next = folded v (done ++ e ∷ []) es keyed in
+    rw (pushed_next v done e keyed) (rw append_assoc at next)
+
+-- the groups are those of the channels
+pub grouped_right : (v : View) (entries : List EntryParts) → AreKeyed v (fin.entries v.channels)
+    → grouped_by (mapping_of v.settings) (channel_names_of v) entries ≡ groups_of v entries
+grouped_right v entries keyed =
+    simp map-map (folded v [] entries keyed)
+
+-- ---- the playback of the groups
+
+backlogs_are : (v : View) (caps : Caps) (es rest : List EntryParts) (place : ℕ)
+    (cs : List (Text × Channel)) →
+    backlogs_of caps place (names_in cs) (in_groups v es cs ++ rest ∷ [])
+    ≡ flat_map (λ (at : ℕ
+    × (Text × Channel)). backlog_of caps at.0 at.1.1.name (filter (is_for v at.1.0) es))
+    (enumerate_from place cs)
+backlogs_are v caps es rest place [] = refl
+backlogs_are v caps es rest place (c ∷ cs) =
+    ap (λ t. backlog_of caps place c.1.name (filter (is_for v c.0) es) ++ t)
+    (backlogs_are v caps es rest (place + 1) cs)
+
+last_is : (v : View) (es rest : List EntryParts) (cs : List (Text × Channel))
+    → slice_index_or (in_groups v es cs ++ rest ∷ []) (length (names_in cs)) [] ≡ rest
+last_is v es rest [] = refl
+last_is v es rest (c ∷ cs) = last_is v es rest cs
+
+-- what is written of the groups is the playback
+pub arranged_right : (v : View) (caps : Caps) (entries : List EntryParts)
+    → AreKeyed v (fin.entries v.channels) →
+    arranged_of caps (channel_names_of v)
+    (grouped_by (mapping_of v.settings) (channel_names_of v) entries)
+    ≡ playback_of v caps entries
+unfolding playback_of
+arranged_right v caps entries keyed =
+    let cs = fin.entries v.channels in
+    let last = last_is v entries (left_over v entries) cs in
+    rw (grouped_right v entries keyed, backlogs_are v caps entries (left_over v entries) 0 cs, last)
 
 -- ---- the names
 
-get_mapped : {X Y : Type 0} (f : X → Y) (xs : List X) (i : ℕ)
-    → slice_get (map f xs) i ≡ option_map f (slice_get xs i)
-get_mapped f [] i = refl
-get_mapped f (x ∷ xs) zero = refl
-get_mapped f (x ∷ xs) (suc i) = get_mapped f xs i
+pub name_at : (v : View) (i : ℕ) → slice_get (channel_names_of v) i
+    ≡ option_map (λ (ch : Channel). ch.name) (channel_shown v i)
+name_at v i =
+    grind (arith, slice_get-map (λ (e : Text × Channel). e.1.name) (fin.entries v.channels) i)
 
-twice : (o : Option (Text × Channel))
-    → option_map (λ (e : Text × Channel). e.1.name) o
-    ≡ option_map (λ (ch : Channel). ch.name) (option_map (λ (e : Text × Channel). e.1) o)
-twice None = refl
-twice (Some e) = refl
-
-pub name_next : (v : View) (i : ℕ) (before now : List Text)
-    → before ≡ take i (channel_names_of v)
-    → now ≡ before ++ option_to_list (option_map (λ (ch : Channel). ch.name) (channel_shown v i))
-    → now ≡ take (i + 1) (channel_names_of v)
-name_next v i before now is e =
-    e ∙ ap (λ t. t ++ option_to_list
-    (option_map (λ (ch : Channel). ch.name) (channel_shown v i))) is
-    ∙ ap (λ o. take i (channel_names_of v) ++ option_to_list o)
-    (sym (get_mapped (λ (e : Text × Channel). e.1.name) (fin.entries v.channels) i
-    ∙ twice (slice_get (fin.entries v.channels) i)))
-    ∙ sym (take_next (channel_names_of v) i)
+-- a loop over the names
+pub ruleset name_steps = (name_at, take_next)
 
 -- the texts that these are lent of
 abbrev pub texts_of : List (Bor Text) → List Text
@@ -52,12 +182,7 @@ texts_of names = map (λ (name : Bor Text). name.now) names
 
 pub dropped : {X Y : Type 0} (f : X → Y) (xs : List X) (i : ℕ) (d : X) → i < length xs
     → drop i (map f xs) ≡ f (slice_index_or xs i d) ∷ drop (i + 1) (map f xs)
-dropped f [] i d within = absurd (omega (within, arith))
-dropped f (x ∷ xs) zero d within = refl
-dropped f (x ∷ xs) (suc i) d within =
-    let next : suc (i + 1) ≡ suc i + 1 = omega arith in
-    dropped f xs i d (omega (within, arith))
-    ∙ ap (λ k. f (slice_index_or xs i d) ∷ drop k (map f (x ∷ xs))) next
+dropped f xs i d within = simp drop-map (next_left f xs i d within)
 
 -- ---- the group at a place
 
@@ -65,10 +190,8 @@ pub pushed : {X Y : Type 0} (f : Y → List X) (gs : List Y) (place : ℕ) (g no
     → place < length gs → g ≡ slice_index_or gs place g → f now ≡ f g ++ x ∷ []
     → map f (slice_set gs place now) ≡ push_at place x (map f gs)
 pushed f [] place g now x within at e = absurd (omega (within, arith))
-pushed f (h ∷ gs) zero g now x within at e =
-    ap (λ t. t ∷ map f gs) (e ∙ ap (λ y. f y ++ x ∷ []) at)
-pushed f (h ∷ gs) (suc place) g now x within at e =
-    ap (λ t. f h ∷ t) (pushed f gs place g now x (omega (within, arith)) at e)
+pushed f (h ∷ gs) zero g now x within at e = cc
+pushed f (h ∷ gs) (suc place) g now x within at e = simp (pushed f gs place g now x (omega (within, arith)) at e)
 
 length_pushed : {X : Type 0} (place : ℕ) (x : X) (gs : List (List X))
     → length (push_at place x gs) ≡ length gs
@@ -82,52 +205,28 @@ length_folded : (mapping : CaseMapping) (names : List Text) (entries : List Entr
     gs entries) ≡ length gs
 length_folded mapping names [] gs = refl
 length_folded mapping names (e ∷ entries) gs =
-    length_folded mapping names entries (push_at (place_among mapping e.target names) e gs)
-    ∙ length_pushed (place_among mapping e.target names) e gs
+    grind (arith, length_folded mapping names entries, length_pushed)
 
 abbrev pub no_entries : List Text → List (List EntryParts)
 no_entries names = map (λ (name : Text). []) names ++ [] ∷ []
-
-one_more : (names : List Text) → length (no_entries names) ≡ length names + 1
-one_more [] = refl
-one_more (name ∷ names) =
-    let next : length (no_entries names) ≡ length names + 1 = one_more names in omega (next, arith)
-
-pub length_grouped : (mapping : CaseMapping) (names : List Text) (entries : List EntryParts)
-    → length (grouped_by mapping names entries) ≡ length names + 1
-length_grouped mapping names entries =
-    length_folded mapping names entries (map (λ (name : Text). []) names ++ [] ∷ [])
-    ∙ one_more names
 
 pub has_place : {Y : Type 0} (f : Y → List EntryParts) (gs : List Y) (mapping : CaseMapping)
     (names : List (Bor Text)) (entries : List EntryParts) (place : ℕ)
     → map f gs ≡ grouped_by mapping (map (λ (name : Bor Text). name.now) names) entries
     → place ≤ length names → place < length gs
 has_place f gs mapping names entries place e within =
-    let texts : List Text = map (λ (name : Bor Text). name.now) names in
-    let count : length gs ≡ length texts + 1 =
-    sym (length-map gs f) ∙ ap length e ∙ length_grouped mapping texts entries in
-    let many : length texts ≡ length names = length-map names (λ (name : Bor Text). name.now) in
-    omega (count, many, within, arith)
+    let texts = texts_of names in
+    let grouped = length_folded mapping texts entries (no_entries texts) in
+    let many = length-map names (λ (name : Bor Text). name.now) in
+    let empty = simp (length-append, length-map) at grouped in
+    omega (arith, length-map gs f, ap length e, empty, many)
 
-pub empties : (names : List (Bor Text))
-    → map (λ name. []) names ++ [] ∷ [] ≡ no_entries (map (λ (name : Bor Text). name.now) names)
-empties [] = refl
-empties (name ∷ names) = ap (λ t. [] ∷ t) (empties names)
+pub nones : (names : List (Bor Text))
+    → map (λ (name : Bor Text). []) names ≡ replicate {A = List EntryParts} (length names) []
+nones names = sym (splat_is_map names (length names) [] refl)
 
-pub empty_next : (names : List (Bor Text)) (i : ℕ) (before now : List (List EntryParts))
-    → i < length names → before ≡ map (λ (name : Bor Text). []) (take i names)
-    → now ≡ before ++ [] ∷ [] → now ≡ map (λ (name : Bor Text). []) (take (i + 1) names)
-empty_next names i before now within is e = elim (slice_get_cases names i).1 [
-  | inl found ↦
-      e ∙ ap (λ t. t ++ [] ∷ []) is
-      ∙ sym (ap (map (λ (name : Bor Text). [])) (take_next names i
-      ∙ ap (λ o. take i names ++ option_to_list o) found.2)
-      ∙ map-append (λ (name : Bor Text). []) (take i names) (_ ∷ []))
-  | inr past ↦ absurd (omega (past.0, within, arith))
-]
-
--- ---- one entry more
+-- a loop over the groups
+pub ruleset group_steps = (nones, map-append)
 
 pub grouped_next : (mapping : CaseMapping) (names : List Text) (entries : List (Bor EntryParts))
     (i place : ℕ) (e : Bor EntryParts) (target : Text) (before now : List (List EntryParts))
@@ -137,13 +236,126 @@ pub grouped_next : (mapping : CaseMapping) (names : List Text) (entries : List (
     → now ≡ push_at place e.now before
     → now ≡ grouped_by mapping names (map (λ (x : Bor EntryParts). x.now) (take (i + 1) entries))
 grouped_next mapping names entries i place e target before now within is so_far at is_place next =
-    let parts : List EntryParts = map (λ (x : Bor EntryParts). x.now) (take i entries) in
-    let more : map (λ (x : Bor EntryParts). x.now) (take (i + 1) entries) ≡ parts ++ e.now ∷ [] =
-    map_more (λ (x : Bor EntryParts). x.now) entries i e within
-    ∙ ap (λ (x : Bor EntryParts). parts ++ x.now ∷ []) (sym is) in
-    next ∙ ap (push_at place e.now) so_far
-    ∙ ap (λ n. push_at n e.now (grouped_by mapping names parts))
-    (is_place ∙ ap (λ t. place_among mapping t names) at)
-    ∙ sym (ap (grouped_by mapping names) more
-    ∙ fold_push (λ groups (x : EntryParts). push_at (place_among mapping x.target names) x groups)
-    (no_entries names) parts e.now)
+    let more = map_more (λ (x : Bor EntryParts). x.now) entries i e within in
+    cc (fold_push (λ groups (x : EntryParts). push_at (place_among mapping x.target names) x groups)
+    (no_entries names) (map (λ (x : Bor EntryParts). x.now) (take i entries)) e.now)
+
+-- ---- what a search by order finds among names in the order of their keys
+
+module _ (mapping : CaseMapping) (target : Text) where
+  -- how a name's key lies to the target's
+  abbrev pub lies : Bor Text → Ordering
+  lies name = bytes_cmp (key_of mapping name.now) (key_of mapping target)
+
+  abbrev is_it : Bor Text → Bool
+  is_it name = same (key_of mapping target) (key_of mapping name.now)
+
+  differs : (name : Bor Text) (r : Ordering) → lies name ≡ r → is_it name ≡ is_eq r
+  differs name r e =
+      grind (arith, e, nat_list_cmp_total.antisymm (key_of mapping target) (key_of mapping name.now))
+
+  -- the place is that of the first name that is it
+  place_is : (names : List (Bor Text))
+      → position_or_len is_it names ≡ place_among mapping target (texts_of names)
+  place_is names =
+      sym (is_position_or_len (λ ns. place_among mapping target (texts_of ns)) is_it refl
+      (λ name ns. ap (cond (is_it name) 0) (omega arith)) names)
+
+  abbrev Rises : Bor Text → Bor Text → Type 0
+  Rises a b = bytes_cmp (key_of mapping a.now) (key_of mapping b.now) ≡ Less
+
+  -- keys rise
+  climb : (names : List (Bor Text)) → AreInKeyOrder mapping (texts_of names)
+      → AllPairs Rises names
+  climb [] order = λ i j d less within. absurd (omega arith)
+  climb (name ∷ names) order =
+      AllPairs-cons Rises name names (All-from_recursion (Rises name) names
+      (each_mapped (λ later. bytes_cmp (key_of mapping name.now) (key_of mapping later) ≡ Less)
+      (λ (n : Bor Text). n.now) names order.0)) (climb names order.1)
+
+  -- the name whose key is the target's stands at the place
+  pub found_there : (names : List (Bor Text)) (i : ℕ) (d : Bor Text)
+      → AreInKeyOrder mapping (texts_of names) → i < length names
+      → lies (get_or names i d) ≡ Equal → i ≡ place_among mapping target (texts_of names)
+  found_there names i d order within e =
+      let key : key_of mapping (get_or names i d).now ≡ key_of mapping target =
+      bytes_exact (key_of mapping (get_or names i d).now) (key_of mapping target) e in
+      sym (position_or_len_is is_it names i d (omega arith) (λ k less.
+      differs (get_or names k d) Less (rw key at (climb names order k i d less within)))
+      (λ _. differs (get_or names i d) Equal e)) ∙ place_is names
+
+  -- where the search finds none, the target is none of the names
+  pub found_nowhere : (names : List (Bor Text)) (i : ℕ) (d : Bor Text)
+      → AreInKeyOrder mapping (texts_of names) → i ≤ length names
+      → IsBinarySearchResult lies names (Err i)
+      → length names ≡ place_among mapping target (texts_of names)
+  found_nowhere names i d order within found =
+      let parts = found (searchable_from_sorted nat_list_cmp_total
+      (λ (name : Bor Text). key_of mapping name.now) names (key_of mapping target) (λ k d low high.
+      let rises = climb names order k (k + 1) d (omega arith) high in
+      grind (arith, rises, nat_list_cmp_total.antisymm (key_of mapping (get_or names (k + 1) d).now)))) in
+      sym (position_or_len_is is_it names (length names) d (omega arith) (λ k less.
+      let name = get_or names k d in
+      let before : k < i → is_it name ≡ false =
+      λ l. differs name Less (parts.0 k d (omega arith) l) in
+      let behind : i ≤ k → is_it name ≡ false = λ l. differs name Greater (parts.1 k d l less) in
+      grind (arith, before, behind))
+      (λ no. absurd (omega arith))) ∙ place_is names
+
+-- ---- the channels' names
+
+names_above : (v : View) (key : Text) (cs : List (Text × Channel))
+    → below_all bytes_cmp key cs ≡ true → AreKeyed v cs →
+    AllByRecursion (λ later. bytes_cmp key (key_of (mapping_of v.settings) later) ≡ Less)
+    (names_in cs)
+names_above v key [] below keyed = tt
+names_above v key (c ∷ cs) below keyed =
+    (rw keyed.0 (grind arith), names_above v key cs (grind arith) keyed.1)
+
+-- the channels stand in the order of their names' keys
+pub keyed_order : (v : View) (cs : List (Text × Channel)) → fin.is_sorted bytes_cmp cs ≡ true
+    → AreKeyed v cs → AreInKeyOrder (mapping_of v.settings) (names_in cs)
+keyed_order v [] sorted keyed = tt
+keyed_order v (c ∷ cs) sorted keyed =
+    (rw keyed.0 (names_above v c.0 cs (grind arith) keyed.1), keyed_order v cs (grind arith) keyed.1)
+
+-- ---- the messages of the channels as bytes, place by place
+
+-- the messages of one channel more
+pub backlog_next : {G : Type 0} (lent : G → List EntryParts) (caps : Caps) (place : ℕ)
+    (names : List (Bor Text)) (groups : List G) (dn : Bor Text) (dg : G) (es : List EntryParts)
+    (before now all : Text) → place < length names → place < length groups →
+    before ++ flat_map written
+    (backlogs_of caps place (drop place (texts_of names)) (drop place (map lent groups))) ≡ all →
+    now ≡ before ++ flat_map written
+    (backlog_of caps place (slice_index_or names place dn).now es)
+    → es ≡ lent (slice_index_or groups place dg) →
+    now ++ flat_map written
+    (backlogs_of caps (place + 1) (drop (place + 1) (texts_of names))
+    (drop (place + 1) (map lent groups))) ≡ all
+backlog_next lent caps place names groups dn dg es before now all n k is e g =
+    let name = dropped (λ (name : Bor Text). name.now) names place dn n in
+    let group = dropped lent groups place dg k in
+    rw (e, g, append_assoc) (rw (name, group, flat_map-append) at is)
+
+-- the messages of all channels, and then the others
+pub groups_said : {G : Type 0} (lent : G → List EntryParts) (caps : Caps)
+    (names : List (Bor Text)) (groups : List G) (last : G) (others : List (Bor EntryParts))
+    (t0 t1 t2 : Text) → length names < length groups
+    → last ≡ slice_index_or groups (length names) last
+    → map (λ (e : Bor EntryParts). e.now) others ≡ lent last
+    → t1 ≡ t0 ++ flat_map written (backlogs_of caps 0 (texts_of names) (map lent groups))
+    → t2 ≡ t1 ++ flat_map written (map (λ (e : Bor EntryParts). entry_line caps [] e.now) others)
+    → t2 ≡ t0 ++ flat_map written (arranged_of caps (texts_of names) (map lent groups))
+groups_said lent caps names groups last others t0 t1 t2 within at is e1 e2 =
+    let count = length-map names (λ (name : Bor Text). name.now) in
+    let there = get_or-map lent groups (length names) last [] within in
+    rw (count, there, ← at, ← is, ← lent_mapped (entry_line caps []) others)
+    (rw (e2, e1, append_assoc, flat_map-append))
+
+-- each channel is kept by its name's key
+pub keyed_of : (v : View) (items : List Arrival) → v ≡ view_of items
+    → AreKeyed v (fin.entries v.channels)
+keyed_of v items is =
+    rw is (entries_got (λ (e : Text × Channel). key_by (view_of items).settings e.1.name ≡ e.0)
+    (view_of items).channels (λ e at. ((view_sound items).channels e.0 e.1 at).key))

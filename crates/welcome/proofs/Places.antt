@@ -1,22 +1,8 @@
 -- What stands before a place, and the next.
-use Rattle.std.proofs.Common.{◌≡◌, inl, inr, ℕ, zero, suc, ◌+◌, ◌<◌, ◌≤◌, Bool, true, false, T}
-use Rattle.std.proofs.Common.{◌&&◌, List, [], ◌∷◌, ◌++◌, Option, Some, None, refl, sym, ap, ◌∙◌}
-use Rattle.std.proofs.Common.{arith, map, take, append_assoc, append-nil}
-use Rattle.std.specs.Prelude.{option_to_list}
-use Rattle.std.specs.List.{cons_option, filter_map, slice_get}
-use Rattle.std.specs.Option.{option_and_then, option_map_or}
-use Rattle.std.specs.Ordering.{MatchOrdering, is_lt, nat_cmp}
-use Rattle.std.specs.declared.cmp.Ordering.TheVariants.{Less, Equal, Greater}
-use Rattle.std.specs.FinMap.{entries, entries_sorted, is_sorted}
-use Rattle.std.specs.FinMap.Entries.{below_all}
-use Rattle.std.proofs.lemmas.Cmp.{ranked}
-use Rattle.std.proofs.lemmas.List.{take_all, take_more, map-append}
-use Rattle.std.proofs.lemmas.List.Elements.{filter_map-append}
-use Rattle.std.proofs.lemmas.Option.{slice_get_cases}
-use Rattle.irc_support.specs.Text.{Text}
-use Rattle.net_view.specs.View.{Channel, View}
-use Rattle.net_view.specs.Readers.{channel_shown, mode_shown}
-use Rattle.welcome.specs.Lent.{modes_at}
+use Rattle.welcome.proofs.Words.{◌++◌, ◌+◌, ◌∙◌, ◌∷◌, ◌≡◌, List, Option, Text, [], ap, append-nil}
+use Rattle.welcome.proofs.Words.{arith, flat_map, flat_map-append, inl, inr, option_to_list}
+use Rattle.welcome.proofs.Words.{slice_get, slice_get_cases, sym, take, take_all, take_more, ℕ}
+pub use Rattle.net_view.proofs.{Walks.letter_at_place, Walks.mode_here}
 
 -- the items before the next place
 pub take_next : {X : Type 0} (xs : List X) (i : ℕ)
@@ -27,121 +13,12 @@ take_next xs i = elim (slice_get_cases xs i).1 [
       ∙ sym (append-nil (take i xs)))
 ]
 
--- where nothing stands at a place, all stand before it
-pub take_whole : {X : Type 0} (xs : List X) (i : ℕ) → slice_get xs i ≡ None → take i xs ≡ xs
-take_whole xs i none = elim (slice_get_cases xs i).1 [
-  | inl found ↦ absurd (not_some (sym found.2 ∙ none))
-  | inr past ↦ take_all i xs past.0
-] where
-  not_some : {A : Type 0} {x : A} → ◌≡◌ {A = Option A} (Some x) None → ⊥
-  not_some e = cc
-
--- ---- modes
+-- what the items before the next place give
+pub flat_next : {X Y : Type 0} (f : X → List Y) (xs : List X) (i : ℕ)
+    → flat_map f (take (i + 1) xs) ≡ flat_map f (take i xs) ++ flat_map f (option_to_list (slice_get xs i))
+flat_next f xs i =
+    ap (flat_map f) (take_next xs i) ∙ flat_map-append f (take i xs) (option_to_list (slice_get xs i))
 
 -- a mode: its letter and its parameter
 abbrev pub Mode : Type 0
 Mode = ℕ × Option Text
-
--- the mode at a place of a channel
-pub mode_here : (v : View) (i j : ℕ) → mode_shown v i j ≡ slice_get (modes_at v i) j
-mode_here v i j = of_channel (channel_shown v i) where
-  of_channel : (o : Option Channel)
-      → option_and_then (λ (ch : Channel). slice_get (entries ch.modes) j) o
-      ≡ slice_get (option_map_or (λ (ch : Channel). entries ch.modes) o []) j
-  of_channel None = refl
-  of_channel (Some ch) = refl
-
-below : (x y : ℕ) → T (is_lt (nat_cmp x y)) → x < y
-below x y h =
-    elim (nat_cmp x y) as (λ r. MatchOrdering r (x < y) (x ≡ y) (y < x) → T (is_lt r) → x < y) [
-      | Less ↦ λ less _. less
-      | Equal ↦ λ _ none. absurd none
-      | Greater ↦ λ _ none. absurd none
-    ] (ranked x y (nat_cmp x y) refl) h
-
-both_first : (a b : Bool) → T (a && b) → T a
-both_first true b p = tt
-both_first false b p = absurd p
-
-both_second : (a b : Bool) → T (a && b) → T b
-both_second true b p = p
-both_second false b p = absurd p
-
--- keys rise, so the one at place j is no less than j
-key_at_place : (es : List Mode) (low j letter : ℕ) (param : Option Text) → T (is_sorted nat_cmp es)
-    → ((e : Mode) → slice_get es 0 ≡ Some e → low ≤ e.0) → slice_get es j ≡ Some (letter, param)
-    → low + j ≤ letter
-key_at_place [] low j letter param rising least found = cc
-key_at_place (e ∷ es) low zero letter param rising least found =
-    let here : letter ≡ e.0 = cc in
-    let above : low ≤ e.0 = least e refl in
-    omega (here, above, arith)
-key_at_place (e ∷ es) low (suc j) letter param rising least found =
-    let next : low + 1 + j ≤ letter =
-    key_at_place es (low + 1) j letter param (both_second _ _ rising)
-    (λ f is. next_least es f is (both_first _ _ rising)) found in
-    omega (next, arith) where
-      next_least : (fs : List Mode) (f : Mode) → slice_get fs 0 ≡ Some f
-          → T (below_all nat_cmp e.0 fs) → low + 1 ≤ f.0
-      next_least [] f is all = cc
-      next_least (g ∷ gs) f is all =
-          let same : f.0 ≡ g.0 = cc in
-          let rise : e.0 < g.0 = below e.0 g.0 (both_first _ _ all) in
-          let least_here : low ≤ e.0 = least e refl in
-          omega (same, rise, least_here, arith)
-
-letter_found : (o : Option Channel) (j letter : ℕ) (param : Option Text)
-    → option_and_then (λ (ch : Channel). slice_get (entries ch.modes) j) o ≡ Some (letter, param)
-    → j ≤ letter
-letter_found None j letter param found = cc
-letter_found (Some ch) j letter param found =
-    let high =
-    key_at_place (entries ch.modes) 0 j letter param (entries_sorted ch.modes)
-    (λ e is. omega arith) found in
-    omega (high, arith)
-
--- no letter that is shown stands at a place above it
-pub letter_at_place : (v : View) (i j letter : ℕ) (param : Option Text)
-    → mode_shown v i j ≡ Some (letter, param) → j ≤ letter
-letter_at_place v i j letter param found = letter_found (channel_shown v i) j letter param found
-
--- one letter more
-pub letter_pushed : (v : View) (i j letter : ℕ) (param : Option Text) (before now : List ℕ)
-    → mode_shown v i j ≡ Some (letter, param)
-    → now ≡ before ++ map (λ (m : Mode). m.0) (take j (modes_at v i))
-    → now ++ letter ∷ [] ≡ before ++ map (λ (m : Mode). m.0) (take (j + 1) (modes_at v i))
-letter_pushed v i j letter param before now found is =
-    let xs = modes_at v i in
-    let letters : List Mode → List ℕ = map (λ (m : Mode). m.0) in
-    ap (λ t. t ++ letter ∷ []) is ∙ append_assoc before (letters (take j xs)) (letter ∷ [])
-    ∙ ap (λ t. before
-    ++ t) (sym (ap letters (take_next xs j)
-    ∙ map-append (λ (m : Mode). m.0) (take j xs) (option_to_list (slice_get xs j))
-    ∙ ap (λ (o : Option Mode). letters (take j xs)
-    ++ letters (option_to_list o)) (sym (mode_here v i j) ∙ found)))
-
--- one parameter more
-pub param_pushed : (v : View) (i j letter : ℕ) (param : Option Text) (before now : List Text)
-    → mode_shown v i j ≡ Some (letter, param)
-    → now ≡ before ++ filter_map (λ (m : Mode). m.1) (take j (modes_at v i))
-    → now ++ option_to_list param
-    ≡ before ++ filter_map (λ (m : Mode). m.1) (take (j + 1) (modes_at v i))
-param_pushed v i j letter param before now found is =
-    let xs = modes_at v i in
-    let params : List Mode → List Text = filter_map (λ (m : Mode). m.1) in
-    ap (λ t. t ++ option_to_list param) is
-    ∙ append_assoc before (params (take j xs)) (option_to_list param)
-    ∙ ap (λ t. before
-    ++ t) (sym (ap params (take_next xs j)
-    ∙ filter_map-append (λ (m : Mode). m.1) (take j xs) (option_to_list (slice_get xs j))
-    ∙ ap (λ (o : Option Mode). params (take j xs)
-    ++ params (option_to_list o)) (sym (mode_here v i j) ∙ found)
-    ∙ ap (λ t. params (take j xs) ++ t) (one param))) where
-      one : (o : Option Text) → cons_option o [] ≡ option_to_list o
-      one None = refl
-      one (Some t) = refl
-
--- behind the last mode all stand before the place
-pub modes_all : (v : View) (i j : ℕ) → mode_shown v i j ≡ None
-    → take j (modes_at v i) ≡ modes_at v i
-modes_all v i j none = take_whole (modes_at v i) j (sym (mode_here v i j) ∙ none)

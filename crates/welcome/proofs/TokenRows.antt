@@ -1,208 +1,224 @@
--- The rows of tokens, place by place.
-use Rattle.std.proofs.Common.{◌≡◌, ℕ, ◌+◌, ◌-◌, ◌≤◌, Bool, true, false, cond, List, [], ◌∷◌, ◌++◌}
-use Rattle.std.proofs.Common.{Option, Some, refl, sym, ap, subst, ◌∙◌, arith, map, take, drop}
-use Rattle.std.proofs.Common.{length, append_assoc, length-append}
-use Rattle.std.specs.Prelude.{codes, slice_range, nat_le, nat_lt, nat_eq, ◌&&◌, option_to_list}
-use Rattle.std.specs.List.{flat_map, join_with_byte, slice_get}
-use Rattle.std.proofs.lemmas.Bool.Decides.{nat_tests}
-use Rattle.std.proofs.lemmas.List.{map-append, take_all, length-drop, length-take-le}
-use Rattle.std.proofs.lemmas.List.{drop-append-le, take-map, drop-map, drop-take}
-use Rattle.irc_line.specs.Line.{Parts}
-use Rattle.irc_line.specs.Writing.{written}
-use Rattle.irc_support.specs.Text.{Text}
-use Rattle.irc_support.specs.Tokens.{Token}
-use Rattle.welcome.specs.Rows.{is_token_row, rows_of}
-use Rattle.irc_support.specs.Written.{token_text}
-use Rattle.client_caps.specs.Answers.{from_bouncer}
-use Rattle.welcome.proofs.Places.{take_next}
-use Rattle.welcome.proofs.Filled.{Filled, closed_said, fill, full_open, goes_on, is_open, join_on}
-use Rattle.welcome.proofs.Filled.{line_on, put, room, rows_filled}
+-- The rows of a name list and of tokens, word by word.
+use Rattle.welcome.proofs.Words
+use Words.{◌&&◌, ◌++◌, ◌+◌, ◌-◌, ◌<◌, ◌∙◌, ◌∷◌, ◌≡◌, ◌≤◌, Bool, List, Parts, Text, View, [], ap}
+use Words.{append-nil, append_assoc, arith, codes, cond, drop, false, flat_map, from_bouncer}
+use Words.{get_or, is_short, is_token_row, join_with_byte, length, length-append, length-map, map}
+use Words.{map-append, map-map, member_parts, member_parts_at, member_word, members_at, name_row}
+use Words.{nat_eq, nat_le, nat_lt, nat_tests, ranks_shown, refl, rows_from, rows_of, slice_range}
+use Words.{sym, symbols_of, take, true, unwrap_or, written, ℕ}
+use Rattle.{client_caps.proofs.JoinedTexts.next_left, net_view.specs.Readers.MemberParts}
+use Rattle.std.proofs.lemmas.List.{drop_all, get_or-drop, length-drop, length-take-le, take_more}
+use Rattle.{std.proofs.lemmas.Option.slice_get-map, welcome.proofs.Places.take_next}
 
--- the tokens before the next place
-pub texts_next : (settings : List Token) (i : ℕ) (o : Option Token) → o ≡ slice_get settings i
-    → map token_text (take (i + 1) settings)
-    ≡ map token_text (take i settings) ++ map token_text (option_to_list o)
-texts_next settings i o e =
-    ap (map token_text) (take_next settings i)
-    ∙ map-append token_text (take i settings) (option_to_list (slice_get settings i))
-    ∙ ap (λ o. map token_text (take i settings)
-    ++ map token_text (option_to_list o)) (sym e)
+-- ---- the rows of a name list by their bytes, word by word
 
--- the full rows are said; the further tokens begin at a place
-pub record IsTaking (line : List Text
-    → Parts) (f : Filled) (before now : Text) (words : List Text) (start place len : ℕ) : Type 0
-  where
-    pub said : now ≡ before ++ flat_map written (map line f.0)
-    pub row_is : f.1 ≡ drop start (take place words)
-    pub in_order : start ≤ place
-    pub len_is : len ≡ length (join_with_byte 32 f.1)
+pub join_on : (row : List Text) (r w : Text)
+    → join_with_byte 32 ((r ∷ row) ++ w ∷ []) ≡ join_with_byte 32 (r ∷ row) ++ 32 ∷ w
+join_on [] r w = refl
+join_on (s ∷ row) r w = rw (join_on row s w, append_assoc)
 
-le_lt : (n : ℕ) → nat_le (n + 1) 12 ≡ nat_lt n 12
-le_lt n = grind (arith, nat_tests)
+-- there is room where the bytes are few
+pub short_on : (row : List Text) (r w : Text)
+    → is_short ((r ∷ row) ++ w ∷ [])
+    ≡ nat_le (length (join_with_byte 32 (r ∷ row)) + 1 + length w) 400
+short_on row r w =
+    let bytes = length-append (join_with_byte 32 (r ∷ row)) (32 ∷ w) in
+    grind (arith, join_on row r w, bytes)
 
-not_zero : (n k : ℕ) → n ≡ k + 1 → nat_eq n 0 ≡ false
-not_zero n k e = grind (arith, nat_tests, e)
+-- whether a word goes onto a row of these bytes
+abbrev pub goes_on : Bool → Text → Text → Bool
+goes_on begun row w = cond begun (nat_le (length row + 1 + length w) 400) true
 
--- whether a token goes onto a row, by how many it has and how many bytes
-goes_at : (row : List Text) (w : Text) (n len : ℕ) → n ≡ length row
-    → len ≡ length (join_with_byte 32 row)
-    → goes_on is_token_row row w
-    ≡ cond (nat_eq n 0) true (nat_le (len + 1 + length w) 400 && nat_lt n 12)
-goes_at [] w n len e f =
-    sym (ap (λ k. cond (nat_eq k 0) true (nat_le (len + 1 + length w) 400 && nat_lt k 12)) e)
-goes_at (r ∷ row) w n len e f =
-    let m = length (r ∷ row) in
-    let bytes = length (join_with_byte 32 (r ∷ row)) in
-    ap (λ b. b && nat_le (length ((r ∷ row) ++ w ∷ [])) 12) (room (r ∷ row) w)
-    ∙ ap (λ k. nat_le (bytes + 1 + length w) 400 && nat_le k 12) (length-append (r ∷ row) (w ∷ []))
-    ∙ ap (λ b. nat_le (bytes + 1 + length w) 400 && b) (le_lt m)
-    ∙ ap (λ l. nat_le (l + 1 + length w) 400 && nat_lt m 12) (sym f)
-    ∙ ap (λ k. nat_le (len + 1 + length w) 400 && nat_lt k 12) (sym e)
-    ∙ sym (ap (λ b. cond b true (nat_le (len + 1 + length w) 400 && nat_lt n 12))
-    (not_zero n (length row) (e ∙ omega arith)))
+-- the bytes of the rows: of one that may be begun, and of further words
+abbrev pub texts_from : Bool → Text → List Text → List Text
+texts_from begun row [] = cond begun (row ∷ []) []
+texts_from begun row (w ∷ words) =
+    cond (goes_on begun row w) (texts_from true (row ++ cond begun (32 ∷ w) w) words)
+    (row ∷ texts_from true w words)
 
-row_length : (words : List Text) (start place : ℕ) → place ≤ length words
-    → length (drop start (take place words)) ≡ place - start
-row_length words start place within =
-    length-drop start (take place words) ∙ ap (λ k. k - start) (length-take-le place words within)
+begun_texts : (words row : List Text) (r : Text)
+    → map (join_with_byte 32) (rows_from is_short (r ∷ row) words)
+    ≡ texts_from true (join_with_byte 32 (r ∷ row)) words
+begun_texts [] row r = refl
+begun_texts (w ∷ words) row r =
+    grind (arith, short_on row r w, join_on row r w, begun_texts words)
 
-pub taking_room : (line : List Text
-    → Parts) (f : Filled) (before now : Text) (words : List Text) (start place len : ℕ) (w : Text)
-    (has : Bool) → IsTaking line f before now words start place len → place ≤ length words
-    → has ≡ cond (nat_eq (place - start) 0) true (nat_le (len + 1 + length w) 400
-    && nat_lt (place - start) 12) → goes_on is_token_row f.1 w ≡ has
-taking_room line f before now words start place len w has is within e =
-    goes_at f.1 w (place - start) len (sym (row_length words start place within)
-    ∙ ap length (sym is.row_is)) is.len_is ∙ sym e
+row_texts : (words : List Text)
+    → map (join_with_byte 32) (rows_of is_short words) ≡ texts_from false [] words
+row_texts [] = refl
+row_texts (w ∷ words) = begun_texts words [] w
 
--- the bytes of a row with one word more
-bytes_on : (row : List Text) (w : Text)
-    → length (join_with_byte 32 (row ++ w ∷ []))
-    ≡ cond (is_open row) (length (join_with_byte 32 row) + 1 + length w) (length w)
-bytes_on [] w = refl
-bytes_on (r ∷ row) w =
-    ap length (join_on (r ∷ row) w) ∙ length-append (join_with_byte 32 (r ∷ row)) (32 ∷ w)
-    ∙ omega arith
+-- the line of a row's bytes
+abbrev pub name_line : Text → Text → Text → Parts
+name_line nick name row = from_bouncer (codes "353") (nick ∷ codes "=" ∷ name ∷ row ∷ [])
 
-open_at : (row : List Text) (n : ℕ) (start place : ℕ) → n ≡ length row → n ≡ place - start
-    → is_open row ≡ nat_lt start place
-open_at [] n start place e f =
-    let none : place - start ≡ 0 = sym f ∙ e in
-    grind (arith, nat_tests, none)
-open_at (r ∷ row) n start place e f =
-    let some : place - start ≡ length row + 1 = sym f ∙ e ∙ omega arith in
-    grind (arith, nat_tests, some)
+-- the word of a member, as it is shown
+abbrev pub shown_word : View → Bool → MemberParts → Text
+shown_word v mp m = symbols_of v.settings (ranks_shown mp m.ranks) ++ m.nick
 
-pub take_on : (words : List Text) (place : ℕ) (w : Text) → slice_get words place ≡ Some w
-    → take (place + 1) words ≡ take place words ++ w ∷ []
-take_on words place w at = take_next words place ∙ ap (λ o. take place words ++ option_to_list o) at
+pub names_by_texts : (v : View) (mp : Bool) (i : ℕ) (name : Text)
+    → map (name_row v name) (rows_of is_short (map (member_word v mp) (members_at v i)))
+    ≡ map (name_line (unwrap_or v.own []) name)
+    (texts_from false [] (map (shown_word v mp) (member_parts_at v i)))
+names_by_texts v mp i name =
+    let words = map (member_word v mp) (members_at v i) in
+    let line = name_line (unwrap_or v.own []) name in
+    let shown = map-map (shown_word v mp) (member_parts v) (members_at v i) in
+    rw (shown, ← row_texts words, map-map line (join_with_byte 32) (rows_of is_short words))
 
-pub taking_put : (line : List Text
-    → Parts) (f : Filled) (before now then : Text) (words : List Text)
-    (start start_then place len len_then : ℕ) (w : Text) (has : Bool)
-    → IsTaking line f before now words start place len → place ≤ length words
-    → slice_get words place ≡ Some w →
-    has ≡ cond (nat_eq (place - start) 0) true (nat_le (len + 1 + length w) 400
-    && nat_lt (place - start) 12) → (has ≡ true → (then ≡ now) × (start_then ≡ start))
-    → (has ≡ false
-    → (then ≡ now ++ cond (is_open f.1) (written (line f.1)) [])
-    × (start_then ≡ place)) →
-    len_then ≡ cond (nat_lt start_then place) (len + 1 + length w) (length w)
-    → IsTaking line (put is_token_row f w) before then words start_then (place + 1) len_then
-taking_put line f before now then words start start_then place len len_then w true is within at e
-    stays goes after =
-    let s = stays refl in
-    let room : goes_on is_token_row f.1 w ≡ true =
-    taking_room line f before now words start place len w true is within e in
-    let row : f.1 ++ w ∷ [] ≡ drop start (take (place + 1) words) =
-    ap (λ r. r ++ w ∷ []) is.row_is
-    ∙ sym (drop-append-le start (take place words) (w ∷ []) (let l =
-    length-take-le place words within in omega (l, is.in_order, arith)))
-    ∙ ap (drop start) (sym (take_on words place w at)) in
-    let n = sym (row_length words start place within) ∙ ap length (sym is.row_is) in
-    let bytes : len_then ≡ length (join_with_byte 32 (f.1 ++ w ∷ [])) =
-    after ∙ ap (λ k. cond (nat_lt k place) (len + 1 + length w) (length w)) (s.1)
-    ∙ ap (λ b. cond b (len + 1 + length w) (length w))
-    (sym (open_at f.1 (place - start) start place n refl))
-    ∙ ap (λ l. cond (is_open f.1) (l + 1 + length w) (length w)) is.len_is
-    ∙ sym (bytes_on f.1 w) in
-    subst (λ g. IsTaking line (cond g (f.0, f.1 ++ w ∷ []) (f.0 ++ f.1 ∷ [], w ∷ [])) before then
-    words start_then (place + 1) len_then) (sym room) (record {
-      said = (s.0) ∙ is.said;
-      row_is = row ∙ ap (λ k. drop k (take (place + 1) words)) (sym (s.1));
-      in_order = let order = is.in_order in let same = s.1 in omega (order, same, arith);
-      len_is = bytes;
-    })
-taking_put line f before now then words start start_then place len len_then w false is within at e
-    stays goes after =
-    let s = goes refl in
-    let room : goes_on is_token_row f.1 w ≡ false =
-    taking_room line f before now words start place len w false is within e in
-    let row : w ∷ [] ≡ drop place (take (place + 1) words) =
-    sym (drop_front (take place words) (w ∷ []) place (length-take-le place words within))
-    ∙ ap (drop place) (sym (take_on words place w at)) in
-    let no_lt : nat_lt place place ≡ false = grind (arith, nat_tests) in
-    subst (λ g. IsTaking line (cond g (f.0, f.1 ++ w ∷ []) (f.0 ++ f.1 ∷ [], w ∷ [])) before then
-    words start_then (place + 1) len_then) (sym room) (record {
-      said = (s.0)
-          ∙ ap (λ b. now ++ cond b (written (line f.1)) []) (full_open is_token_row f.1 w room)
-          ∙ ap (λ t. t ++ written (line f.1)) is.said
-          ∙ append_assoc before (flat_map written (map line f.0)) (written (line f.1))
-          ∙ ap (λ t. before ++ t) (sym (line_on line f.0 f.1));
-      row_is = row ∙ ap (λ k. drop k (take (place + 1) words)) (sym (s.1));
-      in_order = let same = s.1 in omega (same, arith);
-      len_is = after ∙ ap (λ k. cond (nat_lt k place) (len + 1 + length w) (length w)) (s.1)
-          ∙ ap (λ b. cond b (len + 1 + length w) (length w)) no_lt;
-    }) where
-      drop_front : (xs ys : List Text) (n : ℕ) → length xs ≡ n → drop n (xs ++ ys) ≡ ys
-      drop_front [] ys n e = ap (λ k. drop k ys) (sym e)
-      drop_front (x ∷ xs) ys n e =
-          ap (λ k. drop k (x ∷ (xs ++ ys))) (sym e) ∙ drop_front xs ys (length xs) refl
+-- ---- what is said of the rows, and what is left to say
+
+module _ (line : Text → Parts) (all : Text) where
+  abbrev pub IsSaid : Text → Bool → Text → List Text → Type 0
+  IsSaid now begun row words =
+      now ++ flat_map written (map line (texts_from begun row words)) ≡ all
+
+  module _ (now then row row_then after w : Text) (begun then_begun : Bool) (words : List Text)
+      (is : IsSaid now begun row (w ∷ words))
+      (put : after ≡ row_then ++ cond then_begun (32 ∷ w) w) where
+    -- the word goes onto the row
+    pub word_goes : goes_on begun row w ≡ true → then ≡ now → row_then ≡ row
+        → then_begun ≡ begun → IsSaid then true after words
+    word_goes goes e r b = rw (e, put, r, b) (rw goes at is)
+
+    -- the row is said, and the word begins the next
+    pub word_begins : goes_on begun row w ≡ false → then ≡ now ++ cond begun (written (line row)) []
+        → row_then ≡ [] → then_begun ≡ false → IsSaid then true after words
+    word_begins full e r b = rw (e, put, r, b) (begins begun full is) where
+      begins : (b : Bool) → goes_on b row w ≡ false → IsSaid now b row (w ∷ words)
+          → IsSaid (now ++ cond b (written (line row)) []) true w words
+      begins false full is = cc
+      begins true full is = rw append_assoc (rw full at is)
+
+  -- the last row is said
+  pub row_ends : (now : Text) (begun : Bool) (row : Text) → IsSaid now begun row []
+      → now ++ cond begun (written (line row)) [] ≡ all
+  row_ends now false row is = is
+  row_ends now true row is = rw append-nil at is
 
 -- a 005 with a row of tokens
 abbrev pub settings_row : Text → List Text → Parts
 settings_row nick row =
     from_bouncer (codes "005") (nick ∷ (row ++ codes "are supported by this server" ∷ []))
 
--- the texts of a part of a list
-pub texts_between : {X : Type 0} (f : X → Text) (xs : List X) (start place : ℕ) → start ≤ place
-    → map f (slice_range xs start place) ≡ drop start (take place (map f xs))
-texts_between f xs start place order =
-    sym (take-map f (place - start) (drop start xs))
-    ∙ ap (take (place - start)) (sym (drop-map f start xs))
-    ∙ sym (drop-take start (place - start) (map f xs))
-    ∙ ap (λ k. drop start (take k (map f xs))) (upto start place order) where
-      upto : (s p : ℕ) → s ≤ p → s + (p - s) ≡ p
-      upto s p h = omega (h, arith)
+-- the rows of a row that may be empty, and of further words
+abbrev pub rows_on : List Text → List Text → List (List Text)
+rows_on [] words = rows_of is_token_row words
+rows_on (r ∷ row) words = rows_from is_token_row (r ∷ row) words
 
--- what is said of a row; nothing where it is empty
-pub tokens_said : {X : Type 0} (f : X → Text) (nick : Text) (xs : List X) (row : List Text)
-    → map f xs ≡ row
-    → cond (nat_eq (length xs) 0) [] (written (settings_row nick (map f xs)))
-    ≡ cond (is_open row) (written (settings_row nick row)) []
-tokens_said f nick [] row e = ap (λ r. cond (is_open r) (written (settings_row nick r)) []) e
-tokens_said f nick (x ∷ xs) row e =
-    ap (λ b. cond b [] (written (settings_row nick (map f (x ∷ xs)))))
-    (not_zero (length (x ∷ xs)) (length xs) (omega arith))
-    ∙ ap (λ r. cond (is_open r) (written (settings_row nick r)) []) e
+-- whether a word goes onto a row of so many tokens that take so many bytes
+abbrev pub has_room : ℕ → ℕ → Text → Bool
+has_room count len w =
+    cond (nat_eq count 0) true (nat_le (len + 1 + length w) 400 && nat_lt count 12)
 
-pub taking_ends : (line : List Text
-    → Parts) (before now then : Text) (words : List Text) (start place len : ℕ)
-    → place ≡ length words
-    → IsTaking line (fill is_token_row ([], []) (take place words)) before now words start
-    place len →
-    then ≡ now
-    ++ cond (is_open (fill is_token_row ([], []) (take place words)).1)
-    (written (line (fill is_token_row ([], []) (take place words)).1)) []
-    → then ≡ before ++ flat_map written (map line (rows_of is_token_row words))
-taking_ends line before now then words start place len end is e =
-    let f = fill is_token_row ([], []) (take place words) in
-    let all : take place words ≡ words =
-    ap (λ k. take k words) end ∙ take_all (length words) words (omega arith) in
-    e ∙ ap (λ t. t ++ cond (is_open f.1) (written (line f.1)) []) is.said
-    ∙ append_assoc before (flat_map written (map line f.0))
-    (cond (is_open f.1) (written (line f.1)) [])
-    ∙ ap (λ t. before ++ t) (sym (closed_said line f))
-    ∙ ap (λ rs. before
-    ++ flat_map written (map line rs)) (rows_filled is_token_row (take place words))
-    ∙ ap (λ ws. before ++ flat_map written (map line (rows_of is_token_row ws))) all
+word_put : (row words : List Text) (w : Text)
+    → rows_on row (w ∷ words)
+    ≡ cond (has_room (length row) (length (join_with_byte 32 row)) w) (rows_on (row ++ w ∷ []) words)
+    (row ∷ rows_on (w ∷ []) words)
+word_put [] words w = refl
+word_put (r ∷ row) words w =
+    grind (arith, nat_tests, short_on row r w, length-append (r ∷ row) (w ∷ []))
+
+bytes_put : (row : List Text) (w : Text)
+    → length (join_with_byte 32 (row ++ w ∷ []))
+    ≡ cond (nat_eq (length row) 0) (length w) (length (join_with_byte 32 row) + 1 + length w)
+bytes_put [] w = refl
+bytes_put (r ∷ row) w =
+    grind (arith, nat_tests, join_on row r w, length-append (join_with_byte 32 (r ∷ row)) (32 ∷ w))
+
+rows_end : (line : List Text → Parts) (row : List Text)
+    → flat_map written (map line (rows_on row []))
+    ≡ cond (nat_eq (length row) 0) [] (written (line row))
+rows_end line [] = refl
+rows_end line (r ∷ row) = grind (arith, nat_tests, append-nil (written (line (r ∷ row))))
+
+range_more : {X : Type 0} (xs : List X) (start place : ℕ) (x : X) → start ≤ place
+    → place < length xs → x ≡ get_or xs place x
+    → slice_range xs start (place + 1) ≡ slice_range xs start place ++ x ∷ []
+range_more xs start place x order within at =
+    let count : place + 1 - start ≡ place - start + 1 = omega arith in
+    let there : start + (place - start) ≡ place = omega arith in
+    let more = take_more (drop start xs) (place - start) x (omega (arith, length-drop start xs)) in
+    let last = get_or-drop start xs (place - start) x in
+    rw count (cc (more, last, there, at))
+
+module _ {X : Type 0} (f : X → Text) (xs : List X) (line : List Text → Parts) (all : Text) where
+  -- the row that begins at a place
+  abbrev pub row_at : ℕ → ℕ → List Text
+  row_at start place = map f (slice_range xs start place)
+
+  -- what is said, and the rows that are left to say
+  pub record IsTaking (now : Text) (start place len : ℕ) : Type 0 where
+    pub said : now
+        ++ flat_map written (map line (rows_on (row_at start place) (map f (drop place xs)))) ≡ all
+    pub in_order : start ≤ place
+    pub len_is : len ≡ length (join_with_byte 32 (row_at start place))
+
+  module _ (now then : Text) (start place len len_then : ℕ) (x : X) (within : place < length xs)
+      (at : x ≡ get_or xs place x) (is : IsTaking now start place len) where
+    row_more : (s : ℕ) → s ≤ place → row_at s (place + 1) ≡ row_at s place ++ f x ∷ []
+    row_more s order =
+        rw (range_more xs s place x order within at) (map-append f (slice_range xs s place) (x ∷ []))
+
+    left_more : map f (drop place xs) ≡ f x ∷ map f (drop (place + 1) xs)
+    left_more = next_left f xs place x within ∙ ap (λ y. f y ∷ map f (drop (place + 1) xs)) (sym at)
+
+    count_is : length (row_at start place) ≡ place - start
+    count_is =
+        let order = is.in_order in
+        let left = length-drop start xs in
+        length-map (slice_range xs start place) f
+        ∙ length-take-le (place - start) (drop start xs) (omega arith)
+
+    put : (rows_on (row_at start place) (map f (drop place xs)))
+        ≡ cond (has_room (place - start) len (f x))
+        (rows_on (row_at start place ++ f x ∷ []) (map f (drop (place + 1) xs)))
+        (row_at start place ∷ rows_on (f x ∷ []) (map f (drop (place + 1) xs)))
+    put =
+        let words = word_put (row_at start place) (map f (drop (place + 1) xs)) (f x) in
+        rw left_more (rw (count_is, ← is.len_is) at words)
+
+    -- the token goes onto the row
+    pub token_goes : has_room (place - start) len (f x) ≡ true
+        → len_then ≡ cond (nat_lt start place) (len + 1 + length (f x)) (length (f x))
+        → IsTaking now start (place + 1) len_then
+    token_goes goes after =
+        let order = is.in_order in
+        let bytes = bytes_put (row_at start place) (f x) in
+        record {
+          said = rw (row_more start order) (rw (put, goes) at is.said);
+          in_order = omega arith;
+          len_is = rw (row_more start order) (grind (arith, nat_tests, is.len_is, after, bytes, count_is));
+        }
+
+    -- the row is said, and the token begins the next
+    pub token_begins : has_room (place - start) len (f x) ≡ false
+        → then ≡ now ++ cond (nat_eq (length (slice_range xs start place)) 0) []
+        (written (line (row_at start place)))
+        → len_then ≡ cond (nat_lt place place) (len + 1 + length (f x)) (length (f x))
+        → IsTaking then place (place + 1) len_then
+    token_begins full e after =
+        let none : place - place ≡ 0 = omega arith in
+        let more = rw none at (row_more place (omega arith)) in
+        let len_row = length-map (slice_range xs start place) f in
+        let some : nat_eq (length (slice_range xs start place)) 0 ≡ false =
+        grind (arith, nat_tests, full, len_row, count_is) in
+        record {
+          said = rw (more, e, some, append_assoc) (rw (put, full) at is.said);
+          in_order = omega arith;
+          len_is = rw more (grind (arith, nat_tests, after));
+        }
+
+  -- the last row is said
+  pub tokens_end : (now then : Text) (start place len : ℕ) → place ≡ length xs
+      → IsTaking now start place len
+      → then ≡ now ++ cond (nat_eq (length (slice_range xs start place)) 0) []
+      (written (line (row_at start place))) → then ≡ all
+  tokens_end now then start place len end is e =
+      let none : drop place xs ≡ [] = drop_all place xs (omega arith) in
+      let last = rows_end line (row_at start place) in
+      let count = length-map (slice_range xs start place) f in
+      grind (arith, is.said, none, last, count, e)
+
+-- a loop over the tokens
+pub ruleset token_steps = (take_next, slice_get-map, map-append, append-nil)

@@ -1,17 +1,17 @@
 -- What the readers of a view lend of a channel, as the lines of the burst take it.
-use Rattle.std.specs.Prelude.{◌≡◌, ℕ, Bool, List, [], ◌∷◌, map, option_map}
+use Rattle.std.specs.Prelude.{◌≡◌, ℕ, Bool, List, ◌∷◌, map, option_map}
 use Rattle.std.specs.List.{flat_map}
-use Rattle.std.specs.Option.{option_map_or}
 use Rattle.std.specs.FinMap as fin
 use Rattle.std.specs.Ordering.{is_eq}
 use Rattle.std.specs.declared.cmp.Ordering.{Ordering}
 use Rattle.irc_names.specs.declared.case_mapping.CaseMapping.{CaseMapping}
 use Rattle.irc_names.specs.CaseMapping.{key_of}
 use Rattle.net_view.specs.Names.{bytes_cmp}
-use Rattle.std.proofs.Common.{Option, Some, None}
+use Rattle.std.proofs.Common.{Some, None}
 use Rattle.irc_support.specs.Text.{Text}
 use Rattle.net_view.specs.View as view
-use Rattle.net_view.specs.Readers.{MemberParts, channel_shown, member_parts}
+use Rattle.net_view.specs.Readers.{MemberParts, member_parts}
+pub use Rattle.net_view.specs.Walks.{members_at, modes_at}
 use Rattle.net_view.specs.declared.channel.Channel.{Channel}
 use Rattle.welcome.specs.declared.persons.Person.{Person}
 use Rattle.network_tables.specs.Head.{head_of, AreBytesTo}
@@ -24,15 +24,6 @@ lent channel = record {
   modes = fin.empty;
   members = fin.empty;
 }
-
--- the modes of the channel at this place, in the order of their letters' bytes
-abbrev pub modes_at : view.View → ℕ → List (ℕ × Option Text)
-modes_at v i = option_map_or (λ (ch : view.Channel). fin.entries ch.modes) (channel_shown v i) []
-
--- the members of the channel at this place, in the order of their keys, with their ranks
-abbrev pub members_at : view.View → ℕ → List (Text × List ℕ)
-members_at v i =
-    option_map_or (λ (ch : view.Channel). fin.entries ch.members) (channel_shown v i) []
 
 -- a person, from what is lent
 abbrev pub person_lent : Person → view.Person

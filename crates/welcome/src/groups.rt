@@ -32,6 +32,7 @@ fn push_name<'v, V: NetworkView, A: Allocator>(
 }
 
 /// The names of the channels, in key order.
+#[tactic(auto, using(crate::proofs::Grouping::name_steps))]
 pub fn channel_names<'v, V: NetworkView, A: Allocator>(
     alloc: A,
     view: &'v V,
@@ -66,6 +67,7 @@ fn place_of(mapping: CaseMapping, names: &[&[u8]], target: &[u8]) -> usize
 }
 
 /// A group without entries for each name, and one more.
+#[tactic(auto, using(crate::proofs::Grouping::group_steps))]
 fn empty_groups<'e, A: Allocator + Copy, B: Allocator>(
     alloc: A,
     names: &[&[u8]],

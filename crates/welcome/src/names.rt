@@ -15,7 +15,7 @@ ghost use Rattle.welcome.specs.Filling.{name_row};
 use crate::greeting::{own_nick, push_reply};
 use client_caps::Caps;
 use irc_support::Ranks;
-use net_view::{Member, NetworkView, OutOfMemory};
+use net_view::{Member, Members, NetworkView, OutOfMemory};
 use std::alloc::Allocator;
 
 /// How many bytes the words of a line take at most, with the spaces between them (our own choice).
@@ -147,18 +147,17 @@ pub fn push_names<V: NetworkView, A: Allocator + Copy>(
     let mut row = Vec::new(alloc);
     let mut word = Vec::new(alloc);
     let mut is_begun = false;
-    for j in 0..view.member_count(i) {
-        if let Some(member) = view.member_at(i, j) {
-            word.clear();
-            push_member(&mut word, view, caps, &member)?;
-            if !has_room(is_begun, row.len(), &word) {
-                push_row(text, nick, name, is_begun, &row)?;
-                row.clear();
-                is_begun = false;
-            }
-            push_word(&mut row, is_begun, &word)?;
-            is_begun = true;
+    let mut members = Members::of(view, i);
+    while let Some(member) = members.next() {
+        word.clear();
+        push_member(&mut word, view, caps, &member)?;
+        if !has_room(is_begun, row.len(), &word) {
+            push_row(text, nick, name, is_begun, &row)?;
+            row.clear();
+            is_begun = false;
         }
+        push_word(&mut row, is_begun, &word)?;
+        is_begun = true;
     }
     push_row(text, nick, name, is_begun, &row)
 }

@@ -37,6 +37,7 @@ fn written_token<A: Allocator + Copy>(
 }
 
 /// All tokens as they are written, in their order.
+#[tactic(auto, using(crate::proofs::TokenRows::token_steps))]
 fn written_tokens<A: Allocator + Copy, B: Allocator>(
     alloc: A,
     support: &Support<B>,

@@ -1,27 +1,12 @@
-use Rattle.std.proofs.Common.{◌≡◌, map, subst}
-use Rattle.std.specs.Prelude.{IfOk}
-use Rattle.welcome.specs.Playback.{playback_of}
-use Rattle.welcome.proofs.PacketBytes.{lines_back}
-use Rattle.welcome.proofs.StatePart.{state_is_packet}
-use Rattle.welcome.proofs.PlaybackPacket.{playback_written}
 use Rattle.welcome.proofs.backlog.packet_of_playback.Goals as goal
+use Rattle.welcome.proofs.{PacketBytes.lines_back, WrittenLaw.{playback_written, state_is_packet}}
 
 pub of_lines-requires : goal.of_lines-requires
 of_lines-requires g c =
-    let v = g.V.NetworkView.view c.args.view.now in
-    let source = c.comes_from_lines.ensures in
-    state_is_packet c.args.text.items
-    (playback_of v c.args.caps (map (λ entry. entry.now) c.args.entries.now)) c.requires.whole
-    (playback_written v c.args.caps c.args.entries.now source.0 source.1 source.2
+    state_is_packet _ _ c.requires.whole (playback_written _ _ _ c.comes_from_lines.ensures
     c.requires.written c.requires.few)
 
 pub returns : goal.returns
 returns g c =
-    let v = g.V.NetworkView.view c.args.view.now in
-    let source = c.comes_from_lines.ensures in
-    subst (λ ls. IfOk c.of_lines.result (λ packet. packet ≡ ls))
-    (lines_back c.args.text.items
-    (playback_of v c.args.caps (map (λ entry. entry.now) c.args.entries.now)) c.requires.whole
-    (playback_written v c.args.caps c.args.entries.now source.0 source.1 source.2
-    c.requires.written c.requires.few))
-    c.of_lines.ensures
+    rw (lines_back _ _ c.requires.whole (playback_written _ _ _ c.comes_from_lines.ensures
+    c.requires.written c.requires.few)) at c.of_lines.ensures

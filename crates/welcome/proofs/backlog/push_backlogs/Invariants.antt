@@ -1,7 +1,4 @@
-use Rattle.std.proofs.Common.{◌≡◌, ◌++◌, drop, map}
-use Rattle.std.specs.List.{flat_map}
-use Rattle.irc_line.specs.Writing.{written}
-use Rattle.welcome.specs.Arranged.{backlogs_of}
+use Rattle.welcome.proofs.Words.{◌++◌, ◌≡◌, backlogs_of, drop, flat_map, map, written}
 use Rattle.welcome.proofs.backlog.push_backlogs.Given as goal
 
 abbrev pub invariant-loop-place : goal.invariant-loop-place

@@ -1,10 +1,14 @@
-use Rattle.std.proofs.lemmas.Result.{on_ok_weaker}
-use Rattle.welcome.proofs.BatchSaid.{batch_said}
 use Rattle.welcome.proofs.backlog.push_batch.Goals as goal
+use Rattle.welcome.proofs.{Grouping.{around, lent_mapped}, Words.{◌++◌, ◌∷◌, [], batch_name, codes}}
+use Rattle.welcome.proofs.Words.{entry_line, from_bouncer, on_ok_weaker, written}
+use Rattle.welcome.specs.Arranged.{batch_tag}
 
 pub returns : goal.returns
 returns g c =
-    on_ok_weaker c.end_batch.result
-    (batch_said c.args.caps c.args.place c.args.name.now c.args.entries.now c.args.text.now.items
-    c.begin_batch.new.text.items c.push_tagged.new.text.items c.end_batch.new.text.items
-    c.in_ok-begin_batch.ensures c.in_ok-push_tagged.ensures) c.end_batch.ensures
+    let name = batch_name c.args.place in
+    let tagged = entry_line c.args.caps (batch_tag c.args.place ∷ []) in
+    on_ok_weaker c.end_batch.result (around written c.args.text.now.items c.begin_batch.new.text.items
+    c.push_tagged.new.text.items c.end_batch.new.text.items
+    (from_bouncer (codes "BATCH") ((codes "+" ++ name) ∷ codes "chathistory" ∷ c.args.name.now ∷ []))
+    (from_bouncer (codes "BATCH") ((codes "-" ++ name) ∷ [])) _ c.in_ok-begin_batch.ensures
+    (rw (lent_mapped tagged c.args.entries.now) at c.in_ok-push_tagged.ensures)) c.end_batch.ensures

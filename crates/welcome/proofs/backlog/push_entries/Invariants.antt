@@ -1,9 +1,5 @@
-use Rattle.std.proofs.Common.{◌≡◌, ◌++◌, map, take}
-use Rattle.std.specs.Prelude.{option_to_list}
-use Rattle.std.specs.List.{flat_map}
-use Rattle.std.specs.Option.{option_map}
-use Rattle.irc_line.specs.Writing.{written}
-use Rattle.welcome.specs.Playback.{entry_line}
+use Rattle.welcome.proofs.Words.{◌++◌, ◌≡◌, entry_line, flat_map, map, option_map, option_to_list}
+use Rattle.welcome.proofs.Words.{take, written}
 use Rattle.welcome.proofs.backlog.push_entries.Given as goal
 
 abbrev pub invariant-loop-entry : goal.invariant-loop-entry

@@ -1,6 +1,5 @@
-use Rattle.std.proofs.Common.{ap, map}
-use Rattle.welcome.proofs.BacklogsSaid.{groups_said}
 use Rattle.welcome.proofs.backlog.push_groups.Goals as goal
+use Rattle.welcome.proofs.{Grouping.groups_said, Words.{ap, map}}
 
 pub returns : goal.returns
 returns g c =

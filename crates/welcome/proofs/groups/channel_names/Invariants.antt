@@ -1,5 +1,4 @@
-use Rattle.std.proofs.Common.{◌≡◌, map, take}
-use Rattle.welcome.specs.Arranged.{channel_names_of}
+use Rattle.welcome.proofs.Words.{◌≡◌, channel_names_of, map, take}
 use Rattle.welcome.proofs.groups.channel_names.Given as goal
 
 abbrev pub invariant-loop-i : goal.invariant-loop-i

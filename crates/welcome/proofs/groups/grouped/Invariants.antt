@@ -1,5 +1,4 @@
-use Rattle.std.proofs.Common.{◌≡◌, map, take}
-use Rattle.welcome.specs.Arranged.{grouped_by}
+use Rattle.welcome.proofs.Words.{◌≡◌, grouped_by, map, take}
 use Rattle.welcome.proofs.groups.grouped.Given as goal
 
 abbrev pub invariant-loop-entry : goal.invariant-loop-entry

@@ -1,17 +1,17 @@
-use Rattle.std.proofs.lemmas.Fn.{always_returns_same}
-use Rattle.welcome.proofs.PlaceFound.{found_nowhere, found_there, lies}
+use Rattle.welcome.proofs.Words.{always_returns_same, rules}
 use Rattle.welcome.proofs.groups.place_of.Goals as goal
+use Rattle.welcome.proofs.{Grouping.found_nowhere, Grouping.found_there, Grouping.lies}
 
 pub returns-in-Ok-clause-place : goal.returns-in-Ok-clause-place
 returns-in-Ok-clause-place c =
     found_there c.args.mapping c.args.target.now c.args.names.now c.in-Ok.place c.args.target
     c.requires c.in-Ok.ensures.bound
     (c.in-Ok.ensures.position (lies c.args.mapping c.args.target.now)
-    (always_returns_same _ _ _ (λ a r f' k. (k.met.1, λ i. (k.met.0.0 i, k.met.0.1 i)))) c.args.target)
+    (always_returns_same _ _ _ (λ a r f' k. search rules)) c.args.target)
 
 pub returns-in-Err-clause-place : goal.returns-in-Err-clause-place
 returns-in-Err-clause-place c =
     found_nowhere c.args.mapping c.args.target.now c.args.names.now c.in-Err.field-0 c.args.target
     c.requires c.in-Err.ensures.bound
     (c.in-Err.ensures.position (lies c.args.mapping c.args.target.now)
-    (always_returns_same _ _ _ (λ a r f' k. (k.met.1, λ i. (k.met.0.0 i, k.met.0.1 i)))))
+    (always_returns_same _ _ _ (λ a r f' k. search rules)))

@@ -1,7 +1,5 @@
-use Rattle.std.proofs.Common.{ap, ◌∙◌, map, [], ◌∷◌}
-use Rattle.std.proofs.lemmas.List.{map-append}
-use Rattle.welcome.proofs.Grouping.{pushed}
 use Rattle.welcome.proofs.groups.push_at.Goals as goal
+use Rattle.welcome.proofs.{Grouping.pushed, Words.{◌∙◌, ◌∷◌, [], ap, map, map-append}}
 
 pub returns : goal.returns
 returns g c =

@@ -1,7 +1,5 @@
-use Rattle.std.proofs.Common.{rules}
-use Rattle.std.proofs.lemmas.Fn.{dedup_same}
-use Rattle.welcome.specs.Lent.{is_one}
 use Rattle.welcome.proofs.in_sight.keep_one_each.Goals as goal
+use Rattle.{std.proofs.lemmas.Fn.dedup_same, welcome.{proofs.Words.rules, specs.Lent.is_one}}
 
 pub returns : goal.returns
 returns g c =

@@ -1,11 +1,14 @@
-use Rattle.std.proofs.Common.{◌≡◌, ◌++◌, map}
-use Rattle.std.specs.List.{AllByRecursion}
-use Rattle.welcome.specs.Lent.{HasHead, person_lent}
-use Rattle.welcome.proofs.PersonsAt.{persons_before}
+use Rattle.welcome.proofs.Words.{◌++◌, ◌≡◌, AllByRecursion, HasHead, length, map, member_parts_at}
+use Rattle.welcome.proofs.Words.{person_lent, person_shown}
 use Rattle.welcome.proofs.in_sight.push_members.Given as goal
 
-abbrev pub invariant-loop-j : goal.invariant-loop-j
-invariant-loop-j g l =
-    (map person_lent l.persons.items
-    ≡ map person_lent l.fn.persons.items ++ persons_before (g.V.NetworkView.view l.view) l.i l.j)
-    × AllByRecursion (HasHead l.mapping) l.persons.items
+abbrev pub invariant-loop-member : goal.invariant-loop-member
+invariant-loop-member g l = record {
+  members : map person_lent l.fn.persons.items
+      ++ map person_shown (member_parts_at (g.V.NetworkView.view l.view) l.i)
+      ≡ map person_lent l.persons.items ++ map person_shown l.members;
+  heads : AllByRecursion (HasHead l.mapping) l.persons.items;
+}
+
+abbrev pub decreases-loop-member : goal.decreases-loop-member
+decreases-loop-member g l = length l.members

@@ -1,13 +1,7 @@
-use Rattle.std.proofs.Common.{rules, ◌≡◌, ◌∷◌}
-use Rattle.std.specs.Ordering.{is_lt}
-use Rattle.std.specs.Cmp.Lexicographic.{nat_list_cmp_total}
-use Rattle.std.proofs.lemmas.Fn.{always_returns_same}
-use Rattle.std.proofs.lemmas.List.MinMax.{ranks_by}
-use Rattle.irc_names.specs.CaseMapping.{key_of}
-use Rattle.welcome.specs.Lent.{by_head}
-use Rattle.welcome.specs.declared.persons.Person.{Person}
-use Rattle.welcome.proofs.Heads.{sorted_by_key}
 use Rattle.welcome.proofs.in_sight.sort_by_key.Goals as goal
+use Rattle.{std.proofs.lemmas.List.MinMax.ranks_by, welcome.proofs.PersonsAt.sorted_by_key}
+use Rattle.welcome.proofs.Words.{◌∷◌, ◌≡◌, always_returns_same, by_head, is_lt, key_of}
+use Rattle.welcome.{proofs.Words.{nat_list_cmp_total, rules}, specs.declared.persons.Person.Person}
 
 pub returns-clause-sorted : goal.returns-clause-sorted
 returns-clause-sorted g c =

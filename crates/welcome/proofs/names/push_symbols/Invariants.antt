@@ -1,5 +1,4 @@
-use Rattle.std.proofs.Common.{◌≡◌, ◌++◌}
-use Rattle.irc_support.specs.Written.{symbols_of}
+use Rattle.welcome.proofs.Words.{◌++◌, ◌≡◌, symbols_of}
 use Rattle.welcome.proofs.names.push_symbols.Given as goal
 
 abbrev pub invariant-loop-rank : goal.invariant-loop-rank

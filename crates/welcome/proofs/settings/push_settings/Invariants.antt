@@ -1,11 +1,10 @@
-use Rattle.std.proofs.Common.{[], map, take}
-use Rattle.welcome.specs.Rows.{is_token_row}
-use Rattle.welcome.proofs.Filled.{fill}
-use Rattle.welcome.proofs.TokenRows.{IsTaking, settings_row}
+use Rattle.welcome.proofs.Words.{◌++◌, flat_map, is_token_row, map, rows_of, written}
 use Rattle.welcome.proofs.settings.push_settings.Given as goal
+use Rattle.welcome.proofs.{TokenRows.IsTaking, TokenRows.settings_row}
 
 abbrev pub invariant-loop-place : goal.invariant-loop-place
 invariant-loop-place g l =
-    let words = map (λ t. t.items) l.tokens.items in
-    IsTaking (settings_row l.nick) (fill is_token_row ([], []) (take l.place words)) l.fn.text.items
-    l.text.items words l.start l.place l.len
+    let line = settings_row l.nick in
+    IsTaking (λ t. t.items) l.tokens.items line (l.fn.text.items
+    ++ flat_map written (map line (rows_of is_token_row (map (λ t. t.items) l.tokens.items))))
+    l.text.items l.start l.place l.len

@@ -1,11 +1,7 @@
-use Rattle.std.proofs.Common.{◌≡◌, false, [], ◌∷◌, ◌++◌, length, map, take, sym, ap, ◌∙◌, arith}
-use Rattle.std.proofs.Common.{codes}
-use Rattle.std.specs.Prelude.{nat_eq, if◌then◌else◌}
-use Rattle.std.proofs.lemmas.List.{map-append, take_all}
-use Rattle.std.proofs.lemmas.Result.{on_ok_weaker}
-use Rattle.irc_line.specs.Writing.{written}
-use Rattle.client_caps.specs.Answers.{from_bouncer}
+use Rattle.welcome.proofs.Words.{◌++◌, ◌∙◌, ◌∷◌, ◌≡◌, [], ap, codes, false, from_bouncer, length}
+use Rattle.welcome.proofs.Words.{map, map-append, nat_eq, on_ok_weaker, sym, take_all, written}
 use Rattle.welcome.proofs.settings.push_tokens.Goals as goal
+use Rattle.std.specs.{Prelude.if◌then◌else◌}
 
 pub returns : goal.returns
 returns g c =
@@ -15,15 +11,11 @@ returns g c =
     let line =
     written (from_bouncer (codes "005")
     (nick ∷ (map (λ t. t.items) tokens ++ codes "are supported by this server" ∷ []))) in
-    let end : c.loop-token.token-index ≡ length tokens =
-    omega (c.loop-token-test.false, c.loop-token.auto.token-index-end, arith) in
-    let all : take c.loop-token.token-index tokens ≡ tokens =
-    ap (λ k. take k tokens) end ∙ take_all (length tokens) tokens (omega arith) in
+    let all = take_all c.loop-token.token-index tokens c.loop-token-test.false in
     let params =
     ap (map (λ p. p.now)) (c.deref.ensures.value ∙ c.push_reserved-2.ensures.items)
     ∙ map-append (λ p. p.now) c.loop-token.params.items (_ ∷ [])
-    ∙ ap (λ ps. ps ++ codes "are supported by this server" ∷ []) (c.loop-token.invariant.items
-    ∙ ap (λ ts. nick ∷ map (λ t. t.items) ts) all) in
+    ∙ ap (λ ps. ps ++ codes "are supported by this server" ∷ []) (rw all at c.loop-token.invariant.items) in
     let some : nat_eq (length tokens) 0 ≡ false = sym c.is_empty.ensures ∙ c.if-is_empty.false in
     on_ok_weaker c.push_reply.result
     (λ said. said ∙ ap (λ ps. before ++ written (from_bouncer (codes "005") ps)) params

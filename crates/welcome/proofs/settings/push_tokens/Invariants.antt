@@ -1,5 +1,4 @@
-use Rattle.std.proofs.Common.{◌≡◌, ◌+◌, ◌∷◌, length, map, take}
-use Rattle.std.specs.Vec.{vec_capacity, vec_len}
+use Rattle.welcome.proofs.Words.{◌+◌, ◌∷◌, ◌≡◌, length, map, take, vec_capacity, vec_len}
 use Rattle.welcome.proofs.settings.push_tokens.Given as goal
 
 abbrev pub invariant-loop-token : goal.invariant-loop-token

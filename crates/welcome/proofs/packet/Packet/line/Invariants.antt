@@ -1,6 +1,4 @@
-use Rattle.std.proofs.Common.{◌≡◌, drop}
-use Rattle.std.specs.List.{flat_map}
-use Rattle.irc_line.specs.Writing.{written}
+use Rattle.welcome.proofs.Words.{◌≡◌, drop, flat_map, written}
 use Rattle.welcome.proofs.packet.Packet.line.Given as goal
 
 abbrev pub invariant-loop : goal.invariant-loop
