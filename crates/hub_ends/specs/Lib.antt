@@ -1,2 +1,3 @@
 pub mod Came
+pub mod Outlets
 pub mod Memory

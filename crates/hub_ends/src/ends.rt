@@ -1,10 +1,10 @@
 //! What a hub asks of its ends.
 
-ghost use Rattle.std.specs.Prelude.{◌≡◌, ◌∷◌, ◌++◌, ◌+◌, ◌<◌, ◌≤◌, [], List, ℕ, Bool, true};
-ghost use Rattle.std.specs.Prelude.{Option, None, Some, IsSome, IsOk, IfErr, OnOk, IsTrue, ◌↔◌};
+ghost use Rattle.std.specs.Prelude.{◌≡◌, ◌∷◌, ◌++◌, ◌<◌, [], List, Bool, true};
+ghost use Rattle.std.specs.Prelude.{None, Some, IsSome, IfErr, OnOk, IsTrue, ◌↔◌};
 ghost use Rattle.std.specs.Prelude.{MatchOption};
-ghost use Rattle.irc_line.specs.Line.{Parts};
 ghost use Rattle.hub_ends.specs.Came.{Came, came};
+ghost use Rattle.hub_ends.specs.Outlets.{FindsRoom, OutletState, Took};
 
 use client_caps::Moment;
 use net_view::Item;
@@ -33,20 +33,11 @@ pub trait Inlet: Drop {
             (alone ≡ true → ahead self.old ≡ came x ∷ ahead self.new)) };
 }
 
-/// Where packets go. Its meaning is the list of packets sent so far, and the number that it was
-/// closed with, if any.
+/// Where packets go. Its meaning is the list of packets sent so far, the number that it was closed
+/// with, if any, and how much room it is known to have.
 pub trait Outlet: Drop {
-    /// The packets sent so far, each a list of lines.
-    ghost sent: { Self → List (List Parts) };
-
-    /// The number that it was closed with.
-    ghost closed: { Self → Option ℕ };
-
-    /// How many packets it holds at most that the other end has not taken yet.
-    ghost capacity: { Self → ℕ };
-
-    /// How many more packets it is known to take: none once it is closed.
-    ghost free: { Self → ℕ };
+    /// What was sent, and how many more packets it is known to take.
+    ghost state: { Self → OutletState };
 
     /// Whether the other end was told that it is closed.
     ghost told: { Self → Bool };
@@ -56,43 +47,32 @@ pub trait Outlet: Drop {
 
     /// How many packets it holds at most that the other end has not taken yet.
     fn capacity(&self) -> usize
-        ensures { result ≡ capacity self.now };
+        ensures { result ≡ (state self.now).capacity };
 
     /// How many more packets there is room for, as far as is known.
     fn free(&mut self) -> usize
-        ensures value { result ≡ free self.new }
-        ensures sent { sent self.new ≡ sent self.old }
-        ensures closed { closed self.new ≡ closed self.old }
-        ensures capacity { capacity self.new ≡ capacity self.old }
-        ensures more { free self.old ≤ free self.new }
-        ensures alone { alone ≡ true → free self.new ≡ free self.old };
+        ensures value { result ≡ (state self.new).free }
+        ensures found { FindsRoom alone (state self.old) (state self.new) };
 
     /// Whether there is room for a packet. After `true` the next `offer` is taken.
     fn room(&mut self) -> bool
-        ensures value { IsTrue result ↔ (0 < free self.new) }
-        ensures sent { sent self.new ≡ sent self.old }
-        ensures closed { closed self.new ≡ closed self.old }
-        ensures capacity { capacity self.new ≡ capacity self.old }
-        ensures more { free self.old ≤ free self.new }
-        ensures alone { alone ≡ true → free self.new ≡ free self.old };
+        ensures value { IsTrue result ↔ (0 < (state self.new).free) }
+        ensures found { FindsRoom alone (state self.old) (state self.new) };
 
     /// Sends a packet, or hands it back where the outlet is full. It waits for nobody.
     fn offer(&mut self, packet: Packet) -> Result<(), Packet>
-        ensures taken { OnOk result ((sent self.new ≡ sent self.old ++ packet ∷ []) ×
-            (free self.old ≤ free self.new + 1) ×
-            (alone ≡ true → free self.old ≡ free self.new + 1)) }
-        ensures full { IfErr result (λ p. (p ≡ packet) × (sent self.new ≡ sent self.old) ×
-            (free self.old ≡ 0) × (free self.new ≡ 0)) }
-        ensures closed { closed self.new ≡ closed self.old }
-        ensures capacity { capacity self.new ≡ capacity self.old };
+        ensures taken { OnOk result (Took alone (state self.old) packet (state self.new)) }
+        ensures full { IfErr result (λ p. (p ≡ packet) × (state self.new ≡ state self.old) ×
+            ((state self.old).free ≡ 0)) };
 
     /// Closes the outlet with the number of its session; a second time nothing changes. A closed
     /// outlet counts as full. The other end is told of it where there is room.
     fn close(&mut self, id: SessionId)
-        ensures sent { sent self.new ≡ sent self.old }
-        ensures capacity { capacity self.new ≡ capacity self.old }
-        ensures first { closed self.old ≡ None → closed self.new ≡ Some id }
-        ensures again { IsSome (closed self.old) → closed self.new ≡ closed self.old }
-        ensures full { free self.new ≡ 0 }
-        ensures told { 0 < free self.old → told self.new ≡ true };
+        ensures sent { (state self.new).sent ≡ (state self.old).sent }
+        ensures capacity { (state self.new).capacity ≡ (state self.old).capacity }
+        ensures first { (state self.old).closed ≡ None → (state self.new).closed ≡ Some id }
+        ensures again { IsSome (state self.old).closed →
+            (state self.new).closed ≡ (state self.old).closed }
+        ensures full { (state self.new).free ≡ 0 }
+        ensures told { 0 < (state self.old).free → told self.new ≡ true };
 }

@@ -31,7 +31,7 @@ pub struct MemoryInlet {
 }
 
 /// A copy of an item.
-fn copy_of(alloc: Global, item: &Item) -> Result<Item, OutOfMemory>
+fn copy_of_item(alloc: Global, item: &Item) -> Result<Item, OutOfMemory>
     ensures { IfOk result (λ copy. copy ≡ item.now) }
 {
     match item {
@@ -65,7 +65,7 @@ impl MemoryInlet {
     {
         self.waiting.reserve(1)?;
         self.taken.reserve(self.waiting.len() + 1)?;
-        let copy = copy_of(self.alloc, &item)?;
+        let copy = copy_of_item(self.alloc, &item)?;
         self.waiting.push_back_reserved(Twin { item, copy, moment });
         Ok(())
     }

@@ -1,7 +1,7 @@
 //! A queue of packets in memory.
 
-ghost use Rattle.std.specs.Prelude.{◌≡◌, ◌+◌, ◌-◌, ◌≤◌, ◌∷◌, ◌++◌, [], None, length, min};
-ghost use Rattle.std.specs.Prelude.{IfOk, OnOk, OnErr, IfErr, slice_get};
+ghost use Rattle.std.specs.Prelude.{◌≡◌, ◌-◌, ◌≤◌, length, min};
+ghost use Rattle.std.specs.Prelude.{IfOk, OnErr, slice_get};
 ghost use Rattle.std.specs.Option.{option_map};
 ghost use Rattle.std.specs.VecDeque.{deque_len, deque_capacity};
 
@@ -23,13 +23,13 @@ pub struct MemoryOutlet {
 }
 
 impl MemoryOutlet {
-    ghost use Rattle.hub_ends.specs.Memory.{sent_of, closed_of, free_of, pending_of, drained_from};
+    ghost use Rattle.hub_ends.specs.Memory.{drained_from, free_of, pending_of, state_of};
+    ghost use Rattle.hub_ends.specs.Outlets.{new_outlet};
 
     /// An outlet for this many packets at a time. `OutOfMemory` is told where an allocation was
     /// refused, and for no other cause.
     pub fn new(alloc: Global, capacity: usize) -> Result<MemoryOutlet, OutOfMemory>
-        ensures { IfOk result (λ o. (sent_of o ≡ []) × (closed_of o ≡ None) ×
-            (free_of o ≡ capacity) × (o.capacity ≡ capacity) × (pending_of o ≡ 0)) }
+        ensures { IfOk result (λ o. (state_of o ≡ new_outlet capacity) × (pending_of o ≡ 0)) }
     {
         Ok(MemoryOutlet {
             drained: Vec::new(alloc),
@@ -48,14 +48,14 @@ impl MemoryOutlet {
 
     /// How many packets were sent, those taken out among them.
     pub fn sent_count(&self) -> usize
-        ensures { result ≡ length (sent_of self.now) }
+        ensures { result ≡ length (state_of self.now).sent }
     {
         self.drained.len() + self.waiting.len()
     }
 
     /// The packet that was sent at this place, counted from 0; `None` from `sent_count` on.
     pub fn sent(&self, place: usize) -> Option<&Packet>
-        ensures { option_map (λ p. p.now) result ≡ slice_get (sent_of self.now) place }
+        ensures { option_map (λ p. p.now) result ≡ slice_get (state_of self.now).sent place }
     {
         if place < self.drained.len() {
             return self.drained.get(place);
@@ -67,8 +67,8 @@ impl MemoryOutlet {
     /// `OutOfMemory` is told where an allocation was refused, and for no other cause; then nothing
     /// has changed.
     pub fn drain(&mut self, n: usize) -> Result<usize, OutOfMemory>
-        ensures sent { sent_of self.new ≡ sent_of self.old }
-        ensures closed { closed_of self.new ≡ closed_of self.old }
+        ensures sent { (state_of self.new).sent ≡ (state_of self.old).sent }
+        ensures closed { self.new.closed ≡ self.old.closed }
         ensures capacity { self.new.capacity ≡ self.old.capacity }
         ensures ok { IfOk result (λ taken. (taken ≡ min n (pending_of self.old)) ×
             (pending_of self.new ≡ pending_of self.old - taken) ×
@@ -90,15 +90,9 @@ impl MemoryOutlet {
 
 impl Outlet for MemoryOutlet {
     ghost use Rattle.std.specs.Prelude.{true, is_some};
-    ghost use Rattle.hub_ends.specs.Memory.{sent_of, closed_of, free_of};
+    ghost use Rattle.hub_ends.specs.Memory.{state_of};
 
-    ghost sent = { sent_of };
-
-    ghost closed = { closed_of };
-
-    ghost free = { free_of };
-
-    ghost capacity = { λ o. o.capacity };
+    ghost state = { state_of };
 
     ghost told = { λ o. is_some o.closed };
 
@@ -119,15 +113,7 @@ impl Outlet for MemoryOutlet {
         self.closed.is_none() && self.waiting.len() < self.capacity
     }
 
-    fn offer(&mut self, packet: Packet) -> Result<(), Packet>
-        ensures taken { OnOk result ((sent_of self.new ≡ sent_of self.old ++ packet ∷ []) ×
-            (free_of self.old ≤ free_of self.new + 1) ×
-            (true ≡ true → free_of self.old ≡ free_of self.new + 1)) }
-        ensures full { IfErr result (λ p. (p ≡ packet) × (sent_of self.new ≡ sent_of self.old) ×
-            (free_of self.old ≡ 0) × (free_of self.new ≡ 0)) }
-        ensures closed { closed_of self.new ≡ closed_of self.old }
-        ensures capacity { self.new.capacity ≡ self.old.capacity }
-    {
+    fn offer(&mut self, packet: Packet) -> Result<(), Packet> {
         if self.closed.is_some() || self.waiting.len() >= self.capacity {
             return Err(packet);
         }

@@ -1,12 +1,12 @@
 use Rattle.std.proofs.Common.{◌≡◌, ◌+◌, ◌-◌, ◌≤◌}
 use Rattle.std.specs.Vec.{vec_len, vec_capacity}
 use Rattle.std.specs.VecDeque.{deque_len}
-use Rattle.hub_ends.specs.Memory.{sent_of}
+use Rattle.hub_ends.specs.Memory.{state_of}
 use Rattle.hub_ends.proofs.memory_outlet.MemoryOutlet.drain.Given as goal
 
 abbrev pub invariant-loop : goal.invariant-loop
 invariant-loop l = record {
-  sent : sent_of l.self ≡ sent_of l.fn.self;
+  sent : (state_of l.self).sent ≡ (state_of l.fn.self).sent;
   closed : l.self.closed ≡ l.fn.self.closed;
   capacity : l.self.capacity ≡ l.fn.self.capacity;
   waiting : deque_len l.self.waiting + l.counter ≡ deque_len l.fn.self.waiting;
