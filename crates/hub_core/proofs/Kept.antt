@@ -1,67 +1,140 @@
--- What is kept are messages.
-use Rattle.std.proofs.Common.{◌≡◌, ℕ, List, [], ◌∷◌, Option, None, Some, true, false}
-use Rattle.std.proofs.Common.{refl, map, filter, cond, unwrap_or, rules}
-use Rattle.std.specs.Prelude.{IsTrue, IfSome, if◌then◌else◌}
-use Rattle.std.specs.Option.{option_and_then, option_map, option_map_or}
-use Rattle.std.specs.List.{AllByRecursion}
-use Rattle.irc_line.specs.Line.{Parts}
-use Rattle.irc_line.specs.Tags.{time_of}
-use Rattle.net_view.specs.Arrival.{Received, Lost}
-use Rattle.client_caps.specs.Moment.{time_text_of}
-use Rattle.history.specs.Entry.{EntryParts, entry_parts, is_message_command, message_of}
-use Rattle.history.specs.Entry.{target_and_text}
-use Rattle.history.specs.Messages.{Messages, missed_of, is_missed, with_message}
-use Rattle.history.proofs.LastMessages.{all_kept}
-use Rattle.hub_ends.specs.Came.{Came}
-use Rattle.hub_core.specs.Pumping.{entry_for, with_entry}
-use Rattle.hub_core.specs.Running.{AreMessages}
+-- What is kept are messages, and each message has its number.
+use Rattle.hub_core.proofs.Words
+use Words.{[], all_kept, AllByRecursion, ap, append-nil, append_assoc, AreMessages, AreNumbered}
+use Words.{arith, Arrival, Bool, Came, Contains, content, content_said, entry_for, EntryParts}
+use Words.{false, filter, filter_map, IfSome, if◌then◌else◌, inl, inr, is_message}
+use Words.{is_message_command, IsSome, IsTrue, IsWrittenEntry, length, length-append, List, Lost}
+use Words.{message_of, Messages, nat_tests, no_messages, None, Option, option_map, option_map_or}
+use Words.{option_to_list, OutletState, Parts, pong_for, Puts, Received, refl, rules, Some, Text}
+use Words.{true, untagged_line, with_entry, with_message, ℕ, ◌++◌, ◌+◌, ◌<◌, ◌^◌, ◌∷◌, ◌≡◌}
+use Rattle.history.specs.Messages.{is_missed, missed_of}
+use Rattle.std.proofs.lemmas.List.Elements.{Contains-append_cases, Contains-append_left}
+use Rattle.std.proofs.lemmas.List.Elements.{Contains-append_right, filter_map-append}
+use Rattle.welcome.proofs.EachOf.{each_kept, mapped}
 
 -- what is kept of an item is a message
-pub said_is_message : (time : List ℕ) (source : Option (List ℕ)) (line : Parts)
-    → IfSome (message_of time source line) (λ e. IsTrue (is_message_command e.command))
-said_is_message time source line =
-    elim (is_message_command line.command) as (λ b. is_message_command line.command ≡ b
-    → IfSome (if b then option_and_then (λ s. option_map
-    (λ p. entry_parts time s line.command p.0 p.1) (target_and_text line.params)) source else None)
-    (λ e. IsTrue (is_message_command e.command))) [
-      | true ↦ λ h. of_source source (target_and_text line.params) h
-      | false ↦ λ h. tt
-    ] refl where
-      of_source : (source : Option (List ℕ)) (p : Option (List ℕ × List ℕ))
-          → is_message_command line.command ≡ true
-          → IfSome (option_and_then (λ s. option_map
-          (λ p. entry_parts time s line.command p.0 p.1) p) source)
-          (λ e. IsTrue (is_message_command e.command))
-      of_source None p h = tt
-      of_source (Some s) None h = tt
-      of_source (Some s) (Some p) h = h
-
 pub entry_is_message : (x : Came)
     → IfSome (entry_for x) (λ e. IsTrue (is_message_command e.command))
-entry_is_message (Received line, moment) =
-    said_is_message (unwrap_or (time_of line) (time_text_of moment)) line.source line
+entry_is_message (Received line, moment) = grind arith
 entry_is_message (Lost, moment) = search rules
+
+-- what holds of each message, and of one more if it has a number
+pub all_stay : (P : ℕ × EntryParts → Type 0) (h : Messages) (e : EntryParts) (o : Option ℕ)
+    → AllByRecursion P h.kept → ((number : ℕ) → P (number, e))
+    → AllByRecursion P (option_map_or (λ number. with_message number e h) o h).kept
+all_stay P h e None rest here = rest
+all_stay P h e (Some number) rest here = all_kept P h number e rest (here number)
 
 pub messages_stay : (h : Messages) (e : Option EntryParts) → AreMessages h.kept
     → IfSome e (λ e. IsTrue (is_message_command e.command)) → AreMessages (with_entry h e).kept
 messages_stay h None all is = all
-messages_stay h (Some e) all is = go h.next where
-  go : (next : Option ℕ)
-      → AreMessages (option_map_or (λ number. with_message number e h) next h).kept
-  go None = all
-  go (Some number) =
-      all_kept (λ (m : ℕ × EntryParts). IsTrue (is_message_command m.1.command)) h number e all is
+messages_stay h (Some e) all is =
+    all_stay (λ (m : ℕ × EntryParts). IsTrue (is_message_command m.1.command)) h e h.next all
+    (λ _. is)
 
 -- what somebody missed are messages
 pub missed_are_messages : (mark : Option ℕ) (kept : List (ℕ × EntryParts)) → AreMessages kept
     → AllByRecursion (λ (e : EntryParts). IsTrue (is_message_command e.command))
     (missed_of mark kept)
-missed_are_messages mark [] all = tt
-missed_are_messages mark (m ∷ kept) all =
-    elim (is_missed mark m) as (λ b.
-    AllByRecursion (λ (e : EntryParts). IsTrue (is_message_command e.command))
-    (map (λ (m : ℕ × EntryParts). m.1)
-    (cond b (m ∷ filter (is_missed mark) kept) (filter (is_missed mark) kept)))) [
-      | true ↦ (all.0, missed_are_messages mark kept all.1)
-      | false ↦ missed_are_messages mark kept all.1
-    ]
+missed_are_messages mark kept all =
+    mapped (λ (m : ℕ × EntryParts). IsTrue (is_message_command m.1.command))
+    (λ (e : EntryParts). IsTrue (is_message_command e.command)) (λ (m : ℕ × EntryParts). m.1)
+    (λ m h. h) (filter (is_missed mark) kept) (each_kept _ (is_missed mark) kept all)
+
+-- ---- a message more, if there is one
+
+pub record Adds (o : Option (List Text)) (all more : List (List Text)) : Type 0 where
+  pub count : length more ≡ length all + length (option_to_list o)
+  pub kept : (c : List Text) → Contains all c → Contains more c
+  pub here : IfSome o (Contains more)
+
+pub filter_more : {X Y : Type 0} (f : X → Option Y) (xs : List X) (x : X)
+    → filter_map f (xs ++ x ∷ []) ≡ filter_map f xs ++ option_to_list (f x)
+filter_more f xs x = grind (arith, filter_map-append f xs (x ∷ []))
+
+adds : (a b : List (List Text)) (o : Option (List Text))
+    → Adds o (a ++ b) (a ++ (option_to_list o ++ b))
+adds a b None = record { count = omega arith; kept = λ c h. h; here = tt }
+adds a b (Some x) = record {
+  count = omega (arith, length-append a b, length-append a (x ∷ b));
+  kept = λ c h. elim (Contains-append_cases a b c h) [
+    | inl l ↦ Contains-append_left a (x ∷ b) c l
+    | inr r ↦ Contains-append_right a (x ∷ b) c (Contains-append_right (x ∷ []) b c r)
+  ];
+  here = Contains-append_right a (x ∷ b) x (0, omega arith, refl);
+}
+
+-- it came from the network
+pub adds_heard : (a b : List (List Text)) (o : Option (List Text))
+    → Adds o (a ++ b) ((a ++ option_to_list o) ++ b)
+adds_heard a b o = rw append_assoc (adds a b o)
+
+-- it was sent there
+pub adds_said : (a b : List (List Text)) (o : Option (List Text))
+    → Adds o (a ++ b) (a ++ (b ++ option_to_list o))
+adds_said a b o = simp (append-nil, append_assoc) at (adds (a ++ b) [] o)
+
+-- ---- numbers
+
+pub numbered_start : (capacity first : ℕ) → first < 2 ^ 64
+    → AreNumbered [] first (no_messages capacity first)
+numbered_start capacity first small =
+    record { messages = tt; written = tt; origins = tt; numbers = search rules }
+
+all_map : {X : Type 0} (P Q : X → Type 0) → ((x : X) → P x → Q x) → (xs : List X)
+    → AllByRecursion P xs → AllByRecursion Q xs
+all_map P Q f [] all = tt
+all_map P Q f (x ∷ xs) all = (f x all.0, all_map P Q f xs all.1)
+
+-- a message more, where there is one and it has its number
+pub numbered_step : (all more : List (List Text)) (first : ℕ) (h : Messages) (e : Option EntryParts)
+    → Adds (option_map content e) all more → (IsSome e → IsSome h.next)
+    → IfSome e (λ e. IsTrue (is_message_command e.command)) → IfSome e IsWrittenEntry
+    → AreNumbered all first h → AreNumbered more first (with_entry h e)
+numbered_step all more first h None adds some is written k =
+    let n : first + length all ≡ first + length more = omega (arith, adds.count) in
+    record {
+      messages = k.messages;
+      written = k.written;
+      origins = all_map _ _ (λ (m : ℕ × EntryParts). adds.kept (content m.1)) h.kept k.origins;
+      numbers = rw (← n) k.numbers;
+    }
+numbered_step all more first h (Some e) adds some is written k =
+    let n : first + length more ≡ first + length all + 1 = omega (arith, adds.count) in
+    record {
+      messages = messages_stay h (Some e) k.messages is;
+      written = all_stay (λ (m : ℕ × EntryParts). IsWrittenEntry m.1) h e h.next k.written
+          (λ _. written);
+      origins = all_stay (λ (m : ℕ × EntryParts). Contains more (content m.1)) h e h.next
+          (all_map _ _ (λ m. adds.kept (content m.1)) h.kept k.origins) (λ _. adds.here);
+      numbers = grind (arith, nat_tests, k.numbers, some refl, n);
+    }
+
+-- ---- packets for the network
+
+-- what is sent of our message says what is kept of it
+pub said_content : (time : Text) (source : Option Text) (line : Parts) → is_message line ≡ true
+    → IsSome source → content_said (untagged_line None line.command line.params ∷ [])
+    ≡ option_map content (message_of time source line)
+said_content time None line e some = cc
+said_content time (Some nick) line e some = grind (arith, nat_tests, e)
+
+-- what is no message says nothing
+pub unsaid : (line : Parts) → is_message line ≡ false
+    → content_said (untagged_line None line.command line.params ∷ []) ≡ None
+unsaid line e = ap (λ b. if b then Some (line.command ∷ line.params) else None) e
+
+pub sent_more : (sent : List (List Parts)) (p : List Parts) → content_said p ≡ None
+    → filter_map content_said (sent ++ p ∷ []) ≡ filter_map content_said sent
+sent_more sent p e = rw (filter_more content_said, e) (append-nil (filter_map content_said sent))
+
+-- a PONG is no message
+pub pong_unsaid : (x : Arrival) → IfSome (pong_for x) (λ p. content_said p ≡ None)
+pong_unsaid x = grind arith
+
+pub puts_unsaid : (alone : Bool) (o : OutletState) (p : Option (List Parts)) (o' : OutletState)
+    → IfSome p (λ p. content_said p ≡ None) → Puts alone o p o'
+    → filter_map content_said o'.sent ≡ filter_map content_said o.sent
+puts_unsaid alone o None o' quiet e = rw e refl
+puts_unsaid alone o (Some p) o' quiet puts =
+    elim puts [ inl took ↦ rw took.sent (sent_more o.sent p quiet) | inr full ↦ rw full.1 refl ]

@@ -1,38 +1,23 @@
--- The channels of a view, and the key among a channel's modes.
-use Rattle.std.proofs.Common.{◌≡◌, ◌∙◌, ◌+◌, ◌<◌, ◌≤◌, ℕ, zero, suc, List, [], ◌∷◌, ◌++◌, refl, sym}
-use Rattle.std.proofs.Common.{ap, arith, Option, None, Some, true, false, length, map, take}
-use Rattle.std.proofs.Common.{cond, append-nil, option_to_list}
-use Rattle.std.specs.Prelude.{drop}
-use Rattle.std.specs.List.{slice_get}
-use Rattle.std.specs.Option.{option_and_then, option_map, option_map_or}
-use Rattle.std.specs.Ordering.{MatchOrdering, nat_cmp, is_eq, eq_by_cmp}
-use Rattle.std.specs.declared.cmp.Ordering.TheVariants.{Less, Equal, Greater}
-use Rattle.std.proofs.lemmas.Cmp.{ranked}
+-- The channels of a view, the key of one, and the channels to be joined again.
+use Rattle.hub_core.proofs.Words
+use Words.{[], ap, append-nil, arith, Arrival, Bool, bytes_cmp, bytes_exact, channels_of_view}
+use Words.{channels_shown, drop, entries-shown, eq_by_cmp, false, get_or, IfSome, Joining, joining}
+use Words.{joining_of, Joinings, key_by, length, length-map, List, list_any, Lost, lost_by}
+use Words.{lost_channels, lost_then, LostChannel, mode_shown, modes_at, nat_cmp, nat_list_cmp_total}
+use Words.{nat_tests, None, Option, option_and_then, option_map, option_or, option_to_list, put_all}
+use Words.{Received, refl, reverse, reverse-append, same_by_keys, settles, shown, slice_get, Some}
+use Words.{subst, sym, T, take, take_all, Text, View, view_of, ℕ, ◌++◌, ◌+◌, ◌∙◌, ◌∷◌, ◌≡◌, ◌≤◌}
 use Rattle.std.specs.FinMap as fin
-use Rattle.std.specs.FinMap.Entries.{find}
-use Rattle.std.proofs.lemmas.List.{take_all}
-use Rattle.std.proofs.lemmas.Option.{slice_get-map}
-use Rattle.irc_support.specs.Text.{Text}
-use Rattle.net_view.specs.Arrival.{Arrival}
-use Rattle.net_view.specs.View.{Channel, View, view_of}
-use Rattle.net_view.specs.Written.{AreWritten}
-use Rattle.net_view.proofs.SoundStep.{view_sound}
-use Rattle.net_view.specs.Readers.{channel_shown, channels_shown, mode_shown}
-use Rattle.welcome.specs.Lent.{modes_at}
-use Rattle.welcome.proofs.Places.{Mode, mode_here, take_next}
-use Rattle.std.proofs.Common.{subst, get_or}
-use Rattle.std.specs.Option.{ForSome}
-use Rattle.std.specs.Cmp.Lexicographic.{nat_list_cmp_total}
-use Rattle.std.proofs.lemmas.Option.{get_or_from_slice_get, slice_get_within}
-use Rattle.irc_support.specs.Settings.{key_by}
-use Rattle.net_view.specs.Names.{bytes_cmp}
-use Rattle.net_view.specs.Sound.{IsSound, IsSoundChannel}
-use Rattle.network_tables.proofs.Sorted.{find_at}
-use Rattle.network_tables.proofs.ShownLemmas.{entries-shown}
-use Rattle.network_tables.specs.Shown.{shown}
-use Rattle.hub_core.specs.LostChannels.{Joining, Joinings, channels_of_view, joining, joining_of}
-use Rattle.hub_core.specs.LostChannels.{key_of_channel}
-use Rattle.hub_core.specs.declared.lost.LostChannel.{LostChannel}
+use Rattle.hub_core.specs.LostChannels.{key_of_channel, lost_at}
+use Rattle.net_view.proofs.Channels.{channels_get, covers_on}
+use Rattle.net_view.proofs.{Keys.is_same, SoundStep.view_sound, Tests.absent, Walks.first_left}
+use Rattle.net_view.specs.{Named.channels_in, Named.named, Names.same, Readers.channel_shown}
+use Rattle.net_view.specs.{Sound.IsSound, Table.table_gets, Transcript.readings_of, View.Channel}
+use Rattle.net_view.specs.{View.channel_named, View.view_back, Written.AreWritten}
+use Rattle.network_tables.proofs.{ShownLemmas.get-shown, ShownLemmas.second, Sorted.find_at}
+use Rattle.std.proofs.lemmas.Option.{get_or_from_slice_get, slice_get-map, slice_get_within}
+use Rattle.std.specs.{FinMap.Entries.find, Iterator.YieldsFirstBy}
+use Rattle.welcome.proofs.{EntriesRead.none_below, Places.Mode, Places.mode_here, Places.take_next}
 
 -- ---- the key
 
@@ -40,66 +25,33 @@ use Rattle.hub_core.specs.declared.lost.LostChannel.{LostChannel}
 abbrev pub key_in : List Mode → Option Text
 key_in modes = option_and_then (λ param. param) (find nat_cmp 107 modes)
 
--- the key of the channel at a place is found among its modes
-pub key_at : (v : View) (i : ℕ)
-    → option_and_then key_of_channel (channel_shown v i) ≡ key_in (modes_at v i)
-key_at v i = go (channel_shown v i) where
-  go : (o : Option Channel) → option_and_then key_of_channel o
-      ≡ key_in (option_map_or (λ (ch : Channel). fin.entries ch.modes) o [])
-  go None = refl
-  go (Some ch) = ap (option_and_then (λ param. param)) (fin.get-entries ch.modes 107)
+module _ (v : View) (i : ℕ) where
+  -- the key of the channel at a place is found among its modes
+  pub key_at : option_and_then key_of_channel (channel_shown v i) ≡ key_in (modes_at v i)
+  key_at = grind (arith, λ (ch : Channel). fin.get-entries ch.modes 107)
 
-drop_found : {X : Type 0} (xs : List X) (j : ℕ) (x : X) → slice_get xs j ≡ Some x
-    → drop j xs ≡ x ∷ drop (j + 1) xs
-drop_found [] j x e = cc
-drop_found (y ∷ ys) zero x e =
-    let f : y ≡ x = cc in ap (λ z. z ∷ ys) f
-drop_found (y ∷ ys) (suc j) x e =
-    let n : suc (j + 1) ≡ suc j + 1 = omega arith in
-    drop_found ys j x e ∙ ap (λ k. x ∷ drop k (y ∷ ys)) n
+  -- what is left from a place on, where a letter stands there
+  left : (j : ℕ) (o : Option Mode) → mode_shown v i j ≡ o
+      → YieldsFirstBy (λ (m : Mode). m) (λ left. left) (drop j (modes_at v i)) o
+      (drop (j + 1) (modes_at v i))
+  left j o e = first_left (λ (m : Mode). m) (modes_at v i) j o (grind (arith, e, mode_here v i j))
 
-drop_past : {X : Type 0} (xs : List X) (j : ℕ) → slice_get xs j ≡ None → drop j xs ≡ []
-drop_past [] zero e = refl
-drop_past [] (suc j) e = refl
-drop_past (y ∷ ys) zero e = cc
-drop_past (y ∷ ys) (suc j) e = drop_past ys j e
+  -- what is found from a place on, where another letter stands there
+  pub key_later : (j letter : ℕ) (param : Option Text) → mode_shown v i j ≡ Some (letter, param)
+      → (letter ≡ 107 → ⊥)
+      → key_in (drop j (modes_at v i)) ≡ key_in (drop (j + 1) (modes_at v i))
+  key_later j letter param e other =
+      let no : eq_by_cmp nat_cmp 107 letter ≡ false = grind (arith, nat_tests, other) in
+      rw (left j (Some (letter, param)) e, no)
 
--- the letter k is found
-is_k : (letter : ℕ) → letter ≡ 107 → eq_by_cmp nat_cmp 107 letter ≡ true
-is_k letter e = ap (eq_by_cmp nat_cmp 107) e
+  -- where the letter stands there, its parameter is the key
+  pub key_here : (j letter : ℕ) (param : Option Text) → mode_shown v i j ≡ Some (letter, param)
+      → letter ≡ 107 → key_in (drop j (modes_at v i)) ≡ param
+  key_here j letter param e same = rw (left j (Some (letter, param)) e, same)
 
-is_no_k : (letter : ℕ) → (letter ≡ 107 → ⊥) → eq_by_cmp nat_cmp 107 letter ≡ false
-is_no_k letter other =
-    elim (nat_cmp 107 letter)
-    as (λ r. MatchOrdering r (107 < letter) (107 ≡ letter) (letter < 107) → is_eq r ≡ false) [
-      | Less ↦ λ _. refl
-      | Equal ↦ λ e. absurd (other (sym e))
-      | Greater ↦ λ _. refl
-    ] (ranked 107 letter (nat_cmp 107 letter) refl)
-
--- what is found from a place on, where another letter stands there
-pub key_later : (v : View) (i j letter : ℕ) (param : Option Text)
-    → mode_shown v i j ≡ Some (letter, param) → (letter ≡ 107 → ⊥)
-    → key_in (drop j (modes_at v i)) ≡ key_in (drop (j + 1) (modes_at v i))
-key_later v i j letter param e other =
-    ap key_in (drop_found (modes_at v i) j (letter, param) (sym (mode_here v i j) ∙ e))
-    ∙ ap (λ b. option_and_then (λ param. param)
-    (cond b (Some param) (find nat_cmp 107 (drop (j + 1) (modes_at v i))))) (is_no_k letter other)
-
--- where the letter stands there, its parameter is the key
-pub key_here : (v : View) (i j letter : ℕ) (param : Option Text)
-    → mode_shown v i j ≡ Some (letter, param) → letter ≡ 107
-    → key_in (drop j (modes_at v i)) ≡ param
-key_here v i j letter param e same =
-    ap key_in (drop_found (modes_at v i) j (letter, param) (sym (mode_here v i j) ∙ e))
-    ∙ ap (λ b. option_and_then (λ param. param)
-    (cond b (Some param) (find nat_cmp 107 (drop (j + 1) (modes_at v i))))) (is_k letter same)
-
--- behind the last mode there is none
-pub key_past : (v : View) (i j : ℕ) → mode_shown v i j ≡ None
-    → key_in (drop j (modes_at v i)) ≡ None
-key_past v i j e =
-    ap key_in (drop_past (modes_at v i) j (sym (mode_here v i j) ∙ e))
+  -- behind the last mode there is none
+  pub key_past : (j : ℕ) → mode_shown v i j ≡ None → key_in (drop j (modes_at v i)) ≡ None
+  key_past j e = ap key_in (left j None e).0
 
 -- ---- the channels
 
@@ -111,25 +63,15 @@ channel_at_place : (v : View) (i : ℕ)
     → slice_get (channels_of_view v) i ≡ option_map keyed_of (slice_get (fin.entries v.channels) i)
 channel_at_place v i = slice_get-map keyed_of (fin.entries v.channels) i
 
--- one place further
-pub channels_more : (v : View) (i : ℕ) (now : List (Text × Joining))
-    → now ≡ take i (channels_of_view v)
-    → now ++ option_to_list (slice_get (channels_of_view v) i) ≡ take (i + 1) (channels_of_view v)
-channels_more v i now is =
-    ap (λ l. l ++ option_to_list (slice_get (channels_of_view v) i)) is
-    ∙ sym (take_next (channels_of_view v) i)
-
-map_long : {X Y : Type 0} (f : X → Y) (xs : List X) → length (map f xs) ≡ length xs
-map_long f [] = refl
-map_long f (x ∷ xs) = ap suc (map_long f xs)
-
 -- all of them
 pub channels_all : (v : View) (i : ℕ) → channels_shown v ≤ i
     → take i (channels_of_view v) ≡ channels_of_view v
 channels_all v i past =
-    let n : length (channels_of_view v) ≡ channels_shown v =
-    map_long keyed_of (fin.entries v.channels) in
-    take_all i (channels_of_view v) (omega (n, past, arith))
+    take_all i (channels_of_view v)
+    (grind (arith, past, length-map (fin.entries v.channels) keyed_of))
+
+-- a loop over the channels
+pub ruleset channel_steps = (channels_all, take_next)
 
 -- ---- one of them
 
@@ -138,11 +80,8 @@ got_entry : {X : Type 0} (m : fin.FinMap bytes_cmp X) (i : ℕ) (e : Text × X)
     → slice_get (fin.entries m) i ≡ Some e → fin.get m e.0 ≡ Some e.1
 got_entry {X} m i e is =
     let at : get_or (fin.entries m) i e ≡ e = get_or_from_slice_get (fin.entries m) i e e is in
-    fin.get-entries m e.0
-    ∙ ap (λ (x : Text × X). fin.find bytes_cmp x.0 (fin.entries m)) (sym at)
-    ∙ find_at nat_list_cmp_total (fin.entries m) (fin.entries_sorted m) i e
-    (slice_get_within (fin.entries m) i e is)
-    ∙ ap (λ (x : Text × X). Some x.1) at
+    rw (fin.get-entries, ← at) (find_at nat_list_cmp_total (fin.entries m) (fin.entries_sorted m) i
+    e (slice_get_within (fin.entries m) i e is))
 
 -- a view that comes from a transcript is sound
 pub sound_view : (v : View)
@@ -152,11 +91,7 @@ sound_view v (items, written, is) = subst IsSound (sym is) (view_sound items)
 -- a channel of a view stands under the key of its name
 pub name_key : (v : View) → IsSound v → (i : ℕ) (e : Text × Channel)
     → slice_get (fin.entries v.channels) i ≡ Some e → key_by v.settings e.1.name ≡ e.0
-name_key v sound i e is =
-    let there : ForSome (Some e.1) (IsSoundChannel v e.0) =
-    subst (λ o. ForSome o (IsSoundChannel v e.0)) (got_entry v.channels i e is)
-    (sound.channels e.0) in
-    (there e.1 refl).key
+name_key v sound i e is = (sound.channels e.0 e.1 (got_entry v.channels i e is)).key
 
 -- a channel is added by its name and its key
 pub added : (v : View) → IsSound v → (i : ℕ) (name folded copy : Text) (key : Option Text)
@@ -165,53 +100,24 @@ pub added : (v : View) → IsSound v → (i : ℕ) (name folded copy : Text) (ke
     → key ≡ option_and_then key_of_channel (channel_shown v i)
     → (folded, (copy, key)) ∷ [] ≡ option_to_list (slice_get (channels_of_view v) i)
 added v sound i name folded copy key e under same k =
-    go (slice_get (fin.entries v.channels) i) refl e k
-    ∙ ap option_to_list (sym (channel_at_place v i)) where
-      go : (o : Option (Text × Channel)) → slice_get (fin.entries v.channels) i ≡ o
-          → Some name ≡ option_map (λ (ch : Channel). ch.name) (option_map (λ e. e.1) o)
-          → key ≡ option_and_then key_of_channel (option_map (λ e. e.1) o)
-          → (folded, (copy, key)) ∷ [] ≡ option_to_list (option_map keyed_of o)
-      go None is e k = cc
-      go (Some c) is e k =
-          let n : name ≡ c.1.name = cc in
-          let f : folded ≡ c.0 = under ∙ ap (key_by v.settings) n ∙ name_key v sound i c is in
-          (λ i. (f i, ((same ∙ n) i, k i)) ∷ [])
+    grind (arith, channel_at_place v i, e, under, same, k, name_key v sound i)
 
 -- where there is no channel, nothing is
 pub none_added : (v : View) (i : ℕ) (now : List (Text × Joining))
     → None ≡ option_map (λ (ch : Channel). ch.name) (channel_shown v i)
     → now ≡ now ++ option_to_list (slice_get (channels_of_view v) i)
-none_added v i now e =
-    sym (ap (λ l. now ++ option_to_list l) (channel_at_place v i
-    ∙ none (slice_get (fin.entries v.channels) i) e) ∙ append-nil now) where
-      none : (o : Option (Text × Channel))
-          → None ≡ option_map (λ (ch : Channel). ch.name) (option_map (λ e. e.1) o)
-          → option_map keyed_of o ≡ None
-      none None e = refl
-      none (Some c) e = cc
+none_added v i now e = grind (arith, channel_at_place v i, e, append-nil now)
 
 -- ---- by place
+
+abbrev joined_as : Text × LostChannel → Text × Joining
+joined_as e = (e.0, joining e.1)
 
 -- how many are kept
 pub count_is : (m : fin.FinMap bytes_cmp LostChannel) (l : Joinings) → shown joining m ≡ l
     → length (fin.entries m) ≡ length (fin.entries l)
 count_is m l e =
-    sym (ap length (entries-shown bytes_cmp joining m) ∙ map_long _ (fin.entries m))
-    ∙ ap (λ k. length (fin.entries k)) e
-
--- the one at a place
-abbrev shown_at : Option (Text × LostChannel) → Option Joining
-shown_at o = option_map joining (option_map (λ (e : Text × LostChannel). e.1) o)
-
-abbrev joining_at : Option (Text × Joining) → Option Joining
-joining_at o = option_map (λ (e : Text × Joining). e.1) o
-
-abbrev joined_as : Text × LostChannel → Text × Joining
-joined_as e = (e.0, joining e.1)
-
-again : (o : Option (Text × LostChannel)) → shown_at o ≡ joining_at (option_map joined_as o)
-again None = refl
-again (Some e) = refl
+    rw (← e, entries-shown bytes_cmp joining m) (sym (length-map (fin.entries m) joined_as))
 
 pub lost_at_place : (m : fin.FinMap bytes_cmp LostChannel) (l : Joinings) (i : ℕ)
     → shown joining m ≡ l
@@ -219,7 +125,87 @@ pub lost_at_place : (m : fin.FinMap bytes_cmp LostChannel) (l : Joinings) (i : �
     (option_map (λ (e : Text × LostChannel). e.1) (slice_get (fin.entries m) i))
     ≡ option_map (λ (e : Text × Joining). e.1) (slice_get (fin.entries l) i)
 lost_at_place m l i e =
-    again (slice_get (fin.entries m) i)
-    ∙ ap joining_at (sym (slice_get-map joined_as (fin.entries m) i)
-    ∙ ap (λ es. slice_get es i) (sym (entries-shown bytes_cmp joining m))
-    ∙ ap (λ (k : Joinings). slice_get (fin.entries k) i) e)
+    let at = slice_get-map joined_as (fin.entries m) i in
+    rw (← e, entries-shown bytes_cmp joining m) (grind (arith, at))
+
+-- ---- what is found
+
+-- what no item names was not lost
+covers_lost : (items : List Arrival) (c : Text)
+    → list_any (same c) (named channels_in (readings_of items)) ≡ false → lost_at items c ≡ None
+covers_lost [] c h = refl
+covers_lost (Lost ∷ older) c h =
+    let before = (absent (same c) _ _ h).1 in
+    let off : fin.get (view_back older).channels c ≡ None =
+    channels_get (readings_of older) c
+    ∙ ap (option_map (channel_named (readings_of older) c)) (covers_on (readings_of older) c before)
+    in
+    grind (arith, off, covers_lost older c before)
+covers_lost (Received line ∷ older) c h =
+    let before = (absent (same c) _ _ h).1 in
+    grind (arith, covers_lost older c before)
+
+lost_get : (items : List Arrival) (c : Text)
+    → fin.get (lost_channels items) c ≡ lost_at (reverse items) c
+unfolding lost_channels
+lost_get items c =
+    table_gets nat_list_cmp_total bytes_exact _ (lost_at (reverse items))
+    (covers_lost (reverse items)) c
+
+-- ---- the channels of a view
+
+found_in_view : (v : View) (c : Text)
+    → fin.find bytes_cmp c (channels_of_view v) ≡ option_map joining_of (fin.get v.channels c)
+found_in_view v c =
+    rw (← entries-shown bytes_cmp joining_of v.channels, ← fin.get-entries)
+    (get-shown bytes_cmp joining_of v.channels c)
+
+-- the channels that an item adds stand in the order of their keys
+pub sorted_new : (v : View) (x : Arrival) {N : Type 0} (channels : N → List (Text × Joining))
+    (new : Option N) → option_map channels new ≡ lost_by v x
+    → IfSome new (λ n. T (fin.is_sorted bytes_cmp (channels n)))
+sorted_new v x channels None e = tt
+sorted_new v (Received line) channels (Some n) e = cc
+sorted_new v Lost channels (Some n) e =
+    let is : channels n ≡ channels_of_view v = cc in
+    rw (is, ← entries-shown bytes_cmp joining_of v.channels)
+    (fin.entries_sorted (shown joining_of v.channels))
+
+-- ---- an item more
+
+lost_step : (x : Arrival) (older : List Arrival) (c : Text) → lost_at (x ∷ older) c
+    ≡ lost_then (lost_by (view_back older) x) (settles (view_back older) x c) c (lost_at older c)
+lost_step (Received line) older c = refl
+lost_step Lost older c = rw found_in_view refl
+
+-- what answers as they do after one more item is them
+pub lost_are : (items : List Arrival) (x : Arrival) (m : Joinings)
+    → ((c : Text) → fin.get m c
+    ≡ lost_then (lost_by (view_of items) x) (settles (view_of items) x c) c
+    (fin.get (lost_channels items) c)) → m ≡ lost_channels (items ++ x ∷ [])
+unfolding view_of
+lost_are items x m is =
+    same_by_keys (λ c. rw (is c, lost_get (items ++ x ∷ []) c, lost_get items c, reverse-append)
+    (sym (lost_step x (reverse items) c)))
+
+-- before any item there is nothing to join again
+pub no_loss : lost_channels [] ≡ fin.empty
+no_loss = same_by_keys (λ c. lost_get [] c ∙ sym (fin.get-empty bytes_cmp c))
+
+-- where an item adds channels it takes none off
+pub settled_as : (v : View) (x : Arrival) (c : Text) (off : Bool) (before : Option Joining)
+    → lost_then None off c before ≡ lost_then None (settles v x c) c before
+    → lost_then (lost_by v x) off c before ≡ lost_then (lost_by v x) (settles v x c) c before
+settled_as v (Received line) c off before e = e
+settled_as v Lost c off before e = refl
+
+-- ---- channels put in their places
+
+pub put_in : (m : Joinings) (es : List (Text × Joining)) (c : Text)
+    → T (fin.is_sorted bytes_cmp es)
+    → fin.get (put_all m es) c ≡ option_or (fin.find bytes_cmp c es) (fin.get m c)
+put_in m [] c h = refl
+put_in m (e ∷ es) c h =
+    let rest = put_in (fin.insert m e.0 e.1) es c (second _ _ h) in
+    let none = none_below bytes_cmp bytes_exact e.0 es in
+    grind (arith, rest, none, fin.get-insert nat_list_cmp_total m e.0 e.1 c, is_same c e.0, h)

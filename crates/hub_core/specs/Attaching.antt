@@ -1,5 +1,5 @@
 -- What attach and detach do.
-use Rattle.std.specs.Prelude.{◌≡◌, ◌≢◌, ◌⊎◌, ◌<◌, ◌≤◌, ◌&&◌, ℕ, List, [], ◌∷◌, ◌++◌, Option, None, Some}
+use Rattle.std.specs.Prelude.{◌≡◌, ◌≢◌, ◌⊎◌, ◌<◌, ◌&&◌, ℕ, List, [], ◌∷◌, ◌++◌, Option, None, Some}
 use Rattle.std.specs.Prelude.{Bool, true, false, not, nat_le, length, if◌then◌else◌}
 use Rattle.std.specs.Option.{option_map, option_and_then, option_map_or, is_none}
 use Rattle.std.specs.FinMap as map
@@ -12,8 +12,8 @@ use Rattle.circular_buffer.specs.Buffer.{last_item}
 use Rattle.welcome.specs.Playback.{burst_of}
 use Rattle.hub_core.specs.declared.attach.AttachError.{AttachError}
 use Rattle.hub_core.specs.declared.attach.AttachError.TheVariants as refused
-use Rattle.hub_core.specs.States.{OutletState, SessionState, HubState, view_now}
-use Rattle.hub_core.specs.Given.{Took}
+use Rattle.hub_ends.specs.Outlets.{OutletState, Took}
+use Rattle.hub_core.specs.States.{SessionState, HubState, view_now}
 
 -- ---- attach
 
@@ -53,17 +53,10 @@ pub record Attaches (alone : Bool) (old : HubState) (caps : Caps) (name : Option
   pub number : old.next ≡ Some id
   pub given : OutletState
   pub sent : Took alone outlet (burst_of (view_now old) caps (missed old name)) given
-  pub is : new ≡ record {
-    taken = old.taken;
-    ahead = old.ahead;
-    held = old.held;
+  pub is : new ≡ record old {
     sessions = old.sessions ++ record { id = id; name = name; caps = caps; outlet = given } ∷ [];
     next = number_after id;
-    upstream = old.upstream;
-    history = old.history;
-    first = old.first;
     marks = with_name name old.marks;
-    images = old.images;
   }
 
 -- No session was attached, for its first reason; where there is none, for want of memory or since
@@ -73,15 +66,6 @@ Refuses h name outlet e =
     (refusal_of h name ≡ Some e)
     ⊎ ((refusal_of h name ≡ None) × ((e ≡ refused.OutOfMemory)
     ⊎ ((e ≡ refused.OutletFull) × (outlet.free ≡ 0))))
-
--- The outlet that a refused attach hands back is as it was, but that more room may be known of in
--- it; where room comes by its own end alone, no more is.
-pub record HandsBack (alone : Bool) (old new : OutletState) : Type 0 where
-  pub sent : new.sent ≡ old.sent
-  pub closed : new.closed ≡ old.closed
-  pub capacity : new.capacity ≡ old.capacity
-  pub more : old.free ≤ new.free
-  pub room : alone ≡ true → new.free ≡ old.free
 
 -- ---- detach
 
@@ -115,15 +99,7 @@ pub record Detaches (old : HubState) (id : ℕ) (outlet : OutletState) (told : B
   pub capacity : outlet.capacity ≡ gone.outlet.capacity
   pub full : outlet.free ≡ 0
   pub told_so : 0 < gone.outlet.free → told ≡ true
-  pub is : new ≡ record {
-    taken = old.taken;
-    ahead = old.ahead;
-    held = old.held;
+  pub is : new ≡ record old {
     sessions = front ++ back;
-    next = old.next;
-    upstream = old.upstream;
-    history = old.history;
-    first = old.first;
     marks = marked gone.name (last_number old.history) old.marks;
-    images = old.images;
   }

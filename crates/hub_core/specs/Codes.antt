@@ -12,7 +12,8 @@ use Rattle.history.specs.Entry.{EntryParts}
 use Rattle.history.specs.Messages.{Messages}
 use Rattle.history.specs.Marks.{NameMarks}
 use Rattle.hub_ends.specs.Came.{Came}
-use Rattle.hub_core.specs.States.{OutletState, SessionState, HubState}
+use Rattle.hub_ends.specs.Outlets.{OutletState}
+use Rattle.hub_core.specs.States.{SessionState, HubState}
 
 abbrev text_code : Coded Text
 text_code = coded_list coded_ℕ

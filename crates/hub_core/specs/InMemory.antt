@@ -1,7 +1,8 @@
 -- What is done to the ends of a hub that are in memory.
 use Rattle.std.specs.Prelude.{◌≡◌, ◌⊎◌, ◌+◌, ◌-◌, ℕ, List, ◌∷◌, ◌++◌, None, min, cond, is_some}
 use Rattle.hub_ends.specs.Came.{Came}
-use Rattle.hub_core.specs.States.{OutletState, HubState}
+use Rattle.hub_ends.specs.Outlets.{OutletState}
+use Rattle.hub_core.specs.States.{HubState}
 use Rattle.hub_core.specs.Given.{with_outlet}
 use Rattle.hub_core.specs.Attaching.{Lacks}
 use Rattle.hub_core.specs.Saying.{Around, with_sessions}
@@ -9,18 +10,7 @@ use Rattle.hub_core.specs.Upkeep.{with_upstream}
 
 -- the same hub with these items ahead
 abbrev pub with_ahead : HubState → List Came → HubState
-with_ahead h ahead = record {
-  taken = h.taken;
-  ahead = ahead;
-  held = h.held;
-  sessions = h.sessions;
-  next = h.next;
-  upstream = h.upstream;
-  history = h.history;
-  first = h.first;
-  marks = h.marks;
-  images = h.images;
-}
+with_ahead h ahead = record h { ahead = ahead }
 
 -- So many packets were taken out of an outlet, of those that wait there at most so many. They stay
 -- sent, and there is room for as many more, but in an outlet that is closed.

@@ -15,8 +15,9 @@ use Rattle.hub_core.specs.declared.hub.Pumped.{Pumped}
 use Rattle.hub_core.specs.declared.hub.Pumped.TheVariants.{Nothing, Taken}
 use Rattle.hub_core.specs.declared.hub.HubError.{HubError}
 use Rattle.hub_core.specs.declared.hub.HubError.TheVariants as fault
-use Rattle.hub_core.specs.States.{OutletState, HubState, view_now}
-use Rattle.hub_core.specs.Given.{Delivered, Took, all_sets_but, packet_for}
+use Rattle.hub_ends.specs.Outlets.{OutletState, Took}
+use Rattle.hub_core.specs.States.{HubState, view_now}
+use Rattle.hub_core.specs.Given.{Delivered, all_sets_but, packet_for}
 
 -- ---- of an item
 
@@ -79,7 +80,15 @@ pub record Takes (inlet outlet : Bool) (old : HubState) (cut : ℕ) (new : HubSt
   pub number : IsSome (entry_for item) → IsSome old.history.next
   pub images : new.images
       ≡ counted (old.images + images_for item.0 (length (all_sets_but None [] old.sessions)))
-  pub same : (new.next ≡ old.next) × (new.first ≡ old.first) × (new.marks ≡ old.marks)
+  pub others : new ≡ record old {
+    taken = new.taken;
+    ahead = new.ahead;
+    held = new.held;
+    sessions = new.sessions;
+    upstream = new.upstream;
+    history = new.history;
+    images = new.images;
+  }
 
 -- the item is a message, and there is no number for it
 abbrev pub Spends : HubState → Came → Type 0
@@ -91,9 +100,7 @@ pub record Holds (inlet : Bool) (old : HubState) (e : HubError) (new : HubState)
   pub comes : Next inlet old item new
   pub held : new.held ≡ Some item
   pub spent : (e ≡ fault.Spent) ↔ Spends old item
-  pub same : (new.sessions ≡ old.sessions) × (new.upstream ≡ old.upstream) ×
-      (new.history ≡ old.history) × (new.images ≡ old.images) ×
-      (new.next ≡ old.next) × (new.first ≡ old.first) × (new.marks ≡ old.marks)
+  pub others : new ≡ record old { taken = new.taken; ahead = new.ahead; held = new.held }
 
 abbrev pub PumpedAs : Bool → Bool → HubState → Pumped → HubState → Type 0
 PumpedAs inlet outlet old Nothing new = (old.held ≡ None) × (old.ahead ≡ []) × (new ≡ old)

@@ -30,8 +30,7 @@ abbrev pub Fits : View → SessionState → Type 0
 Fits v s = Agrees (held s.caps) (view_sent s) v × (s.outlet.closed ≡ None)
 
 abbrev pub EachFits : View → List SessionState → Type 0
-EachFits v [] = Unit {0}
-EachFits v (s ∷ ss) = Fits v s × EachFits v ss
+EachFits v ss = AllByRecursion (Fits v) ss
 
 -- entries of messages, with their numbers
 abbrev pub AreMessages : List (ℕ × EntryParts) → Type 0

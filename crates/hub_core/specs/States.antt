@@ -3,7 +3,6 @@ use Rattle.std.specs.Prelude.{ℕ, ◌-◌, List, length, take, Option}
 use Rattle.std.specs.Option.{option_to_list}
 use Rattle.std.specs.FinMap.{empty}
 use Rattle.std.proofs.Common.{Some, None, []}
-use Rattle.irc_line.specs.Line.{Parts}
 use Rattle.irc_support.specs.Text.{Text}
 use Rattle.net_view.specs.Arrival.{Arrival}
 use Rattle.net_view.specs.View.{View, view_of}
@@ -11,14 +10,7 @@ use Rattle.history.specs.Messages.{Messages, no_messages}
 use Rattle.history.specs.Marks.{NameMarks}
 use Rattle.client_caps.specs.declared.caps.Caps.{Caps}
 use Rattle.hub_ends.specs.Came.{Came, arrivals}
-
--- an outlet: the packets that it was sent, the number that it was closed with, how many packets it
--- holds at most, and how many more it is known to take
-pub record OutletState : Type 0 where
-  pub sent : List (List Parts)
-  pub closed : Option ℕ
-  pub capacity : ℕ
-  pub free : ℕ
+use Rattle.hub_ends.specs.Outlets.{OutletState}
 
 -- a session: its number, its client's name, the capabilities that it holds, and its outlet
 pub record SessionState : Type 0 where

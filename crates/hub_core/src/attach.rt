@@ -9,9 +9,9 @@ ghost use Rattle.std.specs.Vec.{vec_len, vec_capacity};
 ghost use Rattle.history.specs.Messages.{AreWrittenMessages, missed_by, number_after};
 ghost use Rattle.history.specs.Marks.{mark_of};
 ghost use Rattle.welcome.specs.Playback.{burst_of};
-ghost use Rattle.hub_core.specs.Attaching.{Attaches, HandsBack, Refuses, names_full, refusal_of};
+ghost use Rattle.hub_ends.specs.Outlets.{FindsRoom};
+ghost use Rattle.hub_core.specs.Attaching.{Attaches, Refuses, names_full, refusal_of};
 ghost use Rattle.hub_core.specs.Attaching.{is_new_name, missed, with_name, without_name};
-ghost use Rattle.hub_core.specs.Insides.{outlet_of};
 ghost use Rattle.hub_core.specs.StateParts.{AreStateParts};
 ghost use Rattle.hub_core.specs.States.{view_now};
 ghost use Rattle.hub_core.specs.declared.attach.AttachError.TheVariants as refused;
@@ -175,16 +175,12 @@ fn make_room<O: Outlet>(
 ) -> Result<(), AttachError>
     requires { names_full (option_map (λ n. n.now) name) marks.old ≡ false }
     ensures sessions { sessions.new.items ≡ sessions.old.items }
-    ensures sent { O.sent outlet.new ≡ O.sent outlet.old }
-    ensures closed { O.closed outlet.new ≡ O.closed outlet.old }
-    ensures capacity { O.capacity outlet.new ≡ O.capacity outlet.old }
-    ensures more { O.free outlet.old ≤ O.free outlet.new }
-    ensures alone { O.alone ≡ true → O.free outlet.new ≡ O.free outlet.old }
+    ensures found { FindsRoom O.alone (O.state outlet.old) (O.state outlet.new) }
     ensures ok { OnOk result ((vec_len sessions.new < vec_capacity sessions.new) ×
         (marks.new ≡ with_name (option_map (λ n. n.now) name.entry) marks.old) ×
-        (0 < O.free outlet.new)) }
+        (0 < (O.state outlet.new).free)) }
     ensures err { IfErr result (λ e. (marks.new ≡ marks.old) × ((e ≡ refused.OutOfMemory)
-        ⊎ ((e ≡ refused.OutletFull) × (O.free outlet.old ≡ 0)))) }
+        ⊎ ((e ≡ refused.OutletFull) × ((O.state outlet.old).free ≡ 0)))) }
 {
     match sessions.reserve(1) {
         Ok(()) => {}
@@ -266,15 +262,13 @@ impl<V: NetworkView + Drop, I: Inlet, O: Outlet> Hub<V, I, O> {
         name: Option<&[u8]>,
         outlet: O,
     ) -> Result<SessionId, (AttachError, O)>
-        requires { (O.sent outlet ≡ []) × (O.closed outlet ≡ None) }
+        requires { ((O.state outlet).sent ≡ []) × ((O.state outlet).closed ≡ None) }
         ensures ok { IfOk result (λ id. Attaches O.alone self.old caps
-            (option_map (λ n. n.now) name.entry)
-            (outlet_of O.sent O.closed O.capacity O.free outlet) id self.new) }
+            (option_map (λ n. n.now) name.entry) (O.state outlet) id self.new) }
         ensures refused { IfErr result (λ e. Refuses self.old (option_map (λ n. n.now) name.entry)
-            (outlet_of O.sent O.closed O.capacity O.free outlet) e.0) }
-        ensures kept { IfErr result (λ e. (self.new ≡ self.old) × HandsBack O.alone
-            (outlet_of O.sent O.closed O.capacity O.free outlet)
-            (outlet_of O.sent O.closed O.capacity O.free e.1)) }
+            (O.state outlet) e.0) }
+        ensures kept { IfErr result (λ e. (self.new ≡ self.old) ×
+            FindsRoom O.alone (O.state outlet) (O.state e.1)) }
     {
         let mut outlet = outlet;
         let (id, own_name, burst) = match self.parts_for(caps, name) {

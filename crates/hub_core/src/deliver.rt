@@ -4,7 +4,7 @@ ghost use Rattle.std.specs.Prelude.{◌≡◌, ◌+◌, None, Option, List, IfOk
 ghost use Rattle.std.specs.List.{AllByRecursion};
 ghost use Rattle.irc_line.specs.Line.{Parts};
 ghost use Rattle.hub_core.specs.Given.{Delivered};
-ghost use Rattle.hub_core.specs.Insides.{state_of, states_of};
+ghost use Rattle.hub_core.specs.Insides.{state_of};
 ghost use Rattle.hub_core.specs.States.{SessionState};
 
 use crate::session::Session;
@@ -14,10 +14,9 @@ use hub_ends::Outlet;
 /// it is removed, and its outlet is closed and dropped. Answers how many were cut.
 pub fn deliver<O: Outlet>(sessions: &mut Vec<Session<O>>) -> usize
     ensures all { (give : SessionState → Option (List Parts)) →
-        AllByRecursion (λ s. s.coming
-        ≡ give (state_of O.sent O.closed O.capacity O.free s)) sessions.old.items →
-        Delivered O.alone give (states_of O.sent O.closed O.capacity O.free sessions.old.items)
-        (states_of O.sent O.closed O.capacity O.free sessions.new.items) }
+        AllByRecursion (λ s. s.coming ≡ give (state_of O.state s)) sessions.old.items →
+        Delivered O.alone give (map (state_of O.state) sessions.old.items)
+        (map (state_of O.state) sessions.new.items) }
     ensures done { AllByRecursion (λ s. s.coming ≡ None) sessions.new.items }
     ensures count { result + length sessions.new.items ≡ length sessions.old.items }
 {

@@ -2,7 +2,6 @@
 
 ghost use Rattle.std.specs.Prelude.{◌≡◌, IfOk, OnErr, option_map};
 ghost use Rattle.hub_core.specs.Attaching.{Detaches, Lacks, marked};
-ghost use Rattle.hub_core.specs.Insides.{outlet_of};
 
 use crate::attach::NoSession;
 use crate::hub::Hub;
@@ -26,8 +25,8 @@ impl<V: NetworkView + Drop, I: Inlet, O: Outlet> Hub<V, I, O> {
     /// back closed with its number. `NoSession` where no session has the number; then nothing has
     /// changed.
     pub fn detach(&mut self, id: SessionId) -> Result<O, NoSession>
-        ensures ok { IfOk result (λ o. Detaches self.old id
-            (outlet_of O.sent O.closed O.capacity O.free o) (O.told o) self.new) }
+        ensures ok { IfOk result (λ o.
+            Detaches self.old id (O.state o) (O.told o) self.new) }
         ensures err { OnErr result ((self.new ≡ self.old) × Lacks id self.old.sessions) }
     {
         let Some(place) = place_of(&self.sessions, id) else {

@@ -104,9 +104,9 @@ impl<V: NetworkView + Drop, I: Inlet, O: Outlet> Model for Hub<V, I, O> {
 
     ghost coded = { hub_code };
 
-    ghost view = { hub_of I.taken I.ahead O.sent O.closed O.capacity O.free };
+    ghost view = { hub_of I.taken I.ahead O.state };
 
-    ghost invariant = { λ h. IsRunning (hub_of I.taken I.ahead O.sent O.closed O.capacity O.free h)
+    ghost invariant = { λ h. IsRunning (hub_of I.taken I.ahead O.state h)
         (V.view h.view) h.online (shown joining h.lost.all) ×
         AreStateParts (V.view h.view) h.parts.items };
 }
@@ -115,7 +115,6 @@ impl<V: NetworkView + Drop, I: Inlet, O: Outlet> Hub<V, I, O> {
     ghost use Rattle.hub_core.specs.States.{view_now, heard, started};
     ghost use Rattle.hub_core.specs.Online.{is_online};
     ghost use Rattle.hub_core.specs.Running.{IsRunning};
-    ghost use Rattle.hub_core.specs.Insides.{outlet_of};
     ghost use Rattle.hub_core.specs.LostChannels.{joining, lost_channels};
     ghost use Rattle.std.specs.FinMap as fin;
     ghost use Rattle.std.specs.Prelude.{length, slice_get};
@@ -133,10 +132,9 @@ impl<V: NetworkView + Drop, I: Inlet, O: Outlet> Hub<V, I, O> {
     ) -> Result<Hub<V, I, O>, CapacityError>
         requires view { V.view view ≡ empty_view }
         requires inlet { I.taken inlet ≡ [] }
-        requires upstream { O.sent upstream ≡ [] }
+        requires upstream { (O.state upstream).sent ≡ [] }
         ensures ok { IfOk result (λ hub. hub ≡ started (I.ahead inlet)
-            (outlet_of O.sent O.closed O.capacity O.free upstream)
-            setup.history setup.first_number setup.first_session) }
+            (O.state upstream) setup.history setup.first_number setup.first_session) }
         ensures bad { IsErrOf result CapacityError.BadCapacity
             ↔ (is_capacity setup.history ≡ false) }
     {
@@ -185,7 +183,7 @@ impl<V: NetworkView + Drop, I: Inlet, O: Outlet> Hub<V, I, O> {
 
     /// The outlet to the network.
     pub fn upstream_outlet(&self) -> &O
-        ensures { outlet_of O.sent O.closed O.capacity O.free result.now ≡ self.now.upstream }
+        ensures { O.state result.now ≡ self.now.upstream }
     {
         &self.upstream
     }
@@ -193,7 +191,7 @@ impl<V: NetworkView + Drop, I: Inlet, O: Outlet> Hub<V, I, O> {
     /// The outlet of a session; `None` exactly where no session has the number.
     pub fn outlet(&self, id: SessionId) -> Option<&O>
         ensures { LendsOutlet self.now id
-            (option_map (λ o. outlet_of O.sent O.closed O.capacity O.free o.now) result) }
+            (option_map (λ o. O.state o.now) result) }
     {
         let Some(place) = place_of(&self.sessions, id) else {
             return None;

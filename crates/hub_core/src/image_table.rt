@@ -8,7 +8,8 @@ ghost use Rattle.hub_core.specs.Given.{packet_for, packet_of, same_caps, more_se
 ghost use Rattle.hub_core.specs.Pumping.{images_for};
 ghost use Rattle.client_caps.specs.Images.{part_lines_of};
 
-use client_caps::{Caps, Moment, image, part_lines};
+use crate::incoming::Incoming;
+use client_caps::{Caps, image, part_lines};
 use irc_line::Line;
 use net_view::{Item, NetworkView, OutOfMemory};
 use std::alloc::Global;
@@ -42,20 +43,18 @@ fn packet_of_loss<V: NetworkView>(alloc: Global, view: &V) -> Result<Option<Pack
     Ok(Some(Packet::all(alloc, &lines)?))
 }
 
-/// What sessions with these capabilities are sent of an item. The view is the one before it.
+/// What sessions with these capabilities are sent of an item.
 fn packet_for<V: NetworkView>(
-    alloc: Global,
-    view: &V,
+    incoming: &Incoming<'_, V>,
     caps: Caps,
-    item: &Item,
-    moment: Moment,
 ) -> Result<Option<Packet>, OutOfMemory>
-    ensures { IfOk result (λ packet.
-        packet ≡ packet_for (V.view view.now) (arrival_of item.now, moment.0) caps) }
+    ensures { IfOk result (λ packet. packet ≡ packet_for (V.view incoming.now.view.now)
+        (arrival_of incoming.now.item.now, incoming.now.moment.0) caps) }
 {
-    match item {
+    let (alloc, view) = (incoming.alloc, incoming.view);
+    match incoming.item {
         Item::Line(line) => {
-            let image = image(alloc, view, caps, line, moment)?;
+            let image = image(alloc, view, caps, line, incoming.moment)?;
             packet_of_line(alloc, &image)
         }
         Item::Lost => packet_of_loss(alloc, view),
@@ -63,7 +62,7 @@ fn packet_for<V: NetworkView>(
 }
 
 /// The same packet again, over the same bytes.
-pub fn share_of(packet: &Option<Packet>) -> Result<Option<Packet>, OutOfMemory>
+fn share_of(packet: &Option<Packet>) -> Result<Option<Packet>, OutOfMemory>
     ensures { IfOk result (λ share. share ≡ packet.now) }
 {
     match packet {
@@ -82,26 +81,23 @@ fn place_in(made: &Vec<Made>, caps: Caps) -> Option<usize>
 /// As `packet_for`, made once for each set of capabilities: what was made for a set before is
 /// shared.
 pub fn shared_packet_for<V: NetworkView>(
-    alloc: Global,
-    view: &V,
+    incoming: &Incoming<'_, V>,
     caps: Caps,
-    item: &Item,
-    moment: Moment,
     made: &mut Vec<Made>,
 ) -> Result<Option<Packet>, OutOfMemory>
-    requires { AllByRecursion (λ m. m.packet
-        ≡ packet_for (V.view view.now) (arrival_of item.now, moment.0) m.caps) made.old.items }
-    ensures packet { IfOk result (λ packet.
-        packet ≡ packet_for (V.view view.now) (arrival_of item.now, moment.0) caps) }
-    ensures made { AllByRecursion (λ m. m.packet
-        ≡ packet_for (V.view view.now) (arrival_of item.now, moment.0) m.caps) made.new.items }
+    requires { AllByRecursion (λ m. m.packet ≡ packet_for (V.view incoming.now.view.now)
+        (arrival_of incoming.now.item.now, incoming.now.moment.0) m.caps) made.old.items }
+    ensures packet { IfOk result (λ packet. packet ≡ packet_for (V.view incoming.now.view.now)
+        (arrival_of incoming.now.item.now, incoming.now.moment.0) caps) }
+    ensures made { AllByRecursion (λ m. m.packet ≡ packet_for (V.view incoming.now.view.now)
+        (arrival_of incoming.now.item.now, incoming.now.moment.0) m.caps) made.new.items }
     ensures sets { OnOk result (map (λ m. m.caps) made.new.items
         ≡ more_sets (map (λ m. m.caps) made.old.items) caps) }
 {
     if let Some(place) = place_in(made, caps) {
         return share_of(&made[place].packet);
     }
-    let packet = packet_for(alloc, view, caps, item, moment)?;
+    let packet = packet_for(incoming, caps)?;
     let share = share_of(&packet)?;
     made.push(Made { caps, packet })?;
     Ok(share)

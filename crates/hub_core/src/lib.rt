@@ -7,6 +7,7 @@ mod deliver;
 mod detach;
 mod hub;
 mod image_table;
+mod incoming;
 mod lost;
 mod memory;
 mod messages;

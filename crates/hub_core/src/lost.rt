@@ -77,7 +77,8 @@ fn push_channel<V: NetworkView>(
     view: &V,
     i: usize,
 ) -> Result<(), OutOfMemory>
-    ensures { OnOk result (map (λ e. keyed e.value) channels.new.items ≡ map (λ e. keyed e.value) channels.old.items
+    ensures { OnOk result (map (λ e. keyed e.value) channels.new.items
+        ≡ map (λ e. keyed e.value) channels.old.items
         ++ option_to_list (slice_get (channels_of_view (V.view view.now)) i)) }
 {
     view.comes_from_lines();
@@ -88,7 +89,7 @@ fn push_channel<V: NetworkView>(
         let entry = Entry {
             key: folded,
             value: LostChannel { name, key },
-            near: usize::MAX,
+            near: 0,
         };
         channels.push(Box::new(alloc, entry)?)?;
     }
@@ -96,6 +97,7 @@ fn push_channel<V: NetworkView>(
 }
 
 /// The channels of a view.
+#[tactic(auto, using(crate::proofs::LostChannels::channel_steps))]
 fn channels_of<V: NetworkView>(alloc: Global, view: &V) -> Result<Vec<LostEntry>, OutOfMemory>
     ensures { IfOk result (λ channels. map (λ e. keyed e.value) channels.items
         ≡ channels_of_view (V.view view.now)) }
@@ -116,7 +118,8 @@ pub fn lost_by<V: NetworkView>(
     lost: &mut LostChannels,
 ) -> Result<Option<Vec<LostEntry>>, OutOfMemory>
     ensures all { lost.new.all ≡ lost.old.all }
-    ensures new { IfOk result (λ new. option_map (λ channels. map (λ e. keyed e.value) channels.items) new
+    ensures new { IfOk result (λ new.
+        option_map (λ channels. map (λ e. keyed e.value) channels.items) new
         ≡ lost_by (V.view view.now) (arrival_of item.now)) }
     ensures room { IfOk result (λ new.
         IfSome new (λ channels. length channels.items ≤ lost.new.spare)) }

@@ -6,69 +6,63 @@ ghost use Rattle.std.specs.List.{AllByRecursion};
 ghost use Rattle.net_view.specs.Arrival.{arrival_of};
 ghost use Rattle.history.specs.Entry.{IsWrittenEntry};
 ghost use Rattle.hub_core.specs.Given.{all_sets_but, given_but, packet_for, sets_but};
-ghost use Rattle.hub_core.specs.Insides.{state_of, states_of};
+ghost use Rattle.hub_core.specs.Insides.{state_of};
 ghost use Rattle.hub_core.specs.Pumping.{entry_for};
 
 use crate::hub::HubError;
 use crate::image_table::{Made, shared_packet_for};
+use crate::incoming::Incoming;
 use crate::messages::{entry_of, is_kept};
 use crate::session::Session;
-use client_caps::Moment;
 use history::{Entry, History};
 use hub_ends::{Outlet, SessionId};
-use net_view::{Item, NetworkView, OutOfMemory};
-use std::alloc::Global;
+use net_view::{NetworkView, OutOfMemory};
 use welcome::Packet;
 
 /// What one session is to be sent of an item; nothing, where it is the one left out.
 fn coming_for<V: NetworkView, O: Outlet>(
-    alloc: Global,
-    view: &V,
+    incoming: &Incoming<'_, V>,
     session: &Session<O>,
-    item: &Item,
-    moment: Moment,
     except: Option<SessionId>,
     made: &mut Vec<Made>,
 ) -> Result<Option<Packet>, OutOfMemory>
-    requires { AllByRecursion (λ m. m.packet
-        ≡ packet_for (V.view view.now) (arrival_of item.now, moment.0) m.caps) made.old.items }
+    requires { AllByRecursion (λ m. m.packet ≡ packet_for (V.view incoming.now.view.now)
+        (arrival_of incoming.now.item.now, incoming.now.moment.0) m.caps) made.old.items }
     ensures packet { IfOk result (λ packet. packet
-        ≡ given_but except (packet_for (V.view view.now) (arrival_of item.now, moment.0))
-        (state_of O.sent O.closed O.capacity O.free session.now)) }
-    ensures made { AllByRecursion (λ m. m.packet
-        ≡ packet_for (V.view view.now) (arrival_of item.now, moment.0) m.caps) made.new.items }
+        ≡ given_but except (packet_for (V.view incoming.now.view.now)
+        (arrival_of incoming.now.item.now, incoming.now.moment.0))
+        (state_of O.state session.now)) }
+    ensures made { AllByRecursion (λ m. m.packet ≡ packet_for (V.view incoming.now.view.now)
+        (arrival_of incoming.now.item.now, incoming.now.moment.0) m.caps) made.new.items }
     ensures sets { OnOk result (map (λ m. m.caps) made.new.items
-        ≡ sets_but except (map (λ m. m.caps) made.old.items)
-        (state_of O.sent O.closed O.capacity O.free session.now)) }
+        ≡ sets_but except (map (λ m. m.caps) made.old.items) (state_of O.state session.now)) }
 {
     if except == Some(session.id) {
         return Ok(None);
     }
-    shared_packet_for(alloc, view, session.caps, item, moment, made)
+    shared_packet_for(incoming, session.caps, made)
 }
 
-/// Makes what each session but one is to be sent of an item, once for each set of capabilities. The
-/// view is the one before the item. Nothing is sent yet: after a refusal each session is as it was.
-pub fn prepare<V: NetworkView, O: Outlet>(
-    alloc: Global,
-    view: &V,
+/// Makes what each session but one is to be sent of an item, once for each set of capabilities.
+/// Nothing is sent yet: after a refusal each session is as it was.
+fn prepare<V: NetworkView, O: Outlet>(
+    incoming: &Incoming<'_, V>,
     sessions: &mut Vec<Session<O>>,
-    item: &Item,
-    moment: Moment,
     except: Option<SessionId>,
     made: &mut Vec<Made>,
 ) -> Result<(), OutOfMemory>
-    ensures states { states_of O.sent O.closed O.capacity O.free sessions.new.items
-        ≡ states_of O.sent O.closed O.capacity O.free sessions.old.items }
+    ensures states { map (state_of O.state) sessions.new.items
+        ≡ map (state_of O.state) sessions.old.items }
     ensures coming { OnOk result (AllByRecursion (λ s. s.coming
-        ≡ given_but except (packet_for (V.view view.now) (arrival_of item.now, moment.0))
-        (state_of O.sent O.closed O.capacity O.free s)) sessions.new.items) }
+        ≡ given_but except (packet_for (V.view incoming.now.view.now)
+        (arrival_of incoming.now.item.now, incoming.now.moment.0))
+        (state_of O.state s)) sessions.new.items) }
     ensures sets { OnOk result (map (λ m. m.caps) made.new.items
-        ≡ all_sets_but except [] (states_of O.sent O.closed O.capacity O.free sessions.old.items)) }
+        ≡ all_sets_but except [] (map (state_of O.state) sessions.old.items)) }
 {
     made.clear();
     for i in 0..sessions.len() {
-        let coming = coming_for(alloc, view, &sessions[i], item, moment, except, made)?;
+        let coming = coming_for(incoming, &sessions[i], except, made)?;
         sessions[i].coming = coming;
     }
     Ok(())
@@ -77,32 +71,32 @@ pub fn prepare<V: NetworkView, O: Outlet>(
 /// Makes what an item leads to: what each session but one is to be sent, and the entry of a
 /// message. Nothing is sent yet.
 pub fn prepare_item<V: NetworkView, O: Outlet>(
-    alloc: Global,
-    view: &V,
+    incoming: &Incoming<'_, V>,
     sessions: &mut Vec<Session<O>>,
     history: &History,
-    item: &Item,
-    moment: Moment,
     except: Option<SessionId>,
     made: &mut Vec<Made>,
 ) -> Result<Option<Entry>, HubError>
-    ensures states { states_of O.sent O.closed O.capacity O.free sessions.new.items
-        ≡ states_of O.sent O.closed O.capacity O.free sessions.old.items }
-    ensures made { IfOk result (λ entry. entry ≡ entry_for (arrival_of item.now, moment.0)) }
+    ensures states { map (state_of O.state) sessions.new.items
+        ≡ map (state_of O.state) sessions.old.items }
+    ensures made { IfOk result (λ entry. entry
+        ≡ entry_for (arrival_of incoming.now.item.now, incoming.now.moment.0)) }
     ensures written { IfOk result (λ entry. IfSome entry IsWrittenEntry) }
     ensures coming { OnOk result (AllByRecursion (λ s. s.coming
-        ≡ given_but except (packet_for (V.view view.now) (arrival_of item.now, moment.0))
-        (state_of O.sent O.closed O.capacity O.free s)) sessions.new.items) }
+        ≡ given_but except (packet_for (V.view incoming.now.view.now)
+        (arrival_of incoming.now.item.now, incoming.now.moment.0))
+        (state_of O.state s)) sessions.new.items) }
     ensures numbered { IfOk result (λ entry. IsSome entry → IsSome history.now.next) }
     ensures sets { OnOk result (map (λ m. m.caps) made.new.items ≡ all_sets_but except []
-        (states_of O.sent O.closed O.capacity O.free sessions.old.items)) }
+        (map (state_of O.state) sessions.old.items)) }
     ensures spent { IsErrOf result HubError.Spent ↔
-        (IsSome (entry_for (arrival_of item.now, moment.0)) × (history.now.next ≡ None)) }
+        (IsSome (entry_for (arrival_of incoming.now.item.now, incoming.now.moment.0)) ×
+        (history.now.next ≡ None)) }
 {
-    if history.next_number().is_none() && is_kept(item) {
+    if history.next_number().is_none() && is_kept(incoming.item) {
         return Err(HubError::Spent);
     }
-    prepare(alloc, view, sessions, item, moment, except, made)?;
-    let entry = entry_of(alloc, item, moment)?;
+    prepare(incoming, sessions, except, made)?;
+    let entry = entry_of(incoming.alloc, incoming.item, incoming.moment)?;
     Ok(entry)
 }

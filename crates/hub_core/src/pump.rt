@@ -10,7 +10,7 @@ ghost use Rattle.net_view.specs.Arrival.{arrival_of};
 ghost use Rattle.history.specs.Entry.{IsWrittenEntry};
 ghost use Rattle.hub_ends.specs.Came.{came};
 ghost use Rattle.hub_core.specs.Given.{all_sets_but, given_but, packet_for};
-ghost use Rattle.hub_core.specs.Insides.{state_of, states_of};
+ghost use Rattle.hub_core.specs.Insides.{state_of};
 ghost use Rattle.hub_core.specs.LostChannels.{keyed, lost_by};
 ghost use Rattle.hub_core.specs.Online.{is_welcome, says_online};
 ghost use Rattle.hub_core.specs.Pumping.{Comes, Pumps, entry_for, pong_for};
@@ -18,6 +18,7 @@ ghost use Rattle.hub_core.specs.Pumping.{Comes, Pumps, entry_for, pong_for};
 use crate::deliver::deliver;
 use crate::hub::{Hub, HubError, Pumped};
 use crate::image_table::{Made, images_of};
+use crate::incoming::Incoming;
 use crate::lost::{LostChannels, LostEntry, lost_by, renew, settled_by};
 use crate::messages::keep;
 use crate::outlets::put;
@@ -92,38 +93,39 @@ fn online_after(online: bool, item: &Item) -> bool
 
 /// Makes what an item from the network leads to: that for the sessions, the answer to a PING, and
 /// the channels that are to be joined again from here on, for which room is made.
+#[tactic(auto, using(irc_line::proofs::Outcomes::no_value, irc_line::proofs::Outcomes::not_ok))]
 fn prepare_arrival<V: NetworkView, O: Outlet>(
-    alloc: Global,
-    view: &V,
+    incoming: &Incoming<'_, V>,
     sessions: &mut Vec<Session<O>>,
     history: &History,
-    item: &Item,
-    moment: Moment,
     made: &mut Vec<Made>,
     lost: &mut LostChannels,
 ) -> Result<(Option<Entry>, Option<Packet>, Option<Vec<LostEntry>>), HubError>
-    ensures states { states_of O.sent O.closed O.capacity O.free sessions.new.items
-        ≡ states_of O.sent O.closed O.capacity O.free sessions.old.items }
-    ensures made { IfOk result (λ r. (r.0 ≡ entry_for (arrival_of item.now, moment.0)) ×
-        (r.1 ≡ pong_for (arrival_of item.now)) ×
+    ensures states { map (state_of O.state) sessions.new.items
+        ≡ map (state_of O.state) sessions.old.items }
+    ensures made { IfOk result (λ r.
+        (r.0 ≡ entry_for (arrival_of incoming.now.item.now, incoming.now.moment.0)) ×
+        (r.1 ≡ pong_for (arrival_of incoming.now.item.now)) ×
         (option_map (λ channels. map (λ e. keyed e.value) channels.items) r.2
-        ≡ lost_by (V.view view.now) (arrival_of item.now))) }
+        ≡ lost_by (V.view incoming.now.view.now) (arrival_of incoming.now.item.now))) }
     ensures all { lost.new.all ≡ lost.old.all }
     ensures room { IfOk result (λ r.
         IfSome r.2 (λ channels. length channels.items ≤ lost.new.spare)) }
     ensures written { IfOk result (λ r. IfSome r.0 IsWrittenEntry) }
     ensures coming { OnOk result (AllByRecursion (λ s. s.coming
-        ≡ given_but None (packet_for (V.view view.now) (arrival_of item.now, moment.0))
-        (state_of O.sent O.closed O.capacity O.free s)) sessions.new.items) }
+        ≡ given_but None (packet_for (V.view incoming.now.view.now)
+        (arrival_of incoming.now.item.now, incoming.now.moment.0))
+        (state_of O.state s)) sessions.new.items) }
     ensures numbered { IfOk result (λ r. IsSome r.0 → IsSome history.now.next) }
     ensures sets { OnOk result (map (λ m. m.caps) made.new.items ≡ all_sets_but None []
-        (states_of O.sent O.closed O.capacity O.free sessions.old.items)) }
+        (map (state_of O.state) sessions.old.items)) }
     ensures spent { IsErrOf result HubError.Spent ↔
-        (IsSome (entry_for (arrival_of item.now, moment.0)) × (history.now.next ≡ None)) }
+        (IsSome (entry_for (arrival_of incoming.now.item.now, incoming.now.moment.0)) ×
+        (history.now.next ≡ None)) }
 {
-    let entry = prepare_item(alloc, view, sessions, history, item, moment, None, made)?;
-    let pong = pong_of(alloc, item)?;
-    let new = lost_by(alloc, view, item, lost)?;
+    let entry = prepare_item(incoming, sessions, history, None, made)?;
+    let pong = pong_of(incoming.alloc, incoming.item)?;
+    let new = lost_by(incoming.alloc, incoming.view, incoming.item, lost)?;
     Ok((entry, pong, new))
 }
 
@@ -143,16 +145,15 @@ impl<V: NetworkView + Drop, I: Inlet, O: Outlet> Hub<V, I, O> {
         let Some((item, moment)) = next_item(&mut self.held, &mut self.inlet) else {
             return Ok(Pumped::Nothing);
         };
-        let (entry, pong, new) = match prepare_arrival(
-            self.alloc,
-            &self.view,
-            &mut self.sessions,
-            &self.history,
-            &item,
+        let incoming = Incoming {
+            alloc: self.alloc,
+            view: &self.view,
+            item: &item,
             moment,
-            &mut self.made,
-            &mut self.lost,
-        ) {
+        };
+        let (sessions, history) = (&mut self.sessions, &self.history);
+        let (made, lost) = (&mut self.made, &mut self.lost);
+        let (entry, pong, new) = match prepare_arrival(&incoming, sessions, history, made, lost) {
             Ok(made) => made,
             Err(e) => {
                 self.held = Some((item, moment));

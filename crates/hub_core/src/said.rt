@@ -1,14 +1,9 @@
 //! What clients say.
 
-ghost use Rattle.std.specs.Prelude.{◌≡◌, ◌∷◌, ◌<◌, [], None, Some, true, IsSome, IfErr, IfOk, OnOk};
-ghost use Rattle.std.specs.Prelude.{IfSome, IsTrue, false, length, option_map};
-ghost use Rattle.std.specs.List.{AllByRecursion, list_any};
-ghost use Rattle.net_view.specs.Arrival.{Received};
-ghost use Rattle.hub_core.specs.Given.{all_sets_but, given_but, packet_for};
-ghost use Rattle.hub_core.specs.Insides.{state_of, states_of};
-ghost use Rattle.hub_core.specs.Pumping.{entry_for};
+ghost use Rattle.std.specs.Prelude.{◌≡◌, ◌∷◌, ◌<◌, [], true, IsSome, IfErr, IfOk};
+ghost use Rattle.std.specs.List.{list_any};
 ghost use Rattle.irc_line.specs.Line.{has_command};
-ghost use Rattle.history.specs.Entry.{IsWrittenEntry, is_message};
+ghost use Rattle.history.specs.Entry.{is_message};
 ghost use Rattle.hub_core.specs.Online.{is_online};
 ghost use Rattle.hub_core.specs.Saying.{Forwards, Says, Sent, meaning, meant_by, own_line, sent_up};
 ghost use Rattle.hub_core.specs.States.{heard};
@@ -16,14 +11,15 @@ ghost use Rattle.hub_core.specs.Saying.{unheard_commands};
 
 use crate::deliver::deliver;
 use crate::hub::{Hub, HubError};
-use crate::image_table::{Made, images_of};
+use crate::image_table::images_of;
+use crate::incoming::Incoming;
 use crate::messages::keep;
 use crate::outlets::put_into_room;
 use crate::prepare::prepare_item;
 use crate::respond::respond;
-use crate::session::{Session, place_of};
+use crate::session::place_of;
 use client_caps::{Asked, Moment, answers_tell_nothing};
-use history::{Entry, History, is_message};
+use history::is_message;
 use hub_ends::{Inlet, Outlet, SessionId};
 use irc_line::Line;
 use net_view::{Item, NetworkView, OutOfMemory};
@@ -109,37 +105,6 @@ fn from_us<V: NetworkView>(alloc: Global, view: &V, line: &Line) -> Result<Line,
     line.copy_as_in(alloc, view.own(), line.command())
 }
 
-/// Makes what a message of ours leads to: what each session but the speaker's is to be sent, its
-/// entry, and how many images that took. Nothing is sent yet.
-fn prepare_own<V: NetworkView, O: Outlet>(
-    alloc: Global,
-    view: &V,
-    sessions: &mut Vec<Session<O>>,
-    history: &History,
-    id: SessionId,
-    line: &Line,
-    moment: Moment,
-    made: &mut Vec<Made>,
-) -> Result<(Option<Entry>, u64), HubError>
-    requires { IsSome history.now.next }
-    ensures states { states_of O.sent O.closed O.capacity O.free sessions.new.items
-        ≡ states_of O.sent O.closed O.capacity O.free sessions.old.items }
-    ensures made { IfOk result (λ r.
-        (r.0 ≡ entry_for (Received (own_line (V.view view.now) line.now), moment.0)) ×
-        (r.1 ≡ length (all_sets_but (Some id) []
-        (states_of O.sent O.closed O.capacity O.free sessions.old.items)))) }
-    ensures written { IfOk result (λ r. IfSome r.0 IsWrittenEntry) }
-    ensures coming { OnOk result (AllByRecursion (λ s. s.coming
-        ≡ given_but (Some id)
-        (packet_for (V.view view.now) (Received (own_line (V.view view.now) line.now), moment.0))
-        (state_of O.sent O.closed O.capacity O.free s)) sessions.new.items) }
-    ensures err { IfErr result (λ e. e ≡ HubError.OutOfMemory) }
-{
-    let own = Item::Line(from_us(alloc, view, line)?);
-    let entry = prepare_item(alloc, view, sessions, history, &own, moment, Some(id), made)?;
-    Ok((entry, images_of(&own, made)))
-}
-
 impl<V: NetworkView + Drop, I: Inlet, O: Outlet> Hub<V, I, O> {
     /// Sends a message of ours to the network, and to the sessions but the speaker's.
     fn spread(
@@ -158,19 +123,23 @@ impl<V: NetworkView + Drop, I: Inlet, O: Outlet> Hub<V, I, O> {
             Forwards O.alone self.old id line.now moment.0 self.new) }
         ensures err { IfErr result (λ e. (e ≡ HubError.OutOfMemory) × (self.new ≡ self.old)) }
     {
-        let (entry, images) = prepare_own(
-            self.alloc,
-            &self.view,
+        let own = Item::Line(from_us(self.alloc, &self.view, line)?);
+        let incoming = Incoming {
+            alloc: self.alloc,
+            view: &self.view,
+            item: &own,
+            moment,
+        };
+        let entry = prepare_item(
+            &incoming,
             &mut self.sessions,
             &self.history,
-            id,
-            line,
-            moment,
+            Some(id),
             &mut self.made,
         )?;
         keep(&mut self.history, entry)?;
         put_into_room(&mut self.upstream, packet);
-        self.images = self.images.saturating_add(images);
+        self.images = self.images.saturating_add(images_of(&own, &self.made));
         deliver(&mut self.sessions);
         Ok(Said::Forwarded)
     }

@@ -1,11 +1,13 @@
 //! What a hub is asked for between its steps: a sign of life of the network, which sessions are
 //! nearly full, and how much room there is towards the network.
 
-ghost use Rattle.std.specs.Prelude.{◌≡◌, ◌∷◌, ◌++◌, ◌≤◌, [], true, IfOk, codes, if◌then◌else◌};
-ghost use Rattle.hub_core.specs.Insides.{outlet_of, state_of, states_of};
+ghost use Rattle.std.specs.Prelude.{◌≡◌, ◌∷◌, ◌++◌, [], IfOk, codes, if◌then◌else◌, map};
+ghost use Rattle.hub_core.specs.Insides.{state_of};
+ghost use Rattle.hub_ends.specs.Outlets.{FindsRoom};
+ghost use Rattle.hub_core.specs.Given.{with_outlet};
 ghost use Rattle.hub_core.specs.Saying.{Stays};
 ghost use Rattle.hub_core.specs.Upkeep.{AreFreed, Frees, KeepsAlive, is_nearly_full};
-ghost use Rattle.hub_core.specs.Upkeep.{life_asked, nearly_full, with_free};
+ghost use Rattle.hub_core.specs.Upkeep.{life_asked, nearly_full};
 
 use crate::hub::Hub;
 use crate::outlets::put_into_room;
@@ -29,13 +31,10 @@ fn ping(alloc: Global) -> Result<Packet, OutOfMemory>
 
 /// Whether a session's outlet has nearly no room.
 fn is_nearly_full<O: Outlet>(session: &mut Session<O>) -> bool
-    ensures state { state_of O.sent O.closed O.capacity O.free session.new
-        ≡ with_free (state_of O.sent O.closed O.capacity O.free session.old)
-        (O.free session.new.outlet) }
-    ensures more { O.free session.old.outlet ≤ O.free session.new.outlet }
-    ensures alone { O.alone ≡ true → O.free session.new.outlet ≡ O.free session.old.outlet }
-    ensures value { result
-        ≡ is_nearly_full (state_of O.sent O.closed O.capacity O.free session.new) }
+    ensures state { state_of O.state session.new
+        ≡ with_outlet (state_of O.state session.old) (O.state session.new.outlet) }
+    ensures found { FindsRoom O.alone (O.state session.old.outlet) (O.state session.new.outlet) }
+    ensures value { result ≡ is_nearly_full (state_of O.state session.new) }
 {
     session.outlet.free() < (session.outlet.capacity() / 4).max(1)
 }
@@ -56,11 +55,10 @@ fn all_nearly_full<O: Outlet>(
     alloc: Global,
     sessions: &mut Vec<Session<O>>,
 ) -> Result<Vec<SessionId>, OutOfMemory>
-    ensures sessions { AreFreed O.alone
-        (states_of O.sent O.closed O.capacity O.free sessions.old.items)
-        (states_of O.sent O.closed O.capacity O.free sessions.new.items) }
+    ensures sessions { AreFreed O.alone (map (state_of O.state) sessions.old.items)
+        (map (state_of O.state) sessions.new.items) }
     ensures numbers { IfOk result (λ numbers. numbers.items
-        ≡ nearly_full (states_of O.sent O.closed O.capacity O.free sessions.new.items)) }
+        ≡ nearly_full (map (state_of O.state) sessions.new.items)) }
 {
     let mut numbers = Vec::new(alloc);
     for place in 0..sessions.len() {

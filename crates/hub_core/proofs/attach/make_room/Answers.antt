@@ -1,6 +1,32 @@
-use Rattle.std.proofs.Common.{rules}
-use Rattle.hub_core.proofs.Names.{taken_back}
+use Rattle.hub_core.proofs.Words.{arith, Bool, false, if◌then◌else◌, NameMarks, None, Option, refl}
+use Rattle.hub_core.proofs.Words.{rules, same_by_keys, Some, Text, ◌∙◌, ◌≡◌}
+use Rattle.std.specs.FinMap as map
+use Rattle.history.specs.Marks.{admitted, withdrawn}
+use Rattle.hub_core.specs.Attaching.{is_new_name, with_name, without_name}
+use Rattle.net_view.proofs.{AfterAlike.look_ups, Tests.none_of_is_some}
 use Rattle.hub_core.proofs.attach.make_room.Goals as goal
+
+-- what is put at a new name and removed again leaves no trace
+removed_again : (m : NameMarks) (n : Text) → map.contains_key m n ≡ false
+    → map.remove (map.insert m n None) n ≡ m
+removed_again m n new = same_by_keys (λ q. grind (look_ups, none_of_is_some (map.get m n) new))
+
+withdrawn_again : (m : NameMarks) (n : Text) → map.contains_key m n ≡ false
+    → withdrawn n (admitted n m) ≡ m
+withdrawn_again m n new = grind (look_ups, new, removed_again m n new)
+
+withdrawn_of : (name : Option Text) (m : NameMarks)
+    → (if is_new_name name m then without_name name (with_name name m) else with_name name m) ≡ m
+withdrawn_of None m = refl
+withdrawn_of (Some n) m = grind (arith, withdrawn_again m n)
+
+-- a call that admits a name, and withdraws it where it was new, changes nothing
+taken_back : (name : Option Text) (old mid new : NameMarks) (is_new : Bool)
+    → is_new ≡ is_new_name name old → mid ≡ with_name name old
+    → new ≡ (if is_new then without_name name mid else mid) → new ≡ old
+taken_back name old mid new is_new e admits withdraws =
+    withdraws ∙ (λ k. if e k then without_name name (admits k) else admits k)
+    ∙ withdrawn_of name old
 
 pub returns-then-not-room-clause-err : goal.returns-then-not-room-clause-err
 returns-then-not-room-clause-err g c = (

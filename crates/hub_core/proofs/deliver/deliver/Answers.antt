@@ -1,25 +1,23 @@
-use Rattle.std.proofs.Common.{rules, [], refl, sym, arith, append-nil}
-use Rattle.hub_core.proofs.Walk.{goes_on, cuts_on}
+use Rattle.hub_core.proofs.Words.{[], arith, drop, drop_all, refl, rules, ◌≡◌}
+use Rattle.hub_core.proofs.Walk.{cuts_on, goes_on}
 use Rattle.hub_core.proofs.deliver.deliver.Goals as goal
 
--- src/deliver.rt:26:5
 pub loop-place-init : goal.loop-place-init
-loop-place-init g c = record {
-  walk = record {
-    front = c.args.sessions.now.items;
-    was = [];
-    is = [];
-    olds_are = sym (append-nil _);
-    now_are = sym (append-nil _);
-    at = search rules;
-    done = λ give all. refl;
-    cleared = tt;
-  };
-  count = search rules;
-  within = search rules;
-}
+loop-place-init g c =
+    let none : drop c.len-place.result c.args.sessions.now.items ≡ [] =
+    drop_all c.len-place.result c.args.sessions.now.items (search rules) in
+    record {
+      walk = record {
+        front = refl;
+        olds_long = search rules;
+        now_long = search rules;
+        done = λ give all. rw none refl;
+        cleared = rw none tt;
+      };
+      count = search rules;
+      within = search rules;
+    }
 
--- src/deliver.rt:26:5
 pub loop-place-preserved-then-not-send_coming-3 : goal.loop-place-preserved-then-not-send_coming-3
 loop-place-preserved-then-not-send_coming-3 g c = record {
   walk = rw c.remove-gone.ensures.items (cuts_on _ _ _ _ _ _ _ c.send_coming.new.self
@@ -29,7 +27,6 @@ loop-place-preserved-then-not-send_coming-3 g c = record {
   within = omega arith;
 }
 
--- src/deliver.rt:26:5
 pub loop-place-preserved : goal.loop-place-preserved
 loop-place-preserved g c = record {
   walk = goes_on _ _ _ _ _ _ _ c.send_coming.new.self c.loop-place.invariant.walk
@@ -38,3 +35,13 @@ loop-place-preserved g c = record {
   count = search rules;
   within = search rules;
 }
+
+pub returns-clause-all : goal.returns-clause-all
+returns-clause-all g c =
+    let none : c.loop-place.place ≡ 0 = omega arith in
+    rw none at c.loop-place.invariant.walk.done
+
+pub returns-clause-done : goal.returns-clause-done
+returns-clause-done g c =
+    let none : c.loop-place.place ≡ 0 = omega arith in
+    rw none at c.loop-place.invariant.walk.cleared

@@ -1,12 +1,10 @@
-use Rattle.std.proofs.Common.{◌≡◌, ◌+◌, ◌≤◌}
-use Rattle.std.specs.Vec.{vec_len}
-use Rattle.hub_core.specs.Insides.{state_of}
+use Rattle.hub_core.proofs.Words.{state_of, vec_len, ◌+◌, ◌≡◌, ◌≤◌}
 use Rattle.hub_core.proofs.Walk.{IsPartWay}
 use Rattle.hub_core.proofs.deliver.deliver.Given as goal
 
 abbrev pub invariant-loop-place : goal.invariant-loop-place
 invariant-loop-place g l = record {
-  walk : IsPartWay (state_of g.O.Outlet.sent g.O.Outlet.closed g.O.Outlet.capacity g.O.Outlet.free)
+  walk : IsPartWay (state_of g.O.Outlet.state)
       (λ s. s.coming) g.O.Outlet.alone l.initial.sessions.items l.sessions.items l.place;
   count : l.cut + vec_len l.sessions ≡ vec_len l.initial.sessions;
   within : l.place ≤ vec_len l.sessions;

@@ -1,9 +1,4 @@
-use Rattle.std.proofs.Common.{◌≡◌, ◌∙◌, sym, subst, ap, map}
-use Rattle.std.specs.Prelude.{IfOk}
-use Rattle.std.proofs.Common.{rules}
-use Rattle.std.proofs.lemmas.List.{map-append}
-use Rattle.net_view.specs.Arrival.{arrival_of}
-use Rattle.hub_core.specs.Given.{packet_for}
+use Rattle.hub_core.proofs.Words.{ap, arrival_of, map, map-append, packet_for, rules, sym, ◌∙◌, ◌≡◌}
 use Rattle.hub_core.proofs.Sets.{found, no_more, one_more}
 use Rattle.hub_core.proofs.image_table.shared_packet_for.Goals as goal
 
@@ -11,11 +6,11 @@ pub returns-in-Some-clause-packet : goal.returns-in-Some-clause-packet
 returns-in-Some-clause-packet g c =
     let here = found (λ m. m.caps)
     (λ m set. m.packet
-    ≡ packet_for (g.V.NetworkView.view c.args.view.now)
-    (arrival_of c.args.item.now, c.args.moment.0) set)
+    ≡ packet_for (g.V.NetworkView.view c.args.incoming.now.view.now)
+    (arrival_of c.args.incoming.now.item.now, c.args.incoming.now.moment.0) set)
     c.args.caps c.args.made.now.items c.in-Some.place c.index.result.now c.requires
     (sym c.in-Some.ensures) c.index.ensures in
-    subst (λ p. IfOk c.share_of.result (λ share. share ≡ p)) here c.share_of.ensures
+    rw here at c.share_of.ensures
 
 pub returns-in-Some-clause-sets : goal.returns-in-Some-clause-sets
 returns-in-Some-clause-sets g c =

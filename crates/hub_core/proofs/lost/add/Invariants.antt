@@ -1,7 +1,5 @@
-use Rattle.std.proofs.Common.{◌≡◌, ◌≤◌, map, length}
-use Rattle.std.specs.Vec.Iter.{into_iter_items}
-use Rattle.network_tables.specs.Shown.{shown}
-use Rattle.hub_core.specs.LostChannels.{joining, keyed, put_all}
+use Rattle.hub_core.proofs.Words.{into_iter_items, joining, keyed, length, map, put_all, shown, ◌≡◌}
+use Rattle.hub_core.proofs.Words.{◌≤◌}
 use Rattle.hub_core.proofs.lost.add.Given as goal
 
 abbrev pub invariant-loop-channel : goal.invariant-loop-channel

@@ -1,6 +1,4 @@
-use Rattle.std.proofs.Common.{◌≡◌, ◌-◌, ◌≤◌}
-use Rattle.std.specs.Prelude.{drop}
-use Rattle.welcome.specs.Lent.{modes_at}
+use Rattle.hub_core.proofs.Words.{drop, modes_at, ◌-◌, ◌≡◌, ◌≤◌}
 use Rattle.hub_core.proofs.LostChannels.{key_in}
 use Rattle.hub_core.proofs.lost.channel_key.Given as goal
 

@@ -1,5 +1,4 @@
-use Rattle.std.proofs.Common.{◌≡◌, map, take}
-use Rattle.hub_core.specs.LostChannels.{channels_of_view, keyed}
+use Rattle.hub_core.proofs.Words.{channels_of_view, keyed, map, take, ◌≡◌}
 use Rattle.hub_core.proofs.lost.channels_of.Given as goal
 
 abbrev pub invariant-loop-i : goal.invariant-loop-i

@@ -1,11 +1,16 @@
-use Rattle.hub_core.proofs.LostBack.{all_off, one_off}
+use Rattle.hub_core.proofs.Words.{bytes_cmp, bytes_exact, empty-shown, joining, nat_list_cmp_total}
+use Rattle.hub_core.proofs.Words.{shown}
+use Rattle.std.specs.FinMap as fin
+use Rattle.network_tables.{proofs.ShownLemmas.remove-shown, specs.Sought.sought_key}
 use Rattle.hub_core.proofs.lost.forget.Goals as goal
 
 pub returns-in-One : goal.returns-in-One
 returns-in-One c = λ k.
-    one_off c.args.lost.now.all c.remove.new.self.all c.args.settled c.in-One.channel k c.in-One.is
-    c.remove.ensures.all
+    let key = sought_key c.in-One.channel in
+    let kept = remove-shown bytes_cmp joining nat_list_cmp_total bytes_exact in
+    rw (c.remove.ensures.all, c.in-One.is, kept c.args.lost.now.all key)
+    (fin.get-remove nat_list_cmp_total (shown joining c.args.lost.now.all) key k)
 
 pub returns-in-All : goal.returns-in-All
 returns-in-All c = λ k.
-    all_off c.args.lost.now.all c.clear.new.self.all c.args.settled k c.in-All.is c.clear.ensures
+    rw (c.clear.ensures, c.in-All.is, empty-shown bytes_cmp joining) (fin.get-empty bytes_cmp k)

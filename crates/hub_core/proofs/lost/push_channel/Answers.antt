@@ -1,8 +1,4 @@
-use Rattle.std.proofs.Common.{◌++◌, ◌∙◌, map, ap, rules}
-use Rattle.std.proofs.lemmas.List.{map-append}
-use Rattle.irc_names.specs.CaseMapping.{key_of}
-use Rattle.irc_support.specs.Settings.{mapping_of}
-use Rattle.hub_core.specs.LostChannels.{keyed}
+use Rattle.hub_core.proofs.Words.{ap, key_of, keyed, map, map-append, mapping_of, rules, ◌++◌, ◌∙◌}
 use Rattle.hub_core.proofs.LostChannels.{added, none_added, sound_view}
 use Rattle.hub_core.proofs.lost.push_channel.Goals as goal
 
@@ -17,7 +13,8 @@ returns-in_ok-push g c =
     c.in_ok-folded.folded.items c.in_ok-name.name.items _ c.in-Some.ensures.name
     (c.in_ok-folded.ensures
     ∙ ap (λ m. key_of m c.in-Some.channel.name.now) (c.mapping.ensures
-    ∙ ap mapping_of c.support.ensures)) (search rules) (c.in_ok-key.ensures ∙ c.channel_key.ensures))
+    ∙ ap mapping_of c.support.ensures)) (search rules) (c.in_ok-key.ensures ∙
+    c.channel_key.ensures))
 
 pub returns-in_default : goal.returns-in_default
 returns-in_default g c =

@@ -1,10 +1,7 @@
-use Rattle.std.proofs.Common.{◌∙◌, T, ap, map, subst, sym}
-use Rattle.std.specs.Option.{IfSome, option_map}
+use Rattle.hub_core.proofs.Words.{ap, bytes_cmp, IfSome, is_settled, joining, keyed, lost_then, map}
+use Rattle.hub_core.proofs.Words.{option_map, shown, subst, sym, T, ◌∙◌}
 use Rattle.std.specs.FinMap as fin
-use Rattle.net_view.specs.Names.{bytes_cmp}
-use Rattle.network_tables.specs.Shown.{shown}
-use Rattle.hub_core.specs.LostChannels.{is_settled, joining, keyed, lost_then}
-use Rattle.hub_core.proofs.LostBack.{put_in}
+use Rattle.hub_core.proofs.LostChannels.{put_in}
 use Rattle.hub_core.proofs.lost.renew.Goals as goal
 
 pub returns-in-Some : goal.returns-in-Some

@@ -1,17 +1,14 @@
-use Rattle.std.proofs.Common.{◌<◌, ◌∙◌, length-set, refl, ap, map, arith, length}
-use Rattle.irc_line.proofs.Outcomes.{not_ok}
-use Rattle.net_view.specs.Arrival.{arrival_of}
-use Rattle.hub_core.specs.Given.{given_but, packet_for, sets_but}
-use Rattle.hub_core.specs.Insides.{state_of}
+use Rattle.hub_core.proofs.Words.{ap, arith, arrival_of, given_but, length, length-set, map, not_ok}
+use Rattle.hub_core.proofs.Words.{packet_for, refl, sets_but, state_of, ◌<◌, ◌∙◌}
 use Rattle.hub_core.proofs.Prepared.{one_more, same_place}
 use Rattle.hub_core.proofs.prepare.prepare.Goals as goal
 
 pub loop-i-preserved : goal.loop-i-preserved
 loop-i-preserved g c =
-    let state = state_of g.O.Outlet.sent g.O.Outlet.closed g.O.Outlet.capacity g.O.Outlet.free in
+    let state = state_of g.O.Outlet.state in
     let give = given_but c.args.except
-    (packet_for (g.V.NetworkView.view c.args.view.now)
-    (arrival_of c.args.item.now, c.args.moment.0)) in
+    (packet_for (g.V.NetworkView.view c.args.incoming.now.view.now)
+    (arrival_of c.args.incoming.now.item.now, c.args.incoming.now.moment.0)) in
     let less : c.loop-i.i < length c.loop-i.sessions.items =
     (let a = c.loop-i-test.true in let b = c.len-i-end.ensures in
     let d = c.loop-i.invariant.long in omega arith) in
@@ -33,9 +30,7 @@ pub returns-in_err-coming-clause-states : goal.returns-in_err-coming-clause-stat
 returns-in_err-coming-clause-states g c = c.loop-i.invariant.prepared.states
 
 pub returns-in_err-coming-clause-coming : goal.returns-in_err-coming-clause-coming
-returns-in_err-coming-clause-coming g c =
-    not_ok _ c.from_residual.result c.from_residual.ensures.0
+returns-in_err-coming-clause-coming g c = not_ok _ c.from_residual.result c.from_residual.ensures.0
 
 pub returns-in_err-coming-clause-sets : goal.returns-in_err-coming-clause-sets
-returns-in_err-coming-clause-sets g c =
-    not_ok _ c.from_residual.result c.from_residual.ensures.0
+returns-in_err-coming-clause-sets g c = not_ok _ c.from_residual.result c.from_residual.ensures.0

@@ -1,4 +1,4 @@
-use Rattle.std.proofs.Common.{rules}
+use Rattle.hub_core.proofs.Words.{rules}
 use Rattle.hub_core.proofs.prepare.prepare_item.Goals as goal
 
 pub returns-clause-made : goal.returns-clause-made

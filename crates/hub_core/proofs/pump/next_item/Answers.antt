@@ -1,4 +1,4 @@
-use Rattle.std.proofs.Common.{rules}
+use Rattle.hub_core.proofs.Words.{rules}
 use Rattle.hub_core.proofs.pump.next_item.Goals as goal
 
 pub returns-in-Some-clause-none : goal.returns-in-Some-clause-none

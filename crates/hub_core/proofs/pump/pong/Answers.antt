@@ -1,4 +1,4 @@
-use Rattle.std.proofs.Common.{rules}
+use Rattle.hub_core.proofs.Words.{rules}
 use Rattle.hub_core.proofs.pump.pong.Goals as goal
 
 pub returns : goal.returns

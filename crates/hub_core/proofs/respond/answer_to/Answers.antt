@@ -1,4 +1,4 @@
-use Rattle.client_caps.proofs.AnswerTexts.{own_nameable}
+use Rattle.hub_core.proofs.Words.{own_nameable}
 use Rattle.hub_core.proofs.respond.answer_to.Goals as goal
 
 pub answer-requires : goal.answer-requires

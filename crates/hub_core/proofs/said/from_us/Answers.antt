@@ -1,5 +1,4 @@
-use Rattle.std.proofs.Common.{rules}
-use Rattle.client_caps.proofs.AnswerTexts.{own_nameable}
+use Rattle.hub_core.proofs.Words.{own_nameable}
 use Rattle.hub_core.proofs.Unread.{own_part}
 use Rattle.hub_core.proofs.said.from_us.Goals as goal
 
@@ -8,6 +7,3 @@ copy_as_in-requires-clause-source g c =
     own_part c.own.result
     (own_nameable (g.V.NetworkView.view c.args.view.now) c.comes_from_lines.ensures c.own.result
     c.own.ensures)
-
-pub returns : goal.returns
-returns g c = search rules

@@ -1,4 +1,4 @@
-use Rattle.std.proofs.Common.{rules}
+use Rattle.hub_core.proofs.Words.{rules}
 use Rattle.hub_core.proofs.said.meaning.Goals as goal
 
 pub returns-else-is_unheard : goal.returns-else-is_unheard

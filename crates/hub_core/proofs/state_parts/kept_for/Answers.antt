@@ -1,5 +1,4 @@
-use Rattle.std.proofs.Common.{◌≡◌, ◌∙◌, sym}
-use Rattle.welcome.specs.Burst.{state_part_of}
+use Rattle.hub_core.proofs.Words.{state_part_of, sym, ◌∙◌, ◌≡◌}
 use Rattle.hub_core.proofs.Sets.{found}
 use Rattle.hub_core.proofs.state_parts.kept_for.Goals as goal
 

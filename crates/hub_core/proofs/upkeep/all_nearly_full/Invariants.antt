@@ -1,13 +1,11 @@
-use Rattle.std.proofs.Common.{◌≡◌, map, take}
-use Rattle.hub_core.specs.Insides.{state_of}
-use Rattle.hub_core.specs.Upkeep.{nearly_full}
-use Rattle.hub_core.proofs.Freed.{IsFreedTo}
+use Rattle.hub_core.proofs.Words.{AreFreed, length, map, nearly_full, state_of, take, ◌≡◌}
 use Rattle.hub_core.proofs.upkeep.all_nearly_full.Given as goal
 
 abbrev pub invariant-loop-place : goal.invariant-loop-place
 invariant-loop-place g l = record {
-  walk : IsFreedTo (state_of g.O.Outlet.sent g.O.Outlet.closed g.O.Outlet.capacity g.O.Outlet.free)
-      g.O.Outlet.alone l.initial.sessions.items l.sessions.items l.place;
-  found : l.numbers.items ≡ nearly_full (map (state_of g.O.Outlet.sent g.O.Outlet.closed
-      g.O.Outlet.capacity g.O.Outlet.free) (take l.place l.sessions.items));
+  freed : AreFreed g.O.Outlet.alone (map (state_of g.O.Outlet.state) l.initial.sessions.items)
+      (map (state_of g.O.Outlet.state) l.sessions.items);
+  long : length l.sessions.items ≡ length l.initial.sessions.items;
+  found : l.numbers.items
+      ≡ nearly_full (map (state_of g.O.Outlet.state) (take l.place l.sessions.items));
 }

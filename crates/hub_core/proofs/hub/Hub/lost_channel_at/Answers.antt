@@ -1,7 +1,4 @@
-use Rattle.std.proofs.Common.{◌∙◌, ap}
-use Rattle.std.specs.Option.{option_map}
-use Rattle.hub_core.specs.LostChannels.{joining, lost_channels}
-use Rattle.hub_core.specs.States.{heard}
+use Rattle.hub_core.proofs.Words.{ap, heard, joining, lost_channels, option_map, ◌∙◌}
 use Rattle.hub_core.proofs.LostChannels.{lost_at_place}
 use Rattle.hub_core.proofs.hub.Hub.lost_channel_at.Goals as goal
 

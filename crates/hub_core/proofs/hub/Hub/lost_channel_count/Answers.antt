@@ -1,6 +1,4 @@
-use Rattle.std.proofs.Common.{◌∙◌, ap}
-use Rattle.hub_core.specs.LostChannels.{lost_channels}
-use Rattle.hub_core.specs.States.{heard}
+use Rattle.hub_core.proofs.Words.{ap, heard, lost_channels, ◌∙◌}
 use Rattle.hub_core.proofs.LostChannels.{count_is}
 use Rattle.hub_core.proofs.hub.Hub.lost_channel_count.Goals as goal
 

@@ -1,4 +1,4 @@
-use Rattle.std.proofs.Common.{rules}
+use Rattle.hub_core.proofs.Words.{rules}
 use Rattle.hub_core.proofs.hub.Hub.parts_for.Goals as goal
 
 pub returns-clause-ok : goal.returns-clause-ok

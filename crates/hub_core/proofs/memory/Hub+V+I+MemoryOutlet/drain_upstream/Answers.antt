@@ -1,5 +1,5 @@
-use Rattle.std.proofs.Common.{refl}
-use Rattle.hub_core.proofs.Drained.{drained}
+use Rattle.hub_core.proofs.Words.{refl}
+use Rattle.hub_core.proofs.FoundRoom.{drained}
 use Rattle.hub_core.proofs.memory.Hub+V+I+MemoryOutlet.drain_upstream.Goals as goal
 
 pub returns-clause-ok : goal.returns-clause-ok
