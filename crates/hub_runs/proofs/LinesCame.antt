@@ -1,46 +1,34 @@
--- The lines of a stretch, with one more piece.
-use Rattle.std.proofs.Common.{◌≡◌, ◌∙◌, ◌+◌, ◌-◌, ◌==◌, ℕ, List, [], ◌∷◌, ◌++◌, refl, sym, ap}
-use Rattle.std.proofs.Common.{arith, length, map, count_by, replicate, zip, filter_map, append-nil}
-use Rattle.std.proofs.Common.{cond, Option, Some, None, length-append}
-use Rattle.std.proofs.lemmas.Grind.{flat_map-append}
-use Rattle.std.proofs.lemmas.List.{length-replicate}
-use Rattle.std.proofs.lemmas.List.Elements.{filter_map-append}
-use Rattle.std.proofs.lemmas.List.Splits.{length-slice_split}
-use Rattle.std.proofs.lemmas.List.Sums.{sum_by-append}
-use Rattle.std.specs.List.{cons_option}
-use Rattle.std.specs.Option.{option_map}
-use Rattle.irc_line.specs.Line.{Parts}
-use Rattle.irc_line.specs.Lines.{all_but_last, ended_of, rest_of, segments_of, without_cr}
-use Rattle.irc_line.specs.Reading.{line_of}
-use Rattle.irc_line.proofs.Pieces.{parts-append}
-use Rattle.net_view.specs.Arrival.{Received}
-use Rattle.hub_ends.specs.Came.{Came}
-use Rattle.hub_runs.specs.Transcripts.{Piece, joined, lf_moments, line_came, lines_came}
-use Rattle.hub_runs.specs.Worlds.{lines_at}
+-- Items: the lines of a stretch, the transcript of events, and what was taken of a list.
+use Rattle.hub_runs.proofs.Words
+use Words.{Came, Event, HubError, HubState, List, Lost, Option, Parts, Piece, Pumped, Received}
+use Words.{RefusesAmong, RefusesItem, Stops, TakesAll, TakesIn, WorldState, [], all_but_last, ap}
+use Words.{append-nil, append_assoc, append_snoc, arith, cond, cons_option, count_by, ended_of}
+use Words.{false, filter_map, filter_map-append, flat_map-append, inr, is_over, items_of, joined}
+use Words.{length, length-append, length-replicate, length-slice_split, lf_moments, line_came}
+use Words.{line_of, lines_at, lines_came, map, option_map, parts-append, refl, replicate}
+use Words.{rest-append, rest_behind, rest_of, segments_of, stop_of, sum_by-append, sym}
+use Words.{transcript_after, transcript_of, without_cr, zip, ℕ, ◌++◌, ◌+◌, ◌-◌, ◌==◌, ◌∙◌, ◌∷◌, ◌≡◌}
+use Rattle.hub_runs.specs.declared.event.Event.TheVariants as on
+use Rattle.hub_core.specs.declared.hub.HubError.TheVariants as fault
 
 zip-append : {K X : Type 0} (ks ls : List K) (xs ys : List X) → length ks ≡ length xs
     → zip (ks ++ ls) (xs ++ ys) ≡ zip ks xs ++ zip ls ys
 zip-append [] ls [] ys e = refl
-zip-append [] ls (x ∷ xs) ys e = absurd (omega arith)
-zip-append (k ∷ ks) ls [] ys e = absurd (omega arith)
 zip-append (k ∷ ks) ls (x ∷ xs) ys e =
     ap (λ l. (k, x) ∷ l) (zip-append ks ls xs ys (omega arith))
-
--- ---- as many LFs as segments that an LF ends
+zip-append _ ls _ ys e = absurd (omega arith)
 
 but_last-length : (xs : List (List ℕ)) → length (all_but_last xs) ≡ length xs - 1
 but_last-length [] = refl
 but_last-length (x ∷ []) = refl
-but_last-length (x ∷ y ∷ xs) = let e = but_last-length (y ∷ xs) in omega arith
+but_last-length (x ∷ y ∷ xs) = omega (but_last-length (y ∷ xs), arith)
 
 abbrev lfs : List ℕ → ℕ
 lfs bytes = count_by (λ b. b == 10) bytes
 
 ended-length : (bytes : List ℕ) → length (ended_of bytes) ≡ lfs bytes
 ended-length bytes =
-    let e = but_last-length (segments_of bytes) in
-    let d : length (segments_of bytes) ≡ lfs bytes + 1 = length-slice_split (λ b. b == 10) bytes in
-    omega arith
+    omega (but_last-length (segments_of bytes), length-slice_split (λ b. b == 10) bytes, arith)
 
 lfs-append : (a b : List ℕ) → lfs (a ++ b) ≡ lfs a + lfs b
 lfs-append a b = sum_by-append (λ x. cond (x == 10) 1 0) a b
@@ -48,18 +36,13 @@ lfs-append a b = sum_by-append (λ x. cond (x == 10) 1 0) a b
 moments-length : (ps : List Piece) → length (lf_moments ps) ≡ lfs (joined ps)
 moments-length [] = refl
 moments-length (p ∷ ps) =
-    length-append (replicate (lfs p.0) p.1) (lf_moments ps)
-    ∙ (ap (λ n. n + length (lf_moments ps)) (length-replicate (lfs p.0) p.1)
-    ∙ (ap (λ n. lfs p.0 + n) (moments-length ps) ∙ sym (lfs-append p.0 (joined ps))))
+    simp (length-append, length-replicate, moments-length ps, lfs-append p.0 (joined ps))
 
--- ---- segments that came at once
-
-one_line : (moment : ℕ) (o : Option Parts) (xs : List Came) (ys : List Parts)
-    → xs ≡ map (λ line. (Received line, moment)) ys
-    → cons_option (option_map (λ line. (Received line, moment)) o) xs
+one_line : (moment : ℕ) (o : Option Parts) (ys : List Parts)
+    → cons_option {X = Came} (option_map (λ line. (Received line, moment)) o)
+    (map (λ line. (Received line, moment)) ys)
     ≡ map (λ line. (Received line, moment)) (cons_option o ys)
-one_line moment None xs ys e = e
-one_line moment (Some line) xs ys e = ap (λ (l : List Came). (Received line, moment) ∷ l) e
+one_line moment o ys = grind arith
 
 at_once : (moment : ℕ) (segments : List (List ℕ))
     → filter_map line_came (zip segments (replicate (length segments) moment))
@@ -67,44 +50,92 @@ at_once : (moment : ℕ) (segments : List (List ℕ))
     (filter_map (λ segment. line_of (without_cr segment)) segments)
 at_once moment [] = refl
 at_once moment (s ∷ ss) =
-    one_line moment (line_of (without_cr s)) _ _ (at_once moment ss)
+    ap (cons_option (line_came (s, moment))) (at_once moment ss)
+    ∙ one_line moment (line_of (without_cr s)) _
 
--- ---- one more piece
-
-pub joined_more : (ps : List Piece) (p : Piece) → joined (ps ++ p ∷ []) ≡ joined ps ++ p.0
-joined_more ps p =
-    flat_map-append (λ (q : Piece). q.0) ps (p ∷ []) ∙ ap (λ l. joined ps ++ l) (append-nil p.0)
+joined_more : (ps : List Piece) (p : Piece) → joined (ps ++ p ∷ []) ≡ joined ps ++ p.0
+joined_more ps p = simp (flat_map-append (λ (q : Piece). q.0) ps (p ∷ []), append-nil)
 
 moments_more : (ps : List Piece) (p : Piece)
     → lf_moments (ps ++ p ∷ []) ≡ lf_moments ps ++ replicate (lfs p.0) p.1
 moments_more ps p =
-    flat_map-append (λ (q : Piece). replicate (lfs q.0) q.1) ps (p ∷ [])
-    ∙ ap (λ l. lf_moments ps ++ l) (append-nil (replicate (lfs p.0) p.1))
+    simp (flat_map-append (λ (q : Piece). replicate (lfs q.0) q.1) ps (p ∷ []), append-nil)
 
 -- behind the rest of the pieces stand as many segments that an LF ends as the new one has LFs
-new_segments : (a b : List ℕ) → length (ended_of (rest_of a ++ b)) ≡ lfs b
+new_segments : (a b : List ℕ) → lfs b ≡ length (ended_of (rest_of a ++ b))
 new_segments a b =
-    let e : length (ended_of (a ++ b))
-    ≡ length (ended_of a) + length (ended_of (rest_of a ++ b)) =
-    ap length (parts-append a b) ∙ length-append (ended_of a) (ended_of (rest_of a ++ b)) in
-    let f = ended-length (a ++ b) in
-    let g = ended-length a in
-    let h = lfs-append a b in
-    omega arith
+    let e = simp length-append at (ap length (parts-append a b)) in
+    omega (e, ended-length (a ++ b), ended-length a, lfs-append a b, arith)
 
-pub lines_more : (ps : List Piece) (p : Piece)
+lines_more : (ps : List Piece) (p : Piece)
     → lines_came (ps ++ p ∷ []) ≡ lines_came ps ++ lines_at (rest_of (joined ps) ++ p.0) p.1
 lines_more ps p =
     let a = joined ps in
     let more = ended_of (rest_of a ++ p.0) in
-    ap (λ l. filter_map line_came (zip (ended_of l) (lf_moments (ps ++ p ∷ [])))) (joined_more ps p)
-    ∙ (ap (λ l. filter_map line_came (zip l (lf_moments (ps ++ p ∷ [])))) (parts-append a p.0)
-    ∙ (ap (λ l. filter_map line_came (zip (ended_of a ++ more) l)) (moments_more ps p)
-    ∙ (ap (filter_map line_came)
-    (zip-append (ended_of a) more (lf_moments ps) (replicate (lfs p.0) p.1)
-    (ended-length a ∙ sym (moments-length ps)))
-    ∙ (filter_map-append line_came (zip (ended_of a) (lf_moments ps))
-    (zip more (replicate (lfs p.0) p.1))
+    let k = replicate (lfs p.0) p.1 in
+    let long = ended-length a ∙ sym (moments-length ps) in
+    rw (joined_more ps p, moments_more ps p, parts-append a p.0, zip-append _ more _ k long)
+    (filter_map-append line_came (zip (ended_of a) (lf_moments ps)) (zip more k)
     ∙ ap (λ l. lines_came ps ++ l)
-    (ap (λ n. filter_map line_came (zip more (replicate n p.1))) (sym (new_segments a p.0))
-    ∙ at_once p.1 more)))))
+    (ap (λ n. filter_map line_came (zip more (replicate n p.1))) (new_segments a p.0)
+    ∙ at_once p.1 more))
+
+-- these items are the transcript of events, behind which these bytes are left
+pub record Heard (events : List Event) (items : List Came) (left : List ℕ) : Type 0 where
+  pub base : List Came
+  pub pieces : List Piece
+  pub split : (more : List Event)
+      → transcript_of (events ++ more) ≡ base ++ transcript_after pieces more
+  pub are : items ≡ base ++ lines_came pieces
+  pub rest : left ≡ rest_of (joined pieces)
+
+pub transcript_is : (events : List Event) (items : List Came) (left : List ℕ)
+    → Heard events items left → items ≡ transcript_of events
+transcript_is events items left k =
+    k.are ∙ (sym (k.split []) ∙ ap transcript_of (append-nil events))
+
+-- an event is done
+pub heard_on : (events : List Event) (items : List Came) (left : List ℕ) → Heard events items left
+    → (e : Event) → Heard (events ++ e ∷ []) (items ++ items_of e left) (rest_behind left e)
+heard_on events items left k (on.Up bytes moment) =
+    let p : Piece = (bytes.items, moment.0) in
+    record {
+      base = k.base;
+      pieces = k.pieces ++ p ∷ [];
+      split = λ more. ap transcript_of (append_snoc events _ more) ∙ k.split _;
+      are = rw (k.rest, k.are, lines_more k.pieces p) (append_assoc k.base (lines_came k.pieces) _);
+      rest = rw (k.rest, joined_more k.pieces p) (sym (rest-append (joined k.pieces) p.0));
+    }
+heard_on events items left k (on.Lost moment) = record {
+  base = (k.base ++ lines_came k.pieces) ++ (Lost, moment.0) ∷ [];
+  pieces = [];
+  split = λ more. ap transcript_of (append_snoc events _ more) ∙ k.split _ ∙ simp append_assoc;
+  are = rw k.are (sym (append-nil _));
+  rest = refl;
+}
+heard_on events items left k e = record {
+  base = k.base;
+  pieces = k.pieces;
+  split = λ more. ap transcript_of (append_snoc events e more) ∙ k.split (e ∷ more);
+  are = append-nil items ∙ k.are;
+  rest = k.rest;
+}
+
+pub takes_more : (xs : List Came) (ps : List Pumped) (x : Came) (p : Pumped) (a b c : HubState)
+    → TakesAll a xs ps b → TakesIn b x p c → TakesAll a (xs ++ x ∷ []) (ps ++ p ∷ []) c
+takes_more [] [] x p a b c all one = (c, rw all at one, refl)
+takes_more (y ∷ xs) (q ∷ ps) x p a b c all one =
+    (all.0, all.1, takes_more xs ps x p all.0 b c all.2 one)
+takes_more _ _ x p a b c all one = absurd all
+
+pub refuses_one : (x : Came) (e : HubError) (old new : HubState) → RefusesItem old x e new
+    → RefusesAmong (x ∷ []) e old [] new
+refuses_one x e old new r =
+    record { pumped = []; next = x; later = []; are = refl; hub = old; took = refl; refuses = r }
+
+pub stops_among : (event : Event) (e : HubError) (w : WorldState) (taken : List Came)
+    (new : HubState) → is_over event w.rest ≡ false
+    → RefusesAmong (items_of event w.rest) e w.hub taken new
+    → Stops event (stop_of e) w taken new
+stops_among event fault.Spent w taken new short r = (short, r)
+stops_among event fault.OutOfMemory w taken new short r = (short, inr r)

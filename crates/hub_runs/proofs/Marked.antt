@@ -1,132 +1,150 @@
--- Messages and marks, once one thing more has happened.
-use Rattle.std.proofs.Common.{◌≡◌, ◌∙◌, ℕ, List, [], ◌∷◌, ◌++◌, refl, sym, ap, Option, None, Some}
-use Rattle.std.proofs.Common.{Bool, true, false, append-nil, option_to_list, cond, is_some}
-use Rattle.std.specs.Prelude.{IfSome, IsSome, if◌then◌else◌}
-use Rattle.std.specs.Cmp.Lexicographic.{nat_list_cmp_total}
-use Rattle.std.specs.FinMap.{contains_key, get, get-insert, insert}
-use Rattle.std.specs.Option.{option_and_then, option_map_or}
-use Rattle.std.specs.Ordering.{eq_by_cmp}
-use Rattle.irc_support.specs.Text.{Text}
-use Rattle.net_view.proofs.Keys.{is_same, same_refl}
-use Rattle.history.specs.Entry.{EntryParts}
-use Rattle.history.specs.Marks.{NameMarks, admitted, bytes_cmp, mark_of}
-use Rattle.history.specs.Messages.{history_of, with_message}
-use Rattle.history.proofs.LastMessages.{one_more}
-use Rattle.hub_core.specs.Attaching.{marked, with_name}
-use Rattle.hub_core.specs.Pumping.{with_entry}
-use Rattle.hub_runs.specs.Course.{mark_left}
+-- What the network was sent, messages and marks, once one thing more has happened.
+use Rattle.hub_runs.proofs.Words
+use Words.{AreKnown, Asked, Bool, Came, Caps, Deed, Drained, Drains, EntryParts, IfSome, IsSome}
+use Words.{Joined, List, NameMarks, None, Option, OutletState, Parts, Puts, Some, Text, Took}
+use Words.{TookPacket, [], ap, append-nil, arith, bytes_cmp, caps_by, cond, contains_key, eq_by_cmp}
+use Words.{false, get, get-insert, history_of, insert, is_among, is_same, len, len-insert, length}
+use Words.{length-append, list_any-append, mark_left, mark_of, marked, meaning, names_then}
+use Words.{nat_list_cmp_total, nat_tests, one_more, option_map, option_map_or, option_to_list}
+use Words.{pong_for, refl, same_refl, session_then, sym, taken_out, true, up_by, upward, waiting}
+use Words.{with_entry, with_name, with_new, ℕ, ◌++◌, ◌+◌, ◌==◌, ◌||◌, ◌∙◌, ◌∷◌, ◌≡◌}
+
+-- an outlet to the network after what happened
+pub record Ups (up : ℕ) (ds : List Deed) (o : OutletState) : Type 0 where
+  pub sent : o.sent ≡ upward up ds
+  pub room : o.free + waiting up ds ≡ up
+  pub unclosed : o.closed ≡ None
+  pub size : o.capacity ≡ up
+
+module _ (up : ℕ) (ds : List Deed) (o : OutletState) (u : Ups up ds o) where
+  -- nothing of it was for the network
+  pub ups_quiet : (d : Deed) → up_by up (waiting up ds) d ≡ [] → taken_out d ≡ 0
+      → Ups up (d ∷ ds) o
+  ups_quiet d nothing out = grind (arith, append-nil)
+
+  -- one packet was
+  pub ups_one : (d : Deed) (o' : OutletState) (p : List Parts)
+      → up_by up (waiting up ds) d ≡ p ∷ [] → taken_out d ≡ 0 → TookPacket true o p o'
+      → Ups up (d ∷ ds) o'
+  ups_one d o' p one out t = grind arith
+
+  -- an item was taken, and answered where there was room
+  pub ups_took : (x : Came) (o' : OutletState) (p : Option (List Parts)) → pong_for x.0 ≡ p
+      → Puts true o p o' → Ups up (Took x ∷ ds) o'
+  ups_took x o' p e puts = grind (arith, nat_tests, append-nil)
+
+  -- packets were taken out
+  pub ups_drained : (o' : OutletState) (most taken : ℕ) → Drains o most taken o'
+      → Ups up (Drained taken ∷ ds) o'
+  ups_drained o' most taken d = grind (arith, append-nil)
 
 -- a message more, where there is one
 pub entry_more : (capacity first : ℕ) (ms : List EntryParts) (e : Option EntryParts)
     → (IsSome e → IsSome (history_of capacity first ms).next)
     → with_entry (history_of capacity first ms) e
     ≡ history_of capacity first (ms ++ option_to_list e)
-entry_more capacity first ms None number = ap (history_of capacity first) (sym (append-nil ms))
+entry_more capacity first ms None number = simp append-nil
 entry_more capacity first ms (Some e) number =
-    go (history_of capacity first ms).next refl (number refl) where
-      go : (o : Option ℕ) → (history_of capacity first ms).next ≡ o → IsSome o
-          → with_entry (history_of capacity first ms) (Some e)
-          ≡ history_of capacity first (ms ++ e ∷ [])
-      go None next some = cc
-      go (Some n) next some =
-          ap (λ o. option_map_or (λ number. with_message number e (history_of capacity first ms)) o
-          (history_of capacity first ms)) next
-          ∙ one_more capacity first n ms e next
-
--- ---- names
+    grind (arith, number refl, one_more capacity first)
 
 -- a session's name was admitted
 abbrev pub Known : NameMarks → Option Text → Type 0
 Known marks name = IfSome name (λ n. contains_key marks n ≡ true)
 
+-- whether a name is this one, if any
+abbrev is_it : Text → Option Text → Bool
+is_it q name = option_map_or (λ n. eq_by_cmp bytes_cmp q n) name false
+
 got : (marks : NameMarks) (n q : Text) (value : Option ℕ)
     → get (insert marks n value) q ≡ cond (eq_by_cmp bytes_cmp q n) (Some value) (get marks q)
 got marks n q value = get-insert nat_list_cmp_total marks n value q
 
-pub known_insert : (marks : NameMarks) (n q : Text) (value : Option ℕ)
-    → contains_key marks q ≡ true → contains_key (insert marks n value) q ≡ true
-known_insert marks n q value is =
-    ap is_some (got marks n q value) ∙ either (eq_by_cmp bytes_cmp q n) where
-      either : (b : Bool) → is_some (cond b (Some value) (get marks q)) ≡ true
-      either true = refl
-      either false = is
-
--- ---- a name is admitted
-
-either_way : (b : Bool) (P : NameMarks → Type 0) (x y : NameMarks) → (b ≡ true → P x)
-    → (b ≡ false → P y) → P (if b then x else y)
-either_way true P x y found missed = found refl
-either_way false P x y found missed = missed refl
-
-not_there : (o : Option (Option ℕ)) → is_some o ≡ false → o ≡ None
-not_there None e = refl
-not_there (Some v) e = cc
-
-pub admitted_stays : (marks : NameMarks) (n q : Text) → contains_key marks q ≡ true
-    → contains_key (admitted n marks) q ≡ true
-admitted_stays marks n q is =
-    either_way (contains_key marks n) (λ m. contains_key m q ≡ true) marks (insert marks n None)
-    (λ there. is) (λ lacks. known_insert marks n q None is)
-
-same_key : (n : Text) → eq_by_cmp bytes_cmp n n ≡ true
-same_key n = same_refl n
-
-pub admitted_there : (marks : NameMarks) (n : Text) → contains_key (admitted n marks) n ≡ true
-admitted_there marks n =
-    either_way (contains_key marks n) (λ m. contains_key m n ≡ true) marks (insert marks n None)
-    (λ there. there)
-    (λ lacks. ap is_some (got marks n n None)
-    ∙ ap (λ b. is_some (cond b (Some None) (get marks n))) (same_key n))
-
-pub admitted_mark : (marks : NameMarks) (n q : Text)
-    → mark_of q (admitted n marks) ≡ mark_of q marks
-admitted_mark marks n q =
-    either_way (contains_key marks n) (λ m. mark_of q m ≡ mark_of q marks) marks
-    (insert marks n None) (λ there. refl)
-    (λ lacks. ap (option_and_then (λ mark. mark)) (got marks n q None)
-    ∙ either (eq_by_cmp bytes_cmp q n) refl lacks) where
-      either : (b : Bool) → eq_by_cmp bytes_cmp q n ≡ b → contains_key marks n ≡ false
-          → option_and_then (λ mark. mark) (cond b (Some None) (get marks q)) ≡ mark_of q marks
-      either false e lacks = refl
-      either true e lacks =
-          let same : q ≡ n = is_same q n e in
-          let none : get marks q ≡ None = ap (get marks) same ∙ not_there (get marks n) lacks in
-          sym (ap (option_and_then (λ mark. mark)) none)
-
-pub named_stays : (marks : NameMarks) (name : Option Text) (q : Text) → contains_key marks q ≡ true
-    → contains_key (with_name name marks) q ≡ true
-named_stays marks None q is = is
-named_stays marks (Some n) q is = admitted_stays marks n q is
-
-pub named_there : (marks : NameMarks) (name : Option Text) → Known (with_name name marks) name
-named_there marks None = tt
-named_there marks (Some n) = admitted_there marks n
+any_more : (q n : Text) (names : List Text)
+    → is_among q (names ++ n ∷ []) ≡ (is_among q names || eq_by_cmp bytes_cmp q n)
+any_more q n names = grind (arith, list_any-append (eq_by_cmp bytes_cmp q) names (n ∷ []))
 
 pub named_mark : (marks : NameMarks) (name : Option Text) (q : Text)
     → mark_of q (with_name name marks) ≡ mark_of q marks
-named_mark marks None q = refl
-named_mark marks (Some n) q = admitted_mark marks n q
-
--- ---- a session of a name goes
-
-pub marked_stays : (marks : NameMarks) (name : Option Text) (number : Option ℕ) (q : Text)
-    → contains_key marks q ≡ true → contains_key (marked name number marks) q ≡ true
-marked_stays marks None number q is = is
-marked_stays marks (Some n) None q is = is
-marked_stays marks (Some n) (Some k) q is =
-    either_way (contains_key marks n) (λ m. contains_key m q ≡ true) (insert marks n (Some k)) marks
-    (λ there. known_insert marks n q (Some k) is) (λ lacks. is)
+named_mark marks name q = grind (arith, got, is_same)
 
 pub marked_mark : (marks : NameMarks) (name : Option Text) (number : Option ℕ) (q : Text)
     → Known marks name
     → mark_of q (marked name number marks) ≡ mark_left q name number (mark_of q marks)
-marked_mark marks None number q known = refl
-marked_mark marks (Some n) None q known = refl
-marked_mark marks (Some n) (Some k) q known =
-    ap (λ b. mark_of q (if b then insert marks n (Some k) else marks)) known
-    ∙ (ap (option_and_then (λ mark. mark)) (got marks n q (Some k))
-    ∙ either (eq_by_cmp bytes_cmp q n)) where
-      either : (b : Bool) → option_and_then (λ mark. mark) (cond b (Some (Some k)) (get marks q))
-          ≡ cond b (Some k) (mark_of q marks)
-      either true = refl
-      either false = refl
+marked_mark marks name number q known = grind (arith, got, is_same)
+
+named_there : (marks : NameMarks) (name : Option Text) (q : Text)
+    → contains_key (with_name name marks) q ≡ (contains_key marks q || is_it q name)
+named_there marks name q = grind (arith, got, is_same)
+
+named_among : (names : List Text) (name : Option Text) (q : Text)
+    → is_among q (with_new name names) ≡ (is_among q names || is_it q name)
+named_among names None q = grind arith
+named_among names (Some n) q = grind (arith, any_more, is_same q n)
+
+named_count : (names : List Text) (marks : NameMarks) (name : Option Text) → AreKnown names marks
+    → len (with_name name marks) ≡ length (with_new name names)
+named_count names marks name k =
+    grind (arith, len-insert nat_list_cmp_total marks, k.each, length-append {A = Text})
+
+pub known_named : (names : List Text) (marks : NameMarks) (name : Option Text)
+    → AreKnown names marks → AreKnown (with_new name names) (with_name name marks)
+known_named names marks name k = record {
+  each = λ q. named_there marks name q ∙ (ap (λ b. b || is_it q name) (k.each q)
+      ∙ sym (named_among names name q));
+  count = named_count names marks name k;
+}
+
+pub known_marked : (names : List Text) (marks : NameMarks) (name : Option Text)
+    (number : Option ℕ) → Known marks name → AreKnown names marks
+    → AreKnown names (marked name number marks)
+known_marked names marks None number known k = k
+known_marked names marks (Some n) None known k = k
+known_marked names marks (Some n) (Some number) known k =
+    simp known (record {
+      each = λ q. grind (arith, got, is_same q n, k.each q);
+      count = grind (arith, len-insert nat_list_cmp_total marks);
+    })
+
+-- whether the session of a number attached by this
+abbrev pub starts : ℕ → Deed → Bool
+starts id (Joined k name caps size) = k == id
+starts id _ = false
+
+pub same_name : (o : Option (Option Text × Caps)) (f : Caps → Caps) (s : Option Text × Caps)
+    → option_map (λ (j : Option Text × Caps). (j.0, f j.1)) o ≡ Some s
+    → (caps : Caps) × (o ≡ Some (s.0, caps))
+same_name None f s e = cc
+same_name (Some j) f s e =
+    let is : j.0 ≡ s.0 = cc in (j.1, ap (λ (n : Option Text). Some (n, j.1)) is)
+
+-- if not, it was there before, with its name
+pub was_there : (id : ℕ) (d : Deed) (ds : List Deed) (s : Option Text × Caps)
+    → starts id d ≡ false → session_then id (d ∷ ds) ≡ Some s
+    → (caps : Caps) × (session_then id ds ≡ Some (s.0, caps))
+was_there id (Joined k name caps size) ds s other e = (s.1, rw other at e)
+was_there id (Asked k line) ds s other e =
+    same_name (session_then id ds) (λ c. cond (k == id) (caps_by (meaning line) c line) c) s e
+was_there id d ds s other e = (s.1, e)
+
+named_by : (b : Bool) (names : List Text) (name o : Option Text) → (b ≡ true → o ≡ name)
+    → (b ≡ false → IfSome o (λ n. is_among n names ≡ true))
+    → IfSome o (λ n. is_among n (with_new name names) ≡ true)
+named_by b names name None new old = tt
+named_by true names name (Some q) new old =
+    rw (← new refl) (grind (arith, named_among names (Some q) q, same_refl q))
+named_by false names name (Some q) new old = grind (arith, named_among names name q, old refl)
+
+pub is_named : (id : ℕ) (ds : List Deed) (s : Option Text × Caps) → session_then id ds ≡ Some s
+    → IfSome s.0 (λ n. is_among n (names_then ds) ≡ true)
+is_named id [] s e = cc
+is_named id (Joined k name caps size ∷ ds) s e =
+    named_by (k == id) (names_then ds) name s.0
+    (λ y. let is : Some (name, caps) ≡ Some s = rw y at e in cc) (λ n. is_named id ds s (rw n at e))
+is_named id (Asked k line ∷ ds) s e =
+    let was = was_there id (Asked k line) ds s refl e in is_named id ds (s.0, was.0) was.1
+is_named id (d ∷ ds) s e = is_named id ds s e
+
+pub is_known : (names : List Text) (marks : NameMarks) (name : Option Text) → AreKnown names marks
+    → IfSome name (λ n. is_among n names ≡ true) → Known marks name
+is_known names marks None k named = tt
+is_known names marks (Some n) k named = k.each n ∙ named

@@ -13,17 +13,17 @@ use Rattle.net_view.specs.Arrival.{Received, Lost}
 use Rattle.history.specs.declared.ring.CapacityError.{CapacityError}
 use Rattle.history.specs.declared.ring.CapacityError.TheVariants as capacity
 use Rattle.hub_ends.specs.Came.{Came}
-use Rattle.hub_ends.specs.Memory.{closed_of, free_of, sent_of}
+use Rattle.hub_ends.specs.Memory.{state_of}
+use Rattle.hub_ends.specs.Outlets.{OutletState, new_outlet}
 use Rattle.hub_ends.specs.declared.memory_outlet.MemoryOutlet.{MemoryOutlet}
 use Rattle.hub_core.specs.declared.attach.AttachError.TheVariants as refused
 use Rattle.hub_core.specs.declared.hub.HubError.{HubError}
 use Rattle.hub_core.specs.declared.hub.HubError.TheVariants as fault
 use Rattle.hub_core.specs.declared.hub.Pumped.{Pumped}
-use Rattle.hub_core.specs.States.{OutletState, HubState, started}
+use Rattle.hub_core.specs.States.{HubState, started}
 use Rattle.hub_core.specs.Pumping.{Pumps}
 use Rattle.hub_core.specs.Attaching.{Attaches, Detaches, Lacks, Refuses}
 use Rattle.hub_core.specs.Saying.{Says}
-use Rattle.hub_core.specs.Insides.{outlet_of}
 use Rattle.hub_core.specs.InMemory.{DrainsAt, DrainsUpstream, with_ahead}
 use Rattle.hub_runs.specs.declared.event.Event.{Event}
 use Rattle.hub_runs.specs.declared.event.Event.TheVariants as on
@@ -46,13 +46,7 @@ world_of hub rest gone = record { hub = hub; rest = rest; gone = gone }
 
 -- what contracts see of outlets in memory
 abbrev pub outlets_of : List MemoryOutlet → List OutletState
-outlets_of outlets =
-    map (outlet_of sent_of closed_of (λ (o : MemoryOutlet). o.capacity) free_of) outlets
-
--- an outlet for so many packets, to which nothing was sent
-abbrev pub new_outlet : ℕ → OutletState
-new_outlet capacity =
-    record { sent = []; closed = None; capacity = capacity; free = capacity }
+outlets_of outlets = map state_of outlets
 
 -- what a run begins with
 abbrev pub beginning : ℕ → ℕ → ℕ → ℕ → WorldState
@@ -174,6 +168,20 @@ items_of _ rest = []
 abbrev pub is_over : Event → List ℕ → Bool
 is_over (on.Up bytes moment) rest = is_too_long (rest ++ bytes.items)
 is_over _ rest = false
+
+-- the bytes behind the last LF after an event, and after events
+abbrev pub rest_behind : List ℕ → Event → List ℕ
+rest_behind rest (on.Up bytes moment) = rest_of (rest ++ bytes.items)
+rest_behind rest (on.Lost moment) = []
+rest_behind rest _ = rest
+
+abbrev pub rest_after : List ℕ → List Event → List ℕ
+rest_after rest [] = rest
+rest_after rest (e ∷ es) = rest_after (rest_behind rest e) es
+
+-- where a run stops at an event: those before it or, where it was cut into lines, those after it
+abbrev pub RestsAt : Event → List ℕ → List ℕ → Type 0
+RestsAt e old new = (new ≡ old) ⊎ (new ≡ rest_behind old e)
 
 -- nothing of it was done
 abbrev pub DoesNothing : HubState → List Came → HubState → Type 0

@@ -1,10 +1,10 @@
 //! One event.
 
-ghost use Rattle.std.specs.Prelude.{ℕ, ◌≡◌, List, IfErr, IfOk, map, option_map};
+ghost use Rattle.std.specs.Prelude.{ℕ, ◌≡◌, List, IfErr, IfOk, OnErr, map, option_map};
 ghost use Rattle.hub_ends.specs.Came.{Came};
-ghost use Rattle.hub_core.specs.States.{OutletState};
+ghost use Rattle.hub_ends.specs.Outlets.{OutletState};
 ghost use Rattle.hub_runs.specs.declared.event.Event.TheVariants as on;
-ghost use Rattle.hub_runs.specs.Worlds.{Happens, Stops, name_of, outlets_of, world_of};
+ghost use Rattle.hub_runs.specs.Worlds.{Happens, RestsAt, Stops, name_of, outlets_of, world_of};
 
 use crate::event::Event;
 use crate::items::{take_in, take_lines};
@@ -28,6 +28,8 @@ fn up<V: NetworkView + Drop>(
         (world_of hub.old splitter.old.rest gone) (world_of hub.new splitter.new.rest gone)) }
     ensures err { (gone : List OutletState) → IfErr result (λ s. (taken : List Came) × Stops
         (on.Up bytes.now moment) s (world_of hub.old splitter.old.rest gone) taken hub.new) }
+    ensures rest { OnErr result
+        (RestsAt (on.Up bytes.now moment) splitter.old.rest splitter.new.rest) }
 {
     let mut lines = Vec::new(alloc);
     splitter.feed(bytes, &mut lines)?;
@@ -47,6 +49,7 @@ fn lose<V: NetworkView + Drop>(
         (world_of hub.old splitter.old.rest gone) (world_of hub.new splitter.new.rest gone)) }
     ensures err { (gone : List OutletState) → IfErr result (λ s. (taken : List Came) × Stops
         (on.Lost moment) s (world_of hub.old splitter.old.rest gone) taken hub.new) }
+    ensures rest { OnErr result (splitter.new.rest ≡ splitter.old.rest) }
 {
     let did = match take_in(hub, Item::Lost, moment) {
         Ok(did) => did,
@@ -155,6 +158,8 @@ pub fn apply<V: NetworkView + Drop>(
     ensures err { IfErr result (λ s. (taken : List Came) × Stops event.now s
         (world_of world.old.hub world.old.splitter.rest (outlets_of world.old.gone.items)) taken
         world.new.hub × (world.new.gone.items ≡ world.old.gone.items)) }
+    ensures rest { OnErr result
+        (RestsAt event.now world.old.splitter.rest world.new.splitter.rest) }
     ensures replies { world.new.replies ≡ world.old.replies }
 {
     match event {

@@ -10,6 +10,7 @@ ghost use Rattle.hub_runs.specs.Worlds.{beginning, outlets_of, world_of};
 use crate::apply::apply;
 use crate::event::Event;
 use crate::outcome::{Run, StartError, World};
+use history::CAPACITY_LIMIT;
 use hub_core::{Hub, Setup};
 use hub_ends::{MemoryInlet, MemoryOutlet};
 use irc_line::Splitter;
@@ -30,7 +31,7 @@ fn begin<V: NetworkView + Drop>(
         (w.replies.items ≡ []) × (count ≤ vec_capacity w.replies)) }
     ensures bad { IsErrOf result StartError.BadCapacity ↔ (is_capacity setup.history ≡ false) }
 {
-    if setup.history == 0 || setup.history > 10_000 {
+    if setup.history == 0 || setup.history > CAPACITY_LIMIT {
         return Err(StartError::BadCapacity);
     }
     let upstream = MemoryOutlet::new(alloc, upstream_capacity)?;

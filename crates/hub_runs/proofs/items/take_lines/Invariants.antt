@@ -1,8 +1,6 @@
-use Rattle.std.proofs.Common.{◌≡◌, ◌+◌, ◌≤◌, ◌++◌, map, length}
-use Rattle.std.specs.Vec.{vec_len, vec_capacity}
-use Rattle.std.specs.Vec.Iter.{drain_items, DrainKeeps}
-use Rattle.net_view.specs.Arrival.{Received}
-use Rattle.hub_runs.specs.Worlds.{TakesAll}
+use Rattle.hub_runs.proofs.Words
+use Words.{DrainKeeps, Received, TakesAll, drain_items, length, map, vec_capacity, vec_len, ◌++◌}
+use Words.{◌+◌, ◌≡◌, ◌≤◌}
 use Rattle.hub_runs.proofs.items.take_lines.Given as goal
 
 abbrev pub invariant-loop-line : goal.invariant-loop-line
