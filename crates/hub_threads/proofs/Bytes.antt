@@ -112,6 +112,15 @@ under_way_on was all all' began out out' rest rest' count w same q = record {
   count_is = w.count_is;
 }
 
+-- no packet was taken, and then some of what was left was written
+pub under_way_still : {was before mid all : List Queued} {began out out' : Option (List ℕ)}
+    {rest held rest' : List ℕ} {count : ℕ} → IsUnderWay was before began out rest count
+    → (packets_in mid ≡ packets_in before) × (held ≡ rest)
+    → (put : List ℕ) × Appends out out' put × (put ++ rest' ≡ held) → all ≡ mid
+    → IsUnderWay was all began out' rest' count
+under_way_still w none q end = under_way_on _ _ _ _ _ _ _ _ _ w (ap packets_in end ∙ none.0)
+    (rw none.1 at q)
+
 -- after a fault a beginning was written
 pub ends_early : (was all : List Queued) (began out : Option (List ℕ)) (rest : List ℕ) (count : ℕ)
     (fresh : Bool) (e : WriteFault)

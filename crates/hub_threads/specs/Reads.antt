@@ -6,12 +6,23 @@ use Rattle.irc_line.specs.Line.{Parts}
 use Rattle.irc_line.specs.Lines.{Pending, fed_all, lines_all, is_too_long}
 use Rattle.net_view.specs.Arrival.{Lost, Received}
 use Rattle.hub_ends.specs.Came.{Came, arrivals}
+use Rattle.irc_line.specs.declared.input.InputEnd.{InputEnd}
+use Rattle.irc_line.specs.declared.input.InputEnd.TheVariants as input
+use Rattle.std.specs.declared.convert.Infallible.{Infallible}
 use Rattle.hub_threads.specs.declared.reading.ReadEnd.{ReadEnd}
 use Rattle.hub_threads.specs.declared.reading.ReadEnd.TheVariants as cause
 
 -- lines as they come at a moment, in milliseconds since 1970-01-01T00:00:00Z
 abbrev pub received_at : ℕ → List Parts → List Came
 received_at moment lines = map (λ (line : Parts). (Received line, moment)) lines
+
+-- why it ended, by why its input was read no further
+abbrev pub why_of : InputEnd Infallible → ReadEnd
+why_of input.EndOfInput = cause.EndOfInput
+why_of (input.ReadFault error) = cause.ReadFault
+why_of input.TooLong = cause.TooLong
+why_of input.OutOfMemory = cause.OutOfMemory
+why_of _ = cause.TurnsSpent
 
 -- Why it ended: what the splitter held then, the piece that was refused, if any, and what is left
 -- to read.

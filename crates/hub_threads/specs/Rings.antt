@@ -1,8 +1,10 @@
 -- What contracts see of the rings between threads.
 use Rattle.std.specs.Prelude.{ℕ, List, Option, None, Bool, map, cond, is_some}
 use Rattle.irc_line.specs.Line.{Parts}
-use Rattle.rtrb.specs.Ring.{sent, received, known_free, known_items, producer_capacity, IsPair}
+use Rattle.rtrb.specs.Ring.{sent, received, known_free, known_items, producer_capacity}
+use Rattle.rtrb.specs.Ring.{consumer_capacity, IsPair}
 use Rattle.hub_ends.specs.Came.{Came, came}
+use Rattle.hub_ends.specs.Outlets.{OutletState}
 use Rattle.hub_threads.specs.declared.inlet_ring.InletEnd.{InletEnd}
 use Rattle.hub_threads.specs.declared.inlet_ring.RingInlet.{RingInlet}
 use Rattle.hub_threads.specs.declared.outlet_end.OutletEnd.{OutletEnd}
@@ -53,6 +55,14 @@ capacity_of outlet = producer_capacity outlet.producer
 abbrev pub free_of : RingOutlet → ℕ
 free_of outlet = cond (is_some outlet.closed) 0 (known_free outlet.producer)
 
+abbrev pub state_of : RingOutlet → OutletState
+state_of outlet = record {
+  sent = sent_of outlet;
+  closed = closed_of outlet;
+  capacity = capacity_of outlet;
+  free = free_of outlet;
+}
+
 -- whether the closing item found a slot
 abbrev pub told_of : RingOutlet → Bool
 told_of outlet = is_closed (sent outlet.producer)
@@ -60,6 +70,21 @@ told_of outlet = is_closed (sent outlet.producer)
 -- all items that the end ever took
 abbrev pub items_of : OutletEnd → List Queued
 items_of end = received end.consumer
+
+-- how many items its ring holds at most
+abbrev pub end_capacity_of : OutletEnd → ℕ
+end_capacity_of end = consumer_capacity end.consumer
+
+-- both ends are of one ring
+abbrev pub ArePacketEnds : RingOutlet → OutletEnd → Type 0
+ArePacketEnds outlet end = IsPair outlet.producer end.consumer
+
+-- an end is still of each ring that it was of
+abbrev pub StaysOutlet : RingOutlet → RingOutlet → Type 0
+StaysOutlet old new = (end : OutletEnd) → ArePacketEnds old end → ArePacketEnds new end
+
+abbrev pub StaysOutletEnd : OutletEnd → OutletEnd → Type 0
+StaysOutletEnd old new = (outlet : RingOutlet) → ArePacketEnds outlet old → ArePacketEnds outlet new
 
 -- the packet that is known to come next: none once the closing item was taken
 abbrev pub next_of : OutletEnd → Option (List Parts)

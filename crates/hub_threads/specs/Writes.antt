@@ -1,7 +1,7 @@
 -- What a thread that writes packets did.
 use Rattle.std.specs.Prelude.{◌≡◌, ℕ, List, ◌++◌, Option, Some, Bool, true, Result, Ok, Err, length}
 use Rattle.std.specs.Prelude.{take}
-use Rattle.std.specs.Prelude.{IsSome, ◌⊎◌, ◌≤◌}
+use Rattle.std.specs.Prelude.{IsSome, IsTrue, ◌⊎◌}
 use Rattle.std.specs.List.{flat_map}
 use Rattle.std.specs.Io.KnownBytes.{Appends}
 use Rattle.irc_line.specs.Line.{Parts}
@@ -9,9 +9,11 @@ use Rattle.irc_line.specs.Lines.{counted}
 use Rattle.irc_line.specs.Writing.{bytes_of}
 use Rattle.hub_threads.specs.declared.outlet_end.OutletEnd.{OutletEnd}
 use Rattle.hub_threads.specs.declared.queued.Queued.{Queued}
+use Rattle.hub_threads.specs.declared.turns.Turns.{Turns}
 use Rattle.hub_threads.specs.declared.writing.WriteFault.{WriteFault}
 use Rattle.hub_threads.specs.Queues.{packets_in, ended_by, is_nil, closed_in}
 use Rattle.hub_threads.specs.Rings.{items_of}
+use Rattle.hub_threads.specs.Turns.{are_over}
 
 -- the written form of packets, one behind the other: their lines, each with CR LF (RFC 2812,
 -- section 2.3)
@@ -36,11 +38,19 @@ pub record IsWritten (was all : List Queued) (began out : Option (List ℕ)) (fr
   pub fresh_is : fresh ≡ is_nil (packets_in was)
   pub wrote : Wrote began out taken outcome
 
--- Nothing more is to be written: the closing item was taken, so many takes of the writer in
--- succession gave nothing, or at the last look the other end was gone and nothing was left, or the
--- sign to stop was up.
-abbrev pub IsOver : OutletEnd → ℕ → Type 0
-IsOver end idle = IsSome (closed_in (items_of end)) ⊎ ((idle ≤ end.misses) ⊎ (end.left ≡ true))
+-- What the types of a writer's answers keep: of what the writer has got, the last bytes are the
+-- written form of the last packets that the end took, so many bytes; after a fault a beginning of it.
+-- If none was taken before, these are all packets that it ever took.
+abbrev pub KeepsWritten : List Queued → Option (List ℕ) → Bool → Result ℕ WriteFault → Type 0
+KeepsWritten all out fresh outcome =
+    (was : List Queued) × (began : Option (List ℕ)) × IsWritten was all began out fresh outcome
+
+-- Nothing more is to be written: the closing item was taken, as many takes of the writer in
+-- succession gave nothing as may, or at the last look the other end was gone and nothing was left,
+-- or the sign to stop was up.
+abbrev pub IsOver : OutletEnd → Turns → Type 0
+IsOver end idle =
+    IsSome (closed_in (items_of end)) ⊎ (IsTrue (are_over idle end.misses) ⊎ (end.left ≡ true))
 
 -- A session's end was seen whole: all that the end ever took is packets, and then the closing item
 -- of this session with their count; and the writer got the written form of all of them, so many

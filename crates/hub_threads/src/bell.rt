@@ -1,22 +1,25 @@
 //! What a worker sleeps on.
 
 use crate::OutOfMemory;
+use crate::turns::Turns;
 use std::alloc::Global;
 use std::sync::atomic::{AtomicBool, AtomicU64, Ordering};
 use std::sync::{Arc, Wait};
 use std::thread::Parker;
 use std::time::Duration;
 
-/// How many milliseconds a worker sleeps at most that has a finite count of turns.
-const SHORT_SLEEP: u64 = 1;
+/// How many milliseconds a nap lasts at most.
+const NAP: u64 = 1;
 
 /// What one worker sleeps on, and others wake it by: a ring that comes before it sleeps keeps it
-/// awake. With a flag, which the pump of a network raises while it waits for room in an outlet, and
-/// which is raised for a writer to tell it to stop. One worker at a time sleeps on it.
+/// awake. One worker at a time sleeps on it.
 #[derive(Drop)]
 pub struct Bell {
     parker: Parker,
-    raised: AtomicBool,
+    // the worker is the pump of a network, and waits for room in an outlet
+    awaits_room: AtomicBool,
+    // the worker is the pump of a network, of which an outlet was left with little room
+    is_tight: AtomicBool,
     // the worker sleeps, or looks for work a last time before it does
     drowsy: AtomicBool,
     // how often the worker has got on
@@ -26,13 +29,14 @@ pub struct Bell {
 /// A bell, in as many hands as need be.
 pub type SharedBell = Arc<Bell, Global>;
 
-/// A bell that nobody has rung, with its flag down.
+/// A bell that nobody has rung, of a worker that waits for no room.
 pub fn shared_bell(alloc: Global) -> Result<SharedBell, OutOfMemory> {
     Ok(Arc::new(
         alloc,
         Bell {
             parker: Parker::new(),
-            raised: AtomicBool::new(false),
+            awaits_room: AtomicBool::new(false),
+            is_tight: AtomicBool::new(false),
             drowsy: AtomicBool::new(false),
             steps: AtomicU64::new(0),
         },
@@ -46,14 +50,21 @@ impl Bell {
         self.parker.unpark();
     }
 
-    /// Sleeps until it is rung: at most 1 ms for a worker whose turns are counted, without a limit
-    /// where `turns` is 18446744073709551615.
-    pub fn sleep<R: Wait>(&self, rt: &R, turns: u64) {
-        if turns == u64::MAX {
-            self.parker.park(rt);
-        } else {
-            self.parker
-                .park_timeout(rt, Duration::from_millis(SHORT_SLEEP));
+    /// Sleeps until it is rung.
+    pub(crate) fn sleep<R: Wait>(&self, rt: &R) {
+        self.parker.park(rt);
+    }
+
+    /// Sleeps until it is rung, at most 1 ms.
+    pub(crate) fn nap<R: Wait>(&self, rt: &R) {
+        self.parker.park_timeout(rt, Duration::from_millis(NAP));
+    }
+
+    /// Sleeps until it is rung: without a limit if the worker's turns have none, else at most 1 ms.
+    pub fn wait<R: Wait>(&self, rt: &R, turns: Turns) {
+        match turns {
+            Turns::Endless => self.sleep(rt),
+            Turns::AtMost(_) => self.nap(rt),
         }
     }
 
@@ -61,6 +72,13 @@ impl Bell {
     /// itself then.
     pub(crate) fn rest<R: Wait>(&self, rt: &R, micros: u64) {
         self.parker.park_timeout(rt, Duration::from_micros(micros));
+    }
+
+    /// The same for a worker that found no work, which says so while it sleeps.
+    pub fn doze<R: Wait>(&self, rt: &R, turns: Turns) {
+        self.nod();
+        self.wait(rt, turns);
+        self.rise();
     }
 
     /// Says that the worker is about to sleep: it looks for work once more, and whoever gives it
@@ -89,18 +107,24 @@ impl Bell {
         self.steps.load(Ordering::SeqCst)
     }
 
-    /// Raises the flag. It wakes nobody.
-    pub fn raise(&self) {
-        self.raised.store(true, Ordering::SeqCst);
+    /// Says whether the pump that sleeps on it waits for room in an outlet, so that a writer that
+    /// makes room rings it.
+    pub(crate) fn set_awaits_room(&self, awaits_room: bool) {
+        self.awaits_room.store(awaits_room, Ordering::SeqCst);
     }
 
-    /// Takes the flag down.
-    pub fn lower(&self) {
-        self.raised.store(false, Ordering::SeqCst);
+    /// Whether the pump that sleeps on it waits for room in an outlet.
+    pub(crate) fn awaits_room(&self) -> bool {
+        self.awaits_room.load(Ordering::SeqCst)
     }
 
-    /// Whether the flag is up.
-    pub fn is_raised(&self) -> bool {
-        self.raised.load(Ordering::SeqCst)
+    /// Says that a packet has left an outlet of the pump that sleeps on it with little room.
+    pub(crate) fn note_tight(&self) {
+        self.is_tight.store(true, Ordering::SeqCst);
+    }
+
+    /// Whether that was said since the last call.
+    pub(crate) fn take_tight(&self) -> bool {
+        self.is_tight.swap(false, Ordering::SeqCst)
     }
 }

@@ -1,10 +1,10 @@
 //! The end of a session.
 
-ghost use Rattle.std.specs.Prelude.{◌≡◌, ◌↔◌, IfOk, IsTrue, OnErr, OnOk, Some, true};
-ghost use Rattle.hub_threads.specs.Endings.{WasDetached, WasMissing};
+ghost use Rattle.std.specs.Prelude.{◌≡◌, ◌↔◌, ℕ, IfOk, IsOk, IsTrue, List, Option, Some, true};
 ghost use Rattle.hub_threads.specs.Queues.{closed_in};
 ghost use Rattle.hub_threads.specs.Rings.{items_of};
-ghost use Rattle.hub_threads.specs.Writes.{IsOver, IsWhole, IsWritten};
+ghost use Rattle.hub_threads.specs.declared.queued.Queued.{Queued};
+ghost use Rattle.hub_threads.specs.Writes.{IsOver, IsWhole, IsWritten, KeepsWritten};
 
 use crate::network::Network;
 use crate::outlet_end::OutletEnd;
@@ -17,7 +17,8 @@ use std::io::Write;
 use std::sync::Wait;
 use std::thread::{PromisedHandle, Threads};
 
-/// What the writer of a session handed back, and whether the session's end was seen whole.
+/// What the writer of a session handed back, and whether the session's end was seen whole. Its type
+/// keeps what was written of the packets that were taken.
 #[derive(Drop)]
 pub struct Ended<W: Write> {
     /// Whether all that the session's outlet was sent has been taken, and written if no write
@@ -31,20 +32,51 @@ pub struct Ended<W: Write> {
     pub fresh: bool,
     /// How many bytes were written, at most 18446744073709551615.
     pub written: Result<u64, WriteFault>,
+    ghost kept: { ∥ KeepsWritten (items_of end) (W.contents out) fresh written ∥₁ },
 }
 
-/// Detaches a session, and drops its outlet.
+/// Detaches a session, and drops its outlet once the lock is free.
 fn detach<V: NetworkView + Drop, R: Wait>(
     rt: &R,
     network: &Network<V>,
     id: SessionId,
-) -> Result<(), NoSession>
-    ensures detached { OnOk result (WasDetached id) }
-    ensures missing { OnErr result (WasMissing id) }
-{
+) -> Result<(), NoSession> {
     let outlet = network.lock(rt).detach(id)?;
     drop(outlet);
     Ok(())
+}
+
+/// What is told of a session's end: what its writer handed back, where the hub had the session.
+fn told<W: Write + Drop>(
+    detached: Result<(), NoSession>,
+    id: SessionId,
+    written: Written<W>,
+) -> Result<Ended<W>, NoSession>
+    ensures missing { IsOk result ↔ IsOk detached }
+    ensures token { IfOk result (λ e. IsTrue e.token
+        ↔ ((e.fresh ≡ true) × (closed_in (items_of e.end) ≡ Some id))) }
+    ensures parts { IfOk result (λ e. (e.end ≡ written.end) × (e.out ≡ written.out)
+        × (e.fresh ≡ written.fresh) × (e.written ≡ written.outcome)) }
+    ensures whole { (was : List Queued) (began : Option (List ℕ)) → IsWritten was
+        (items_of written.end) began (W.contents written.out) written.fresh written.outcome →
+        IfOk result (λ e. e.token ≡ true → IfOk e.written
+        (IsWhole id (items_of e.end) began (W.contents e.out))) }
+{
+    detached?;
+    let Written {
+        end,
+        out,
+        fresh,
+        outcome,
+    } = written;
+    let token = fresh && end.closed() == Some(id);
+    Ok(Ended {
+        token,
+        end,
+        out,
+        fresh,
+        written: outcome,
+    })
 }
 
 /// Ends a session: detaches it, drops its outlet, and waits for its writer, outside the lock.
@@ -65,23 +97,7 @@ pub fn end_session<V: NetworkView + Drop, W: Write + Drop, R: Threads + Wait>(
         (λ count. IsOver e.end writer.promise.2.value)) }
     ensures whole { IfOk result (λ e. e.token ≡ true → IfOk e.written
         (IsWhole id (items_of e.end) (W.contents writer.promise.1.value) (W.contents e.out))) }
-    ensures detached { OnOk result (WasDetached id) }
-    ensures missing { OnErr result (WasMissing id) }
 {
     let detached = detach(rt, network, id);
-    let Written {
-        end,
-        out,
-        fresh,
-        outcome,
-    } = writer.join(rt);
-    detached?;
-    let token = fresh && end.closed() == Some(id);
-    Ok(Ended {
-        token,
-        end,
-        out,
-        fresh,
-        written: outcome,
-    })
+    told(detached, id, writer.join(rt))
 }

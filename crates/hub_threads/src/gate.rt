@@ -1,6 +1,7 @@
 //! Where workers stand, and what time it is.
 
 use client_caps::Moment;
+use std::sync::Wait;
 
 /// Where a worker stands.
 #[derive(Clone, Copy, Debug, PartialEq, Eq)]
@@ -25,9 +26,15 @@ pub enum Point {
 pub trait Gate {
     /// Returns once the worker may go on.
     fn pass(&self, point: Point);
+
+    /// Asked of the thread that reads, once it has put lines: whether they were taken into the hub
+    /// here, so that the pump may sleep on. If not, the pump is woken.
+    fn took_lines<R: Wait>(&self, _rt: &R) -> bool {
+        false
+    }
 }
 
-/// The gate of the program: it holds nobody.
+/// A gate that holds nobody, and leaves all lines to the pump.
 #[derive(Clone, Copy)]
 pub struct FreeGate;
 

@@ -173,7 +173,7 @@ impl InletEnd {
         self.pump.ring();
         self.reader.nod();
         if self.producer.is_full() && !self.empty_left() {
-            self.reader.sleep(rt, u64::MAX);
+            self.reader.sleep(rt);
         }
         self.reader.rise();
     }
@@ -222,10 +222,7 @@ impl Inlet for RingInlet {
     ghost alone = { false };
 
     fn next(&mut self) -> Option<(Item, Moment)> {
-        match self.take() {
-            Some(pair) => Some(pair),
-            None => None,
-        }
+        self.take()
     }
 }
 

@@ -1,17 +1,27 @@
 //! A hub behind one lock.
 
+ghost use Rattle.std.specs.Prelude.{◌≡◌, ◌<◌, [], IfOk, None, false, true};
 ghost use Rattle.std.specs.Sync.Mutex.{mutex_guard_value};
+ghost use Rattle.history.specs.Messages.{is_capacity};
 ghost use Rattle.hub_core.specs.LostChannels.{lost_channels};
 ghost use Rattle.hub_core.specs.Online.{is_online};
 ghost use Rattle.hub_core.specs.Running.{IsRunning};
 ghost use Rattle.hub_core.specs.States.{heard, view_now};
+ghost use Rattle.hub_threads.specs.Rings.{ArePacketEnds, capacity_of, closed_of};
+ghost use Rattle.hub_threads.specs.Rings.{end_capacity_of, free_of, items_of, put_of, sent_of};
+ghost use Rattle.hub_threads.specs.Rings.{slots_of, told_of};
+ghost use Rattle.net_view.specs.View.{empty_view};
 
 use crate::OutOfMemory;
-use crate::bell::{Bell, SharedBell};
-use crate::inlet_ring::RingInlet;
+use crate::bell::{Bell, SharedBell, shared_bell};
+use crate::inlet_ring::{InletEnd, RingInlet, inlet};
+use crate::outlet_end::OutletEnd;
+use crate::outlet_pair::outlet;
 use crate::outlet_ring::RingOutlet;
-use hub_core::Hub;
+use history::CapacityError;
+use hub_core::{Hub, Pumped, Setup};
 use net_view::NetworkView;
+use std::alloc::{AllocError, Global};
 use std::sync::{Arc, Mutex, MutexGuard, Wait};
 
 /// A hub whose ends are rings.
@@ -24,9 +34,61 @@ pub struct Network<V: NetworkView + Drop> {
     pump: SharedBell,
 }
 
+/// What a thread did that takes items into a hub while its pump sleeps.
+#[derive(Clone, Copy, Debug, PartialEq, Eq)]
+pub struct Beside {
+    /// How many items it took.
+    pub taken: u64,
+    /// Whether nothing is left to take. If not, the pump has to be woken.
+    pub is_done: bool,
+}
+
+/// A network, and the other ends of its rings.
+#[derive(Drop)]
+pub struct Started<V: NetworkView + Drop> {
+    /// The network.
+    pub network: Network<V>,
+    /// The end that its items are put into.
+    pub inlet: InletEnd,
+    /// The end that what it sends to the network is taken from.
+    pub outlet: OutletEnd,
+}
+
 impl<V: NetworkView + Drop> Network<V> {
+    /// A network of which nothing came: a hub of these parts, whose rings hold this many items and
+    /// packets at a time, and wake its own pump. `OutOfMemory` is told where an allocation was
+    /// refused, and for no other cause.
+    pub fn start(
+        alloc: Global,
+        view: V,
+        setup: Setup,
+        items: usize,
+        packets: usize,
+    ) -> Result<Started<V>, OutOfMemory>
+        requires view { V.view view ≡ empty_view }
+        requires history { is_capacity setup.history ≡ true }
+        requires items { 0 < items }
+        requires packets { 0 < packets }
+        ensures inlet { IfOk result (λ s. (put_of s.inlet ≡ []) × (slots_of s.inlet ≡ items)) }
+        ensures outlet { IfOk result (λ s. (items_of s.outlet ≡ []) ×
+            (end_capacity_of s.outlet ≡ packets)) }
+    {
+        let pump = shared_bell(alloc)?;
+        let (end, items) = inlet(alloc, items, Arc::try_clone(&pump)?)?;
+        let (upstream, outlet) = outlet(alloc, packets, Arc::try_clone(&pump)?)?;
+        match Hub::start(alloc, view, items, upstream, setup) {
+            Ok(hub) => Ok(Started {
+                network: Network::new(hub, pump),
+                inlet: end,
+                outlet,
+            }),
+            Err(CapacityError::OutOfMemory) => Err(AllocError),
+            Err(CapacityError::BadCapacity) => unreachable!(),
+        }
+    }
+
     /// The hub behind a lock. `pump` is what its ends wake the pump by: the bell that `inlet` and
-    /// `outlet` were given.
+    /// `outlet` were given. [`start`](Network::start) makes all of these together.
     pub fn new(hub: Hub<V, RingInlet, RingOutlet>, pump: SharedBell) -> Network<V> {
         Network {
             hub: Mutex::new(hub),
@@ -50,6 +112,60 @@ impl<V: NetworkView + Drop> Network<V> {
     /// What the pump of this network sleeps on.
     pub(crate) fn bell(&self) -> &Bell {
         &self.pump
+    }
+
+    /// Both ends of a ring for a session of this network, for this many packets at a time: its
+    /// pump is woken by it when it waits for room. `OutOfMemory` is told where an allocation was
+    /// refused, and for no other cause.
+    pub fn outlet(
+        &self,
+        alloc: Global,
+        capacity: usize,
+    ) -> Result<(RingOutlet, OutletEnd), OutOfMemory>
+        requires { 0 < capacity }
+        ensures outlet { IfOk result (λ r. (sent_of r.0 ≡ []) × (closed_of r.0 ≡ None) ×
+            (capacity_of r.0 ≡ capacity) × (free_of r.0 ≡ capacity) × (told_of r.0 ≡ false)) }
+        ensures end { IfOk result (λ r. (items_of r.1 ≡ []) × (end_capacity_of r.1 ≡ capacity)) }
+        ensures ends { IfOk result (λ r. ArePacketEnds r.0 r.1) }
+    {
+        outlet(alloc, capacity, self.pump_bell()?)
+    }
+
+    /// Whether a session is nearly full, of those that packets have left so. The pump, if it looks
+    /// next, is told so too.
+    fn is_crowded(&self, hub: &mut RingHub<V>) -> bool {
+        if !self.pump.take_tight() || hub.nearly_full().is_ok_and(|lagging| lagging.is_empty()) {
+            return false;
+        }
+        self.pump.note_tight();
+        true
+    }
+
+    /// Takes items into the hub if its pump sleeps, and as long as no session is nearly full: at
+    /// most this many. For the thread that has put some, which so spares waking the pump.
+    pub fn pump_beside<R: Wait>(&self, rt: &R, most: u64) -> Beside {
+        let mut beside = Beside {
+            taken: 0,
+            is_done: false,
+        };
+        if !self.pump.is_drowsy() {
+            return beside;
+        }
+        let mut hub = self.lock(rt);
+        for _ in 0..most {
+            if self.is_crowded(&mut hub) {
+                break;
+            }
+            match hub.pump() {
+                Ok(Pumped::Taken { .. }) => beside.taken = beside.taken.saturating_add(1),
+                Ok(Pumped::Nothing) => {
+                    beside.is_done = true;
+                    break;
+                }
+                Err(_) => break,
+            }
+        }
+        beside
     }
 
     /// What the pump of this network sleeps on, to make outlets with.

@@ -7,6 +7,8 @@ ghost use Rattle.hub_threads.specs.Queues.{ended_by, is_nil, packets_in};
 use crate::OutOfMemory;
 use crate::bell::SharedBell;
 use crate::queued::{Counted, Queued};
+use crate::stop_sign::SharedSign;
+use crate::turns::Turns;
 use crate::write_call::Call;
 use hub_ends::SessionId;
 use rtrb::Consumer;
@@ -28,9 +30,11 @@ pub struct OutletEnd {
     left: bool,
     // room for what is written in one go, empty
     buffer: Vec<u8>,
-    // wakes the thread that has this end; its flag tells it to stop
+    // wakes the thread that has this end
     writer: SharedBell,
-    // wakes the pump; its flag says that the pump waits for room
+    // tells it to stop
+    sign: SharedSign,
+    // wakes the pump, if it waits for room
     pump: SharedBell,
     ghost ended: { received consumer ≡ ended_by (packets_in (received consumer)) closed },
     ghost first: { fresh ≡ is_nil (packets_in (received consumer)) },
@@ -46,11 +50,13 @@ impl Drop for OutletEnd {
             left: _,
             buffer,
             writer,
+            sign,
             pump,
         } = self;
         drop(consumer);
         drop(buffer);
         drop(writer);
+        drop(sign);
         pump.ring();
         drop(pump);
     }
@@ -63,18 +69,21 @@ impl OutletEnd {
     ghost use Rattle.irc_line.specs.Lines.{counted};
     ghost use Rattle.rtrb.specs.Ring.{received};
     ghost use Rattle.hub_threads.specs.Queues.{closed_in, ended_by, is_nil, packets_in};
-    ghost use Rattle.hub_threads.specs.Rings.{items_of, next_of};
+    ghost use Rattle.hub_threads.specs.Rings.{StaysOutletEnd, items_of, next_of};
     ghost use Rattle.hub_threads.specs.Writes.{IsOver};
+    ghost use Rattle.hub_threads.specs.declared.turns.Turns.{Turns};
 
     /// The end of a ring from which nothing was taken, with room to write from.
     pub(crate) fn new(
         consumer: Consumer<Queued, Global, Counted>,
         buffer: Vec<u8>,
         writer: SharedBell,
+        sign: SharedSign,
         pump: SharedBell,
     ) -> OutletEnd
         requires { received consumer ≡ [] }
-        ensures { items_of result ≡ [] }
+        ensures items { items_of result ≡ [] }
+        ensures ring { result.consumer ≡ consumer }
     {
         OutletEnd {
             consumer,
@@ -84,6 +93,7 @@ impl OutletEnd {
             left: false,
             buffer,
             writer,
+            sign,
             pump,
         }
     }
@@ -95,6 +105,7 @@ impl OutletEnd {
             ≡ packets_in (items_of self.old) ++ option_to_list result }
         ensures next { IfSome (next_of self.old) (λ packet. result ≡ Some packet) }
         ensures writer { (self.new.misses ≡ self.old.misses) × (self.new.left ≡ self.old.left) }
+        ensures ends { StaysOutletEnd self.old self.new }
     {
         if self.closed.is_some() {
             return None;
@@ -138,11 +149,7 @@ impl OutletEnd {
             ≡ cond (is_some result) 0 (counted (self.old.misses + 1)) }
         ensures left { self.new.left ≡ self.old.left }
     {
-        let packet = if self.writer.is_raised() {
-            None
-        } else {
-            self.take()
-        };
+        let packet = if self.sign.is_up() { None } else { self.take() };
         self.misses = match &packet {
             Some(_) => 0,
             None => self.misses.saturating_add(1),
@@ -152,12 +159,12 @@ impl OutletEnd {
 
     /// Whether nothing more is to be written: so many takes in succession gave nothing, the closing
     /// item was taken, the other end is gone and nothing is left, or the writer is told to stop.
-    pub(crate) fn is_over(&mut self, idle: u64) -> bool
+    pub(crate) fn is_over(&mut self, idle: Turns) -> bool
         ensures end { (items_of self.new ≡ items_of self.old)
             × (self.new.misses ≡ self.old.misses) }
         ensures over { IsTrue result → IsOver self.new idle }
     {
-        self.looks_left() || self.misses >= idle || self.closed.is_some()
+        self.looks_left() || idle.are_over(self.misses) || self.closed.is_some()
     }
 
     /// Whether the other end is gone and nothing is left, or the writer is told to stop.
@@ -166,8 +173,7 @@ impl OutletEnd {
             × (self.new.misses ≡ self.old.misses) }
         ensures left { result ≡ self.new.left }
     {
-        self.left = self.writer.is_raised()
-            || (self.consumer.is_abandoned() && self.consumer.is_empty());
+        self.left = self.sign.is_up() || (self.consumer.is_abandoned() && self.consumer.is_empty());
         self.left
     }
 
@@ -186,12 +192,12 @@ impl OutletEnd {
     }
 
     /// Sleeps until a packet may be there.
-    pub(crate) fn sleep<R: Wait>(&mut self, rt: &R, idle: u64)
+    pub(crate) fn sleep<R: Wait>(&mut self, rt: &R, idle: Turns)
         ensures { (items_of self.new ≡ items_of self.old) × (self.new.misses ≡ self.old.misses) }
     {
         self.writer.nod();
         if self.consumer.is_empty() {
-            self.writer.sleep(rt, idle);
+            self.writer.wait(rt, idle);
         }
         self.writer.rise();
     }
@@ -221,7 +227,7 @@ impl OutletEnd {
     /// Takes the room back.
     pub(crate) fn take_back(&mut self, buffer: Vec<u8>)
         ensures end { items_of self.new ≡ items_of self.old }
-        ensures over { (idle : ℕ) → IsOver self.old idle → IsOver self.new idle }
+        ensures over { (idle : Turns) → IsOver self.old idle → IsOver self.new idle }
     {
         self.buffer = buffer;
     }
@@ -230,12 +236,13 @@ impl OutletEnd {
     pub fn stopper(&self) -> Result<Stopper, OutOfMemory> {
         Ok(Stopper {
             writer: Arc::try_clone(&self.writer)?,
+            sign: Arc::try_clone(&self.sign)?,
         })
     }
 
     /// Takes the sign to stop back, so that a writer may go on with this end.
     pub fn go_on(&self) {
-        self.writer.lower();
+        self.sign.take_down();
     }
 }
 
@@ -243,19 +250,20 @@ impl OutletEnd {
 #[derive(Drop)]
 pub struct Stopper {
     writer: SharedBell,
+    sign: SharedSign,
 }
 
 impl Stopper {
     /// Tells it. It takes no lock and waits for nobody.
     pub fn stop(&self) {
-        self.writer.raise();
+        self.sign.put_up();
         self.writer.ring();
     }
 }
 
 /// Wakes the pump, where it waits for room and no packet is known to be left.
 fn wake(pump: &SharedBell, left: usize) {
-    if left == 0 && pump.is_raised() {
+    if left == 0 && pump.awaits_room() {
         pump.ring();
     }
 }

@@ -19,6 +19,8 @@ pub struct RingOutlet {
     closed: Option<SessionId>,
     // wakes the thread that has the other end
     writer: SharedBell,
+    // tells the pump of the network that there is little room
+    pump: SharedBell,
     ghost counts: { count ≡ counted (length (sent producer)) },
 }
 
@@ -29,10 +31,12 @@ impl Drop for RingOutlet {
             count: _,
             closed: _,
             writer,
+            pump,
         } = self;
         drop(producer);
         writer.ring();
         drop(writer);
+        drop(pump);
     }
 }
 
@@ -42,25 +46,55 @@ impl RingOutlet {
     ghost use Rattle.hub_threads.specs.Rings.{capacity_of, closed_of, free_of, sent_of, told_of};
 
     /// The end of a ring into which nothing was sent.
-    pub(crate) fn new(producer: Producer<Queued, Global, Counted>, writer: SharedBell) -> RingOutlet
+    pub(crate) fn new(
+        producer: Producer<Queued, Global, Counted>,
+        writer: SharedBell,
+        pump: SharedBell,
+    ) -> RingOutlet
         requires { sent producer ≡ [] }
         ensures { (sent_of result ≡ []) × (closed_of result ≡ None) × (told_of result ≡ false) ×
             (capacity_of result ≡ producer_capacity producer) ×
-            (free_of result ≡ known_free producer) }
+            (free_of result ≡ known_free producer) × (result.producer ≡ producer) }
     {
         RingOutlet {
             producer,
             count: 0,
             closed: None,
             writer,
+            pump,
         }
     }
 }
 
 impl RingOutlet {
+    ghost use Rattle.std.specs.Prelude.{false};
+    ghost use Rattle.hub_ends.specs.Outlets.{FindsRoom};
+    ghost use Rattle.hub_threads.specs.Rings.{StaysOutlet, state_of};
+
     /// Whether at least half of the slots, and one, are known to be free.
     fn is_roomy(&self) -> bool {
         self.producer.cached_slots() >= self.producer.capacity().div_ceil(2)
+    }
+
+    /// Whether fewer slots are known to be free than one, or than a quarter of all: then its session
+    /// is nearly full.
+    fn is_tight(&self) -> bool {
+        self.producer.cached_slots() < (self.producer.capacity() / 4).max(1)
+    }
+
+    /// Looks anew how many slots are free, if fewer than half are known to be, and tells the pump if
+    /// there is little room.
+    fn look_for_room(&mut self)
+        ensures found { FindsRoom false (state_of self.old) (state_of self.new) }
+        ensures ends { StaysOutlet self.old self.new }
+    {
+        if self.is_roomy() {
+            return;
+        }
+        let _ = self.producer.slots();
+        if self.is_tight() {
+            self.pump.note_tight();
+        }
     }
 
     /// Wakes the writer where it sleeps, and where more than half of the ring may wait for it. Else
@@ -87,27 +121,19 @@ impl RingOutlet {
     }
 }
 
-impl Outlet for RingOutlet {
-    ghost use Rattle.std.specs.Prelude.{false};
-    ghost use Rattle.hub_threads.specs.Rings.{capacity_of, closed_of, free_of, sent_of, told_of};
+impl RingOutlet {
+    ghost use Rattle.std.specs.Prelude.{◌≡◌, ◌<◌, ◌↔◌, IfErr, IsSome, IsTrue, None, OnOk, Some, false};
+    ghost use Rattle.std.specs.Prelude.{true};
+    ghost use Rattle.hub_ends.specs.Outlets.{FindsRoom, Took};
+    ghost use Rattle.hub_threads.specs.Rings.{StaysOutlet, closed_of, free_of, sent_of, state_of};
+    ghost use Rattle.hub_threads.specs.Rings.{capacity_of, told_of};
 
-    ghost sent = { sent_of };
-
-    ghost closed = { closed_of };
-
-    ghost capacity = { capacity_of };
-
-    ghost free = { free_of };
-
-    ghost told = { told_of };
-
-    ghost alone = { false };
-
-    fn capacity(&self) -> usize {
-        self.producer.capacity()
-    }
-
-    fn free(&mut self) -> usize {
+    /// How many more packets there is room for, as far as is known: none once it is closed.
+    fn look(&mut self) -> usize
+        ensures value { result ≡ free_of self.new }
+        ensures found { FindsRoom false (state_of self.old) (state_of self.new) }
+        ensures ends { StaysOutlet self.old self.new }
+    {
         if self.closed.is_some() {
             return 0;
         }
@@ -117,17 +143,30 @@ impl Outlet for RingOutlet {
         self.producer.slots()
     }
 
-    fn room(&mut self) -> bool {
+    /// Whether there is room for a packet: not once it is closed.
+    fn has_room(&mut self) -> bool
+        ensures value { IsTrue result ↔ (0 < free_of self.new) }
+        ensures found { FindsRoom false (state_of self.old) (state_of self.new) }
+        ensures ends { StaysOutlet self.old self.new }
+    {
         self.closed.is_none() && !self.producer.is_full()
     }
 
-    fn offer(&mut self, packet: Packet) -> Result<(), Packet> {
+    /// Sends a packet, or hands it back where no slot is known to be free, or it is closed. It takes
+    /// no lock and waits for nobody.
+    pub fn send(&mut self, packet: Packet) -> Result<(), Packet>
+        ensures taken { OnOk result (Took false (state_of self.old) packet (state_of self.new)) }
+        ensures full { IfErr result (λ p. (p ≡ packet) × (state_of self.new ≡ state_of self.old) ×
+            (free_of self.old ≡ 0)) }
+        ensures ends { StaysOutlet self.old self.new }
+    {
         if self.closed.is_some() {
             return Err(packet);
         }
         match self.producer.push(Queued::Lines(packet)) {
             Ok(()) => {
                 self.count = self.count.saturating_add(1);
+                self.look_for_room();
                 self.call_writer();
                 Ok(())
             }
@@ -136,7 +175,17 @@ impl Outlet for RingOutlet {
         }
     }
 
-    fn close(&mut self, id: SessionId) {
+    /// Puts the closing item, with the number of the session, where a slot is known to be free, and
+    /// takes no more packets; a second time nothing changes.
+    pub fn shut(&mut self, id: SessionId)
+        ensures sent { sent_of self.new ≡ sent_of self.old }
+        ensures capacity { capacity_of self.new ≡ capacity_of self.old }
+        ensures first { closed_of self.old ≡ None → closed_of self.new ≡ Some id }
+        ensures again { IsSome (closed_of self.old) → closed_of self.new ≡ closed_of self.old }
+        ensures full { free_of self.new ≡ 0 }
+        ensures told { 0 < free_of self.old → told_of self.new ≡ true }
+        ensures ends { StaysOutlet self.old self.new }
+    {
         if self.closed.is_some() {
             return;
         }
@@ -147,5 +196,36 @@ impl Outlet for RingOutlet {
             Err(_) => {}
         }
         self.writer.ring();
+    }
+}
+
+impl Outlet for RingOutlet {
+    ghost use Rattle.std.specs.Prelude.{false};
+    ghost use Rattle.hub_threads.specs.Rings.{state_of, told_of};
+
+    ghost state = { state_of };
+
+    ghost told = { told_of };
+
+    ghost alone = { false };
+
+    fn capacity(&self) -> usize {
+        self.producer.capacity()
+    }
+
+    fn free(&mut self) -> usize {
+        self.look()
+    }
+
+    fn room(&mut self) -> bool {
+        self.has_room()
+    }
+
+    fn offer(&mut self, packet: Packet) -> Result<(), Packet> {
+        self.send(packet)
+    }
+
+    fn close(&mut self, id: SessionId) {
+        self.shut(id);
     }
 }

@@ -44,10 +44,12 @@ impl Patience {
             .any(|stalled| stalled.0 == id && stalled.1 == progress)
     }
 
-    /// Gives sessions that are nearly full time to take packets, outside the lock: at most 50 ms
-    /// for all together, and less where none is nearly full any more. It sleeps on `bell`, at most
-    /// 1 ms a time; where that is the bell of the network's pump, a writer that has taken all that
-    /// it knew of wakes it. Who took and wrote nothing is not waited for again until it does.
+    /// Gives sessions that the last packets have left nearly full time to take some, outside the
+    /// lock: at most 50 ms for all together, and less where none is nearly full any more. If no
+    /// packet has left a session nearly full since the last call, it takes no lock. It sleeps on
+    /// `bell`, at most 1 ms a time; where that is the bell of the network's pump, a writer that has
+    /// taken all that it knew of wakes it. Who took and wrote nothing is not waited for again until
+    /// it does.
     ///
     /// It is best effort: where memory is refused, a session is given no time.
     pub fn give_time<V: NetworkView + Drop, C: Clock, R: Wait>(
@@ -57,20 +59,23 @@ impl Patience {
         bell: &Bell,
         clock: &C,
     ) {
+        if !network.bell().take_tight() {
+            return;
+        }
         let waited = self.lagging(rt, network);
         if waited.is_empty() {
             return;
         }
-        bell.raise();
+        bell.set_awaits_room(true);
         let began = clock.ticks();
         for _ in 0..LOOKS {
-            bell.sleep(rt, 0);
+            bell.nap(rt);
             let are_left = !self.lagging(rt, network).is_empty();
             if !are_left || clock.ticks().saturating_sub(began) >= PATIENCE {
                 break;
             }
         }
-        bell.lower();
+        bell.set_awaits_room(false);
         self.note(rt, network, waited);
     }
 

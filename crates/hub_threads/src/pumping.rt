@@ -6,6 +6,7 @@ ghost use Rattle.hub_threads.specs.Pumping.{end_after, refused_after};
 use crate::gate::{Clock, Gate, Point};
 use crate::network::Network;
 use crate::patience::Patience;
+use crate::turns::Turns;
 use hub_core::{HubError, Pumped};
 use net_view::NetworkView;
 use std::alloc::Global;
@@ -78,25 +79,30 @@ impl Refusals {
 }
 
 /// Pumps this many times. A turn without an item counts, and so does a refusal for memory: it rests
-/// for this many milliseconds then, and tries the item again. The lock is taken anew for each step. Without an item it sleeps
-/// until it is woken: at most 1 ms, unless `turns` is 18446744073709551615.
+/// for this many milliseconds then, and tries the item again. The lock is taken anew for each step.
+/// Without an item it sleeps until it is woken: at most 1 ms, unless `turns` are endless.
 ///
-/// Before an item, sessions that are nearly full are given time, outside the lock: at most 50 ms
-/// for all, and none for who took nothing when it was given some. Who is full then is cut.
+/// Before an item, sessions that packets have left nearly full are given time, outside the lock: at
+/// most 50 ms for all, and none for who took nothing when it was given some. Who is full then is cut.
 pub fn pump_loop<V: NetworkView + Drop, G: Gate, C: Clock, R: Wait>(
     rt: &R,
     alloc: Global,
     network: &Network<V>,
     gate: &G,
     clock: &C,
-    turns: u64,
+    turns: Turns,
     rest: u64,
 ) -> PumpEnd {
     // nobody rings it, so a rest is not cut short by what comes
     let bed = Parker::new();
     let mut patience = Patience::new(alloc);
     let mut refusals = Refusals::none();
-    for _ in 0..turns {
+    let mut made = 0u64;
+    for _ in rt.forever() {
+        if turns.are_over(made) {
+            return PumpEnd::Turns;
+        }
+        made = made.saturating_add(1);
         gate.pass(Point::BeforeStep);
         patience.give_time(rt, network, network.bell(), clock);
         let outcome = network.lock(rt).pump();
@@ -105,10 +111,10 @@ pub fn pump_loop<V: NetworkView + Drop, G: Gate, C: Clock, R: Wait>(
             return end;
         }
         match outcome {
-            Ok(Pumped::Nothing) => network.bell().sleep(rt, turns),
+            Ok(Pumped::Nothing) => network.bell().wait(rt, turns),
             Err(_) => bed.park_timeout(rt, Duration::from_millis(rest)),
             Ok(Pumped::Taken { .. }) => {}
         }
     }
-    PumpEnd::Turns
+    unreachable!()
 }

@@ -1,26 +1,23 @@
 //! From the bytes of a network to the items of its hub.
 
-ghost use Rattle.std.specs.Prelude.{◌≡◌, ◌↔◌, ◌++◌, ◌∷◌, [], IsErrOf, IsTrue, OnErr, OnOk, map};
-ghost use Rattle.irc_line.specs.Lines.{fed, is_too_long, lines_of};
-ghost use Rattle.net_view.specs.Arrival.{Lost, Received};
+ghost use Rattle.std.specs.Prelude.{◌≡◌, ◌++◌, ◌∷◌, []};
+ghost use Rattle.net_view.specs.Arrival.{Lost};
 ghost use Rattle.hub_ends.specs.Came.{arrivals, came};
-ghost use Rattle.hub_threads.specs.Reads.{IsReadIn, received_at};
+ghost use Rattle.hub_threads.specs.Reads.{IsReadIn, received_at, why_of};
 ghost use Rattle.hub_threads.specs.Rings.{put_of};
 
 use crate::gate::{Clock, Gate, Point};
 use crate::inlet_ring::InletEnd;
 use client_caps::Moment;
-use irc_line::{FeedError, Line, Splitter};
+use irc_line::{InputEnd, Line, LineTaker, ReadPoint, Splitter, read_lines};
 use net_view::Item;
 use std::alloc::Global;
-use std::io::{ErrorKind, Read};
+use std::convert::Infallible;
+use std::io::Read;
 use std::sync::Wait;
 
 /// How many bytes one read asks for.
 const PIECE: usize = 4_096;
-
-/// How many reads there are at most.
-const READ_LIMIT: u64 = 1_000_000_000;
 
 /// Why the reading of a network ended.
 #[derive(Clone, Copy, Debug, PartialEq, Eq)]
@@ -33,7 +30,7 @@ pub enum ReadEnd {
     TooLong,
     /// An allocation was refused.
     OutOfMemory,
-    /// There were 1,000,000,000 reads.
+    /// There were `irc_line::READ_LIMIT` reads.
     TurnsSpent,
 }
 
@@ -63,43 +60,79 @@ fn put_waiting<R: Wait>(rt: &R, end: &mut InletEnd, item: Item, moment: Moment)
     unreachable!()
 }
 
-/// Puts lines, in order, each with this moment, and wakes the pump. Where the ring is full it
-/// sleeps until there is room.
-pub fn put_lines<R: Wait>(rt: &R, end: &mut InletEnd, lines: Vec<Line>, moment: Moment)
+/// Puts lines, in order, each with this moment. The pump is woken only if the ring is full; then
+/// it sleeps until there is room.
+fn put_unrung<R: Wait>(rt: &R, end: &mut InletEnd, lines: Vec<Line>, moment: Moment)
     ensures { put_of end.new ≡ put_of end.old ++ received_at moment.0 lines.items }
 {
     for line in lines {
         put_waiting(rt, end, Item::Line(line), moment);
     }
+}
+
+/// Puts lines, in order, each with this moment, and wakes the pump. Where the ring is full it
+/// sleeps until there is room.
+pub fn put_lines<R: Wait>(rt: &R, end: &mut InletEnd, lines: Vec<Line>, moment: Moment)
+    ensures { put_of end.new ≡ put_of end.old ++ received_at moment.0 lines.items }
+{
+    put_unrung(rt, end, lines, moment);
     end.wake_pump();
 }
 
-/// Takes a piece of what was read: puts the lines that it completes. After a refusal nothing was
-/// put, and the splitter is as it was.
-#[tactic(auto, using(crate::proofs::ReadLemmas::arrived))]
-fn take_piece<C: Clock, R: Wait>(
-    rt: &R,
-    alloc: Global,
-    splitter: &mut Splitter,
-    piece: &[u8],
-    end: &mut InletEnd,
-    clock: &C,
-) -> Result<(), FeedError>
-    ensures lines { OnOk result (arrivals (put_of end.new)
-        ≡ arrivals (put_of end.old) ++ map Received (lines_of (splitter.old.rest ++ piece.now))) }
-    ensures left { OnOk result (splitter.new ≡ fed splitter.old piece.now) }
-    ensures too_long { IsErrOf result FeedError.TooLong
-        ↔ IsTrue (is_too_long (splitter.old.rest ++ piece.now)) }
-    ensures kept { OnErr result ((splitter.new ≡ splitter.old) ×
-        (put_of end.new ≡ put_of end.old)) }
-{
-    let mut lines = Vec::new(alloc);
-    match splitter.feed(piece, &mut lines) {
-        Ok(()) => {
-            put_lines(rt, end, lines, clock.now());
-            Ok(())
+impl From<ReadPoint> for Point {
+    fn from(point: ReadPoint) -> Point {
+        match point {
+            ReadPoint::Before => Point::BeforeRead,
+            ReadPoint::After => Point::AfterRead,
         }
-        Err(e) => Err(e),
+    }
+}
+
+/// What puts the lines of a network into the end of an inlet, each with the moment at which it was
+/// read.
+#[derive(Drop)]
+struct Inflow<'a, G, C, R> {
+    rt: &'a R,
+    end: InletEnd,
+    gate: &'a G,
+    clock: &'a C,
+}
+
+impl<G: Gate, C: Clock, R: Wait> LineTaker<Infallible> for Inflow<'_, G, C, R> {
+    ghost use Rattle.std.specs.Prelude.{◌≡◌, ◌++◌, map};
+    ghost use Rattle.net_view.specs.Arrival.{Received};
+    ghost use Rattle.hub_ends.specs.Came.{arrivals};
+    ghost use Rattle.hub_threads.specs.Rings.{put_of};
+
+    ghost is_after = { λ began lines now.
+        arrivals (put_of now.end) ≡ arrivals (put_of began.end) ++ map Received lines };
+
+    ghost ends = { λ began lines never now. ⊥ };
+
+    #[tactic(auto, using(crate::proofs::ReadLemmas::arrived))]
+    fn take_lines(&mut self, lines: Vec<Line>) -> Option<Infallible> {
+        put_unrung(self.rt, &mut self.end, lines, self.clock.now());
+        if !self.gate.took_lines(self.rt) {
+            self.end.wake_pump();
+        }
+        None
+    }
+
+    fn pass(&self, point: ReadPoint) {
+        self.gate.pass(point.into());
+    }
+}
+
+/// Why a network is read no further.
+fn why(end: InputEnd<Infallible>) -> ReadEnd
+    ensures { result ≡ why_of end }
+{
+    match end {
+        InputEnd::EndOfInput => ReadEnd::EndOfInput,
+        InputEnd::ReadFault(_) => ReadEnd::ReadFault,
+        InputEnd::TooLong => ReadEnd::TooLong,
+        InputEnd::OutOfMemory => ReadEnd::OutOfMemory,
+        InputEnd::ReadsSpent => ReadEnd::TurnsSpent,
     }
 }
 
@@ -118,48 +151,29 @@ fn lost<C: Clock, R: Wait>(rt: &R, end: InletEnd, ended: ReadEnd, clock: &C) -> 
 /// the splitter holds, each with the moment at which it was read; then one loss. Of a piece that is
 /// refused no line is put. Where the ring is full it sleeps until there is room.
 ///
-/// It reads at most 1,000,000,000 times. A read that is interrupted is tried again.
-pub fn read_in<I: Read, G: Gate, C: Clock, R: Wait>(
-    rt: &R,
+/// It reads at most `irc_line::READ_LIMIT` times. A read that is interrupted is tried again.
+pub fn read_in<'a, I: Read, G: Gate, C: Clock, R: Wait>(
+    rt: &'a R,
     alloc: Global,
     reader: &mut I,
     splitter: Splitter,
     end: InletEnd,
-    gate: &G,
-    clock: &C,
+    gate: &'a G,
+    clock: &'a C,
 ) -> Reading
     ensures { IsReadIn splitter (put_of end) (put_of result.end)
         (I.remaining reader.old) (I.remaining reader.new) result.ended }
 {
     let mut splitter = splitter;
-    let mut end = end;
     let Ok(mut buffer) = vec![in alloc; 0; PIECE] else {
         return lost(rt, end, ReadEnd::OutOfMemory, clock);
     };
-    for _ in 0..READ_LIMIT {
-        gate.pass(Point::BeforeRead);
-        match reader.read(&mut buffer) {
-            Ok(0) => return lost(rt, end, ReadEnd::EndOfInput, clock),
-            Ok(count) => {
-                gate.pass(Point::AfterRead);
-                let piece = &buffer[..count];
-                match take_piece(rt, alloc, &mut splitter, piece, &mut end, clock) {
-                    Ok(()) => {}
-                    Err(FeedError::TooLong) => return lost(rt, end, ReadEnd::TooLong, clock),
-                    Err(FeedError::OutOfMemory) => return lost(
-                        rt,
-                        end,
-                        ReadEnd::OutOfMemory,
-                        clock,
-                    ),
-                }
-            }
-            Err(error) => {
-                if error.kind() != ErrorKind::Interrupted {
-                    return lost(rt, end, ReadEnd::ReadFault, clock);
-                }
-            }
-        }
-    }
-    lost(rt, end, ReadEnd::TurnsSpent, clock)
+    let mut inflow = Inflow {
+        rt,
+        end,
+        gate,
+        clock,
+    };
+    let read = read_lines(alloc, &mut splitter, &mut inflow, reader, &mut buffer);
+    lost(rt, inflow.end, why(read), clock)
 }

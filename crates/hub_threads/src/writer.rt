@@ -6,6 +6,7 @@ use crate::OutOfMemory;
 use crate::gate::Gate;
 use crate::outlet_end::{OutletEnd, Stopper};
 use crate::stack::small_thread;
+use crate::turns::Turns;
 use crate::writing::{Written, write_out};
 use std::alloc::AllocError;
 use std::io::Write;
@@ -15,7 +16,7 @@ use std::thread::{Promise, PromisedHandle, Threads};
 
 /// What a writer was given: its end, what it writes to, and after how many takes that give nothing
 /// it ends. Its thread promises what `write_out` says of them. It has no bytes.
-pub struct Given<W>(Snapshot<OutletEnd>, Snapshot<W>, Snapshot<u64>);
+pub struct Given<W>(Snapshot<OutletEnd>, Snapshot<W>, Snapshot<Turns>);
 
 impl<W> Drop for Given<W> {
     fn drop(self) {
@@ -50,7 +51,7 @@ pub fn spawn_writer<
     end: OutletEnd,
     out: W,
     gate: G,
-    idle: u64,
+    idle: Turns,
 ) -> Result<PromisedHandle<Written<W>, Given<W>>, OutOfMemory>
     ensures { IfOk result (λ h. (h.promise.0.value ≡ end) × (h.promise.1.value ≡ out) ×
         (h.promise.2.value ≡ idle)) }
@@ -77,7 +78,7 @@ pub fn spawn_stoppable<
 ) -> Result<PromisedHandle<Written<W>, Given<W>>, Written<W>>
     ensures { IfOk result (λ h. (h.promise.0.value ≡ end) × (h.promise.1.value ≡ out)) }
 {
-    let idle = u64::MAX;
+    let idle = Turns::Endless;
     let given = Given(Snapshot::of(&end), Snapshot::of(&out), Snapshot::of(&idle));
     let write = move || {
         let (end, out) = (end, out);

@@ -7,13 +7,15 @@ ghost use Rattle.irc_line.specs.Writing.{bytes_of};
 ghost use Rattle.hub_threads.specs.Backlogs.{rest_of};
 ghost use Rattle.hub_threads.specs.Queues.{packets_in};
 ghost use Rattle.hub_threads.specs.Rings.{items_of};
-ghost use Rattle.hub_threads.specs.Writes.{IsOver, IsWritten};
+ghost use Rattle.hub_threads.specs.Writes.{IsOver, IsWritten, KeepsWritten};
+ghost use Rattle.hub_threads.specs.declared.turns.Turns.{Turns};
 
 use crate::backlog::Backlog;
 use crate::gate::{Gate, Point};
 use crate::lull::Lull;
 use crate::outlet_end::OutletEnd;
 use crate::slowness::Slowness;
+use crate::turns::Turns;
 use std::io::Write;
 use std::sync::Wait;
 use thiserror::Error;
@@ -24,7 +26,7 @@ use thiserror::Error;
 #[error("cannot write")]
 pub struct WriteFault;
 
-/// What `write_out` hands back.
+/// What `write_out` hands back. Its type keeps what was written of the packets that were taken.
 #[derive(Drop)]
 pub struct Written<W: Write> {
     /// The end that the packets were taken from.
@@ -35,6 +37,7 @@ pub struct Written<W: Write> {
     pub fresh: bool,
     /// How many bytes were written, at most 18446744073709551615.
     pub outcome: Result<u64, WriteFault>,
+    ghost kept: { ∥ KeepsWritten (items_of end) (W.contents out) fresh outcome ∥₁ },
 }
 
 /// What is handed back, with the buffer to write from in its place.
@@ -46,9 +49,10 @@ fn handed_back<W: Write, G: Gate>(
     outcome: Result<u64, WriteFault>,
     gate: &G,
 ) -> Written<W>
+    requires { KeepsWritten (items_of end) (W.contents out) fresh outcome }
     ensures parts { (items_of result.end ≡ items_of end) × (result.out ≡ out) ×
         (result.fresh ≡ fresh) × (result.outcome ≡ outcome) }
-    ensures over { (idle : ℕ) → IsOver end idle → IsOver result.end idle }
+    ensures over { (idle : Turns) → IsOver end idle → IsOver result.end idle }
 {
     let mut end = end;
     end.take_back(backlog.into_buffer());
@@ -124,14 +128,13 @@ fn write_once<W: Write, G: Gate>(
 ///
 /// After a write of two packets or more it rests for at most 1 ms, so that what comes meanwhile
 /// goes out in one write, and after one packet for half as long as before, or not at all. If no
-/// packet waits it sleeps until it is woken: at most 1 ms a time, unless `idle` is
-/// 18446744073709551615.
+/// packet waits it sleeps until it is woken: at most 1 ms a time, unless `idle` is endless.
 pub fn write_out<W: Write, G: Gate, R: Wait>(
     rt: &R,
     end: OutletEnd,
     out: W,
     gate: &G,
-    idle: u64,
+    idle: Turns,
 ) -> Written<W>
     ensures written { IsWritten (items_of end) (items_of result.end) (W.contents out)
         (W.contents result.out) result.fresh result.outcome }

@@ -1,8 +1,6 @@
-use Rattle.std.proofs.Common.{ap, ◌∙◌}
 use Rattle.hub_threads.specs.Backlogs.{rest_of}
-use Rattle.hub_threads.specs.Queues.{packets_in}
 use Rattle.hub_threads.specs.Rings.{items_of}
-use Rattle.hub_threads.proofs.Bytes.{under_way_first, under_way_more, under_way_on, ends_early}
+use Rattle.hub_threads.proofs.Bytes.{under_way_first, under_way_more, under_way_still, ends_early}
 use Rattle.hub_threads.proofs.writing.write_out.Goals as goal
 
 pub loop-init : goal.loop-init
@@ -19,37 +17,29 @@ loop-preserved-in-Some-take_packet g c = under_way_more (items_of c.args.end)
 pub returns-then-not-write_once-clause-written : goal.returns-then-not-write_once-clause-written
 returns-then-not-write_once-clause-written g c =
     let done = c.handed_back.ensures.parts in
-    let none = c.in-None-take_packet.ensures in
     rw (done.0, done.1, done.2, done.3)
-    (ends_early (items_of c.args.end) (items_of c.write_once.new.end)
-    (g.W.Write.contents c.args.out) (g.W.Write.contents c.write_once.new.out)
-    (rest_of c.write_once.new.backlog) c.loop.count _ _
-    (under_way_on (items_of c.args.end) (items_of c.loop.end) (items_of c.write_once.new.end)
-    (g.W.Write.contents c.args.out) (g.W.Write.contents c.loop.out)
-    (g.W.Write.contents c.write_once.new.out) (rest_of c.loop.backlog)
-    (rest_of c.write_once.new.backlog) c.loop.count c.loop.invariant
-    (ap packets_in c.write_once.ensures.end ∙ none.0)
-    (rw none.1 at c.write_once.ensures.wrote)) c.is_fresh-fresh.ensures)
+    (ends_early _ _ _ _ _ _ _ _
+    (under_way_still c.loop.invariant c.in-None-take_packet.ensures
+    c.write_once.ensures.wrote c.write_once.ensures.end) c.is_fresh-fresh.ensures)
+
+pub handed_back-requires : goal.handed_back-requires
+handed_back-requires g c = (
+  _,
+  _,
+  ends_early _ _ _ _ _ _ _ _
+      (under_way_still c.loop.invariant c.in-None-take_packet.ensures
+      c.write_once.ensures.wrote c.write_once.ensures.end) c.is_fresh-fresh.ensures,
+)
 
 pub loop-preserved-then-is_empty : goal.loop-preserved-then-is_empty
 loop-preserved-then-is_empty g c =
-    let none = c.in-None-take_packet.ensures in
-    under_way_on (items_of c.args.end) (items_of c.loop.end) (items_of c.write_once.new.end)
-    (g.W.Write.contents c.args.out) (g.W.Write.contents c.loop.out)
-    (g.W.Write.contents c.write_once.new.out) (rest_of c.loop.backlog)
-    (rest_of c.write_once.new.backlog) c.loop.count c.loop.invariant
-    (ap packets_in c.write_once.ensures.end ∙ none.0)
-    (rw none.1 at c.write_once.ensures.wrote)
+    under_way_still c.loop.invariant c.in-None-take_packet.ensures
+    c.write_once.ensures.wrote c.write_once.ensures.end
 
 pub loop-preserved-else-is_empty : goal.loop-preserved-else-is_empty
 loop-preserved-else-is_empty g c =
-    let none = c.in-None-take_packet.ensures in
-    under_way_on (items_of c.args.end) (items_of c.loop.end) (items_of c.write_once.new.end)
-    (g.W.Write.contents c.args.out) (g.W.Write.contents c.loop.out)
-    (g.W.Write.contents c.write_once.new.out) (rest_of c.loop.backlog)
-    (rest_of c.write_once.new.backlog) c.loop.count c.loop.invariant
-    (ap packets_in c.write_once.ensures.end ∙ none.0)
-    (rw none.1 at c.write_once.ensures.wrote)
+    under_way_still c.loop.invariant c.in-None-take_packet.ensures
+    c.write_once.ensures.wrote c.write_once.ensures.end
 
 pub returns-then-is_over-clause-over : goal.returns-then-is_over-clause-over
 returns-then-is_over-clause-over g c = rw c.handed_back-then-is_over.ensures.parts.3

@@ -3,8 +3,8 @@ use Rattle.rtrb.specs.Ring.{received}
 use Rattle.hub_threads.proofs.Lists.{closed_is}
 use Rattle.hub_threads.proofs.outlet_end.OutletEnd.is_over.Goals as goal
 
-pub returns-else-self-idle-clause-over : goal.returns-else-self-idle-clause-over
-returns-else-self-idle-clause-over c h = inl (sym (ap is_some (closed_is
+pub returns-else-are_over-clause-over : goal.returns-else-are_over-clause-over
+returns-else-are_over-clause-over c h = inl (sym (ap is_some (closed_is
     (received c.looks_left.new.self.consumer) c.looks_left.new.self.closed
     c.looks_left.new.self.ended))
     ∙ (sym c.is_some.ensures ∙ h))

@@ -4,8 +4,8 @@ use Rattle.rtrb.specs.Ring.{sent}
 use Rattle.hub_threads.specs.declared.queued.Queued.{Queued}
 use Rattle.hub_threads.specs.Queues.{packets_in, is_closed}
 use Rattle.hub_threads.proofs.Lists.{packets_in_closing, closing_told, slot_free}
-use Rattle.hub_threads.proofs.outlet_ring.RingOutletOutlet.close.Goals as goal
-use Rattle.hub_threads.proofs.outlet_ring.RingOutletOutlet.close.Goals.{in-Ok, in-Err}
+use Rattle.hub_threads.proofs.outlet_ring.RingOutlet.shut.Goals as goal
+use Rattle.hub_threads.proofs.outlet_ring.RingOutlet.shut.Goals.{in-Ok, in-Err}
 
 pub returns-clause-sent : goal.returns-clause-sent
 returns-clause-sent c =

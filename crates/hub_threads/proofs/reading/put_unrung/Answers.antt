@@ -1,6 +1,6 @@
 use Rattle.std.proofs.lemmas.Grind.{common_steps}
 use Rattle.std.proofs.Common.{arith}
-use Rattle.hub_threads.proofs.reading.put_lines.Goals as goal
+use Rattle.hub_threads.proofs.reading.put_unrung.Goals as goal
 
 pub loop-line-preserved : goal.loop-line-preserved
 loop-line-preserved g c = grind (arith, common_steps)

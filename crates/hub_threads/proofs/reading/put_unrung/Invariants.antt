@@ -1,7 +1,7 @@
 use Rattle.std.proofs.Common.{◌≡◌, ◌++◌}
 use Rattle.hub_threads.specs.Reads.{received_at}
 use Rattle.hub_threads.specs.Rings.{put_of}
-use Rattle.hub_threads.proofs.reading.put_lines.Given as goal
+use Rattle.hub_threads.proofs.reading.put_unrung.Given as goal
 
 abbrev pub invariant-loop-line : goal.invariant-loop-line
 invariant-loop-line g l = record {

@@ -1,0 +1,28 @@
+use Rattle.std.proofs.Common.{rules, ap, sym, ◌∙◌, List}
+use Rattle.rtrb.specs.Ring.{sent}
+use Rattle.hub_threads.specs.declared.queued.Queued.{Queued}
+use Rattle.hub_threads.specs.Queues.{packets_in}
+use Rattle.hub_threads.proofs.Lists.{packets_in_lines}
+use Rattle.hub_threads.proofs.Rooms.{took_and_found}
+use Rattle.hub_threads.proofs.outlet_ring.RingOutlet.send.Goals as goal
+
+pub returns-in-Ok-clause-taken : goal.returns-in-Ok-clause-taken
+returns-in-Ok-clause-taken c =
+    took_and_found _ _ _ _ c.look_for_room.ensures.found record {
+      sent = ap (λ (l : List Queued). packets_in l) c.in-Ok.ensures.ok.0
+          ∙ packets_in_lines (sent c.args.self.now.producer) c.args.packet;
+      closed = search rules;
+      capacity = search rules;
+      more = rw (← c.if-is_some.ensures) c.in-Ok.ensures.ok.1;
+      room = λ other. cc;
+    }
+
+pub returns-in-Ok-clause-ends : goal.returns-in-Ok-clause-ends
+returns-in-Ok-clause-ends c end ends =
+    let ring = c.push.ensures.ring.0 in
+    c.look_for_room.ensures.ends end (
+      ends.0 ∙ sym ring.0,
+      ends.1 ∙ sym ring.1,
+      ends.2 ∙ sym ring.2,
+      ends.3 ∙ sym ring.3,
+    )
