@@ -10,6 +10,10 @@ use Rattle.irc_support.specs.NamesReply.{words_between}
 use Rattle.net_view.specs.LookBack.{last_in}
 use Rattle.client_caps.specs.declared.caps.Caps.{Caps}
 use Rattle.client_caps.specs.Caps.{no_caps}
+use Rattle.client_caps.specs.declared.caps.Cap.{Cap}
+use Rattle.client_caps.specs.declared.caps.Cap.TheVariants.{MultiPrefix, ExtendedJoin}
+use Rattle.client_caps.specs.declared.caps.Cap.TheVariants.{AccountNotify, AwayNotify}
+use Rattle.client_caps.specs.declared.caps.Cap.TheVariants.{ServerTime, Batch}
 use Rattle.client_caps.specs.Request.{caps_after, request_of, says_held, wish_of}
 use Rattle.client_caps.specs.Answers.{asked}
 use Rattle.client_caps.specs.declared.answers.Asked.{Asked}
@@ -26,19 +30,19 @@ last_append says (x ∷ xs) ys =
     ∙ or_assoc (last_in says ys) (last_in says xs) (says x)
 
 -- wishes, and then others
-caps_after_both : (caps : Caps) (xs ys : List (ℕ × Bool))
+caps_after_both : (caps : Caps) (xs ys : List (Cap × Bool))
     → caps_after caps (xs ++ ys) ≡ caps_after (caps_after caps xs) ys
 caps_after_both caps xs ys =
-    let at = λ (place : ℕ) (held : Bool).
-    ap (λ o. unwrap_or o held) (last_append (says_held place) xs ys)
-    ∙ or_else (last_in (says_held place) ys) (last_in (says_held place) xs) held in
+    let at = λ (cap : Cap) (held : Bool).
+    ap (λ o. unwrap_or o held) (last_append (says_held cap) xs ys)
+    ∙ or_else (last_in (says_held cap) ys) (last_in (says_held cap) xs) held in
     rw (
-      at 0 caps.multi_prefix,
-      at 1 caps.extended_join,
-      at 2 caps.account_notify,
-      at 3 caps.away_notify,
-      at 4 caps.server_time,
-      at 5 caps.batch,
+      at MultiPrefix caps.multi_prefix,
+      at ExtendedJoin caps.extended_join,
+      at AccountNotify caps.account_notify,
+      at AwayNotify caps.away_notify,
+      at ServerTime caps.server_time,
+      at Batch caps.batch,
     ) refl
 
 -- a request that can't be taken changes nothing
@@ -51,7 +55,7 @@ caps_after_text caps text =
     (λ b. unwrap_or (cond b (Some (caps_after caps wishes)) None) caps
     ≡ caps_after caps (cond b wishes [])) [ true ↦ refl | false ↦ refl ]
 
-flat_more : (f : Parts → List (ℕ × Bool)) (xs : List Parts) (x : Parts)
+flat_more : (f : Parts → List (Cap × Bool)) (xs : List Parts) (x : Parts)
     → flat_map f (xs ++ x ∷ []) ≡ flat_map f xs ++ f x
 flat_more f [] x = append-nil (f x)
 flat_more f (y ∷ ys) x =

@@ -1,8 +1,8 @@
 pub mod LookedBack
 pub mod Held
 pub mod Ends
-pub mod Read
 pub mod Sent
+pub mod LoginRead
 pub mod Said
 pub mod Heard
 pub mod Places

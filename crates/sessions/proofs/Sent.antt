@@ -1,22 +1,17 @@
 -- What a login sends, line by line and piece by piece.
 use Rattle.std.proofs.Common.{◌≡◌, ◌∙◌, refl, sym, ap, ap₂, subst, ℕ, false}
 use Rattle.std.proofs.Common.{List, [], ◌∷◌, ◌++◌, ◌||◌}
-use Rattle.std.proofs.Common.{append_assoc, append-nil, Option, Err}
-use Rattle.std.specs.Prelude.{◌↔◌, IsErrOf, IsTrue}
+use Rattle.std.proofs.Common.{append_assoc, append-nil, Option}
 use Rattle.std.specs.Io.KnownBytes.{Appends}
 use Rattle.irc_line.specs.Line.{Parts}
-use Rattle.irc_line.specs.Lines.{Pending, fed, is_too_long}
-use Rattle.irc_line.specs.Lines.{start}
-use Rattle.irc_line.specs.declared.splitter.FeedError.{FeedError}
-use Rattle.irc_line.specs.declared.splitter.FeedError.TheVariants as feed
+use Rattle.irc_line.specs.Lines.{is_too_long}
 use Rattle.irc_line.specs.Writing.{bytes_of}
 use Rattle.sessions.specs.Answers.{Answer, answer_to, has_ended, is_end}
-use Rattle.sessions.specs.Logins.{IsCauseOf, IsSendCause, lines_in, piece_fault, sent_for}
+use Rattle.sessions.specs.Logins.{IsCauseOf, IsSendCause, lines_in, sent_for}
 use Rattle.sessions.specs.declared.fault.LoginFault.{LoginFault}
 use Rattle.sessions.specs.declared.fault.LoginFault.TheVariants.{Memory, NoRoom, Read, TooLong}
 use Rattle.sessions.specs.declared.fault.LoginFault.TheVariants.{Write}
 use Rattle.sessions.proofs.Ends.{ended_step}
-use Rattle.irc_line.proofs.PiecesTaken.{long_more}
 use Rattle.irc_line.proofs.Sent.{appends_more, bytes_more}
 
 -- ---- one line more
@@ -71,14 +66,6 @@ sent_for_more a b lines u v w is first next =
     ∙ ap bytes_of (sent_append [] a b)
     ∙ bytes_more (sent_for [] a) (sent_for a b) in
     subst (λ t. Appends u w t) (sym e) (appends_more u v w _ _ first next)
-
--- why a piece was not taken
-pub piece_cause : (s : Pending) (a b : List ℕ) (e : FeedError) → s ≡ fed start a
-    → is_too_long a ≡ false
-    → (IsErrOf {T = Unit {0}} (Err e) feed.TooLong ↔ IsTrue (is_too_long (s.rest ++ b)))
-    → IsCauseOf (a ++ b) (piece_fault e)
-piece_cause s a b feed.TooLong at short h = rw (long_more s a b at short) (h.0 refl)
-piece_cause s a b feed.OutOfMemory at short h = tt
 
 -- why its lines were not answered
 pub lines_cause : (bytes : List ℕ) (f : LoginFault) → is_too_long bytes ≡ false → IsSendCause f

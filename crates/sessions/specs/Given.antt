@@ -8,6 +8,7 @@ use Rattle.irc_support.specs.Text.{Text}
 use Rattle.irc_support.specs.NamesReply.{words_between}
 use Rattle.net_view.specs.LookBack.{last_in}
 use Rattle.client_caps.specs.Caps.{no_caps}
+use Rattle.client_caps.specs.declared.caps.Cap.{Cap}
 use Rattle.client_caps.specs.declared.caps.Caps.{Caps}
 use Rattle.client_caps.specs.Request.{caps_after, wish_of}
 use Rattle.client_caps.specs.Answers.{asked, asked_text}
@@ -45,13 +46,13 @@ abbrev pub is_open : List Parts → Bool
 is_open lines = unwrap_or (last_in (λ line. opens (asked line)) lines) false
 
 -- what a text wishes, where it can be taken whole; else nothing
-abbrev pub wishes_in : Text → List (ℕ × Bool)
+abbrev pub wishes_in : Text → List (Cap × Bool)
 wishes_in text =
     if list_all (λ word. is_some (wish_of word)) (words_between text) then filter_map wish_of
     (words_between text) else []
 
 -- what a line wishes, if it is a CAP REQ
-abbrev pub wishes_by : Parts → Asked → List (ℕ × Bool)
+abbrev pub wishes_by : Parts → Asked → List (Cap × Bool)
 wishes_by line Change = wishes_in (asked_text line)
 wishes_by line _ = []
 

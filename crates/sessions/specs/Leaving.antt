@@ -4,12 +4,9 @@ use Rattle.std.specs.Prelude.{IfOk, IsTrue, Result, Ok}
 use Rattle.std.specs.List.{concat, list_any}
 use Rattle.std.specs.Io.KnownBytes.{Consumes, IsAtEnd}
 use Rattle.irc_line.specs.Line.{Parts}
-use Rattle.irc_line.specs.Lines.{Pending, fed, fed_all, is_too_long, lines_all, lines_of}
-use Rattle.hub_core.specs.Attaching.{Attaches}
-use Rattle.hub_core.specs.LostChannels.{lost_channels}
-use Rattle.hub_core.specs.Online.{is_online}
-use Rattle.hub_core.specs.Running.{IsRunning}
-use Rattle.hub_core.specs.States.{HubState, OutletState, heard, view_now}
+use Rattle.irc_line.specs.Lines.{Pending, fed_all, is_too_long, lines_all}
+use Rattle.irc_line.specs.declared.input.InputEnd.{InputEnd}
+use Rattle.irc_line.specs.declared.input.InputEnd.TheVariants as input
 use Rattle.hub_core.specs.declared.hub.HubError.{HubError}
 use Rattle.hub_core.specs.declared.said.Said.{Said}
 use Rattle.hub_core.specs.declared.said.Said.TheVariants as said
@@ -18,7 +15,6 @@ use Rattle.hub_threads.specs.Writes.{IsWhole, IsWritten}
 use Rattle.hub_threads.specs.declared.queued.Queued.{Queued}
 use Rattle.hub_threads.specs.declared.writing.WriteFault.{WriteFault}
 use Rattle.sessions.specs.Answers.{is_quit}
-use Rattle.sessions.specs.Claims.{ClaimParts}
 use Rattle.sessions.specs.declared.attending.Leave.{Leave}
 use Rattle.sessions.specs.declared.attending.Leave.TheVariants as leave
 
@@ -49,15 +45,13 @@ WereSaid lines (Some leave.Quit) = has_quit lines ≡ true
 WereSaid lines (Some leave.Cut) = Unit {0}
 WereSaid lines (Some _) = ⊥
 
--- what came of a piece that was read, and of the splitter
-abbrev pub WasTaken : Pending → List ℕ → Option Leave → Pending → Type 0
-WasTaken old piece None new =
-    (new ≡ fed old piece) × (has_quit (lines_of (old.rest ++ piece)) ≡ false)
-WasTaken old piece (Some leave.Quit) new = has_quit (lines_of (old.rest ++ piece)) ≡ true
-WasTaken old piece (Some leave.Cut) new = Unit {0}
-WasTaken old piece (Some leave.TooLong) new = IsTrue (is_too_long (old.rest ++ piece))
-WasTaken old piece (Some leave.OutOfMemory) new = Unit {0}
-WasTaken old piece (Some _) new = ⊥
+-- why a session ended, by why its input was read no further
+abbrev pub leave_at : InputEnd Leave → Leave
+leave_at (input.Answered why) = why
+leave_at input.EndOfInput = leave.EndOfInput
+leave_at input.TooLong = leave.TooLong
+leave_at input.OutOfMemory = leave.OutOfMemory
+leave_at _ = leave.ReadFault
 
 -- Why a session ended: what the splitter held then, the lines so far, the piece that was refused,
 -- if any, and what is left to read. It ends at the first QUIT, if not before.
@@ -83,16 +77,6 @@ pub record WasHeard (splitter : Pending) (unread : List Parts) (began left : Opt
       left why
 
 -- ---- what is written
-
--- A client was attached by its claim, under this number: at a hub that ran, with its capabilities
--- and its name, to an outlet that was sent nothing before.
-pub record WasAttached (claim : ClaimParts) (id : ℕ) : Type 0 where
-  pub old : HubState
-  pub new : HubState
-  pub outlet : OutletState
-  pub runs : IsRunning old (view_now old) (is_online (heard old)) (lost_channels (heard old))
-  pub unsent : outlet.sent ≡ []
-  pub attached : Attaches false old claim.caps claim.client outlet id new
 
 -- A session of this number ended: what its writer wrote, from what it had got before the session,
 -- is of the packets that it took, which are all that its end ever took; and where the token is

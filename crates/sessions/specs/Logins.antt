@@ -1,11 +1,11 @@
 -- What a login over two streams sends, how it ends, and why it fails.
 use Rattle.std.specs.Prelude.{◌≡◌, ◌<◌, ◌+◌, ℕ, false, drop, length, take, List, []}
-use Rattle.std.specs.Prelude.{◌∷◌, ◌++◌, IsTrue, Option}
+use Rattle.std.specs.Prelude.{◌∷◌, ◌++◌, IsTrue, Option, Result, Ok, Err}
 use Rattle.std.specs.Io.KnownBytes.{Appends, Consumes}
 use Rattle.irc_line.specs.Line.{Parts}
 use Rattle.irc_line.specs.Lines.{Pending, fed, is_too_long, lines_of, start}
-use Rattle.irc_line.specs.declared.splitter.FeedError.{FeedError}
-use Rattle.irc_line.specs.declared.splitter.FeedError.TheVariants as feed
+use Rattle.irc_line.specs.declared.input.InputEnd.{InputEnd}
+use Rattle.irc_line.specs.declared.input.InputEnd.TheVariants as input
 use Rattle.irc_line.specs.Writing.{bytes_of}
 use Rattle.sessions.specs.Answers.{Answer, answer_to, claims, closes, has_ended, sends}
 use Rattle.sessions.specs.Claims.{parts_of}
@@ -13,6 +13,7 @@ use Rattle.sessions.specs.Progress.{Progress}
 use Rattle.sessions.specs.Taken.{HasTaken}
 use Rattle.sessions.specs.declared.arrival.Ending.{Ending}
 use Rattle.sessions.specs.declared.arrival.Ending.TheVariants.{Claims, Closes}
+use Rattle.sessions.specs.declared.arrival.LastLine.{LastLine}
 use Rattle.sessions.specs.declared.fault.LoginFault.{LoginFault}
 use Rattle.sessions.specs.declared.fault.LoginFault.TheVariants.{Memory, NoRoom, Read, TooLong}
 use Rattle.sessions.specs.declared.fault.LoginFault.TheVariants.{Write}
@@ -75,16 +76,27 @@ IsCauseOf bytes Write = is_too_long bytes ≡ false
 IsCauseOf bytes TooLong = IsTrue (is_too_long bytes)
 IsCauseOf bytes Read = (is_too_long bytes ≡ false) × (has_ended (lines_of bytes) ≡ false)
 
--- the fault of a piece that was not taken
-abbrev pub piece_fault : FeedError → LoginFault
-piece_fault feed.TooLong = TooLong
-piece_fault feed.OutOfMemory = NoRoom
+-- what a login came to, by why its input was read no further
+abbrev pub outcome_of : InputEnd (Result LastLine LoginFault) → Result LastLine LoginFault
+outcome_of (input.Answered answer) = answer
+outcome_of input.TooLong = Err TooLong
+outcome_of input.OutOfMemory = Err NoRoom
+outcome_of _ = Err Read
 
--- where a login stands that has read these bytes and goes on
-abbrev pub IsReading : List ℕ → Progress → Pending → Type 0
-IsReading bytes login splitter = record {
-  taken : HasTaken (lines_of bytes) login;
-  going : has_ended (lines_of bytes) ≡ false;
-  split : splitter ≡ fed start bytes;
-  short : is_too_long bytes ≡ false;
-}
+-- ---- line by line
+
+-- where a login stands that has taken these lines, answered each, and goes on
+pub record GoesOn (was now : Option (List ℕ)) (login : Progress) (lines : List Parts) : Type 0 where
+  pub taken : HasTaken lines login
+  pub going : has_ended lines ≡ false
+  pub sent : Appends was now (bytes_of (sent_for [] lines))
+
+-- one of these lines ended a login in this way, each up to it was answered, and the others are left;
+-- or no more could be sent
+abbrev pub EndsLogin : Option (List ℕ) → Option (List ℕ) → List Parts → Result LastLine LoginFault
+    → Type 0
+EndsLogin was now lines (Ok end) =
+    (before : List Parts) × (last : Parts) × (lines ≡ before ++ last ∷ end.behind.items)
+    × IsEndOf (answer_to before last) end.ending
+    × Appends was now (bytes_of (sent_for [] (before ++ last ∷ [])))
+EndsLogin was now lines (Err fault) = IsSendCause fault

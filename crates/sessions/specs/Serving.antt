@@ -1,5 +1,7 @@
 -- How a client was served.
-use Rattle.std.specs.Prelude.{ℕ, List, Option}
+use Rattle.std.specs.Prelude.{◌≢◌, ◌⊎◌, ℕ, List, Option}
+use Rattle.std.specs.Io.KnownBytes.{Consumes}
+use Rattle.std.specs.declared.io.traits.Write.{Ghosts}
 use Rattle.irc_line.specs.Line.{Parts}
 use Rattle.irc_line.specs.Lines.{Pending}
 use Rattle.bnc_config.specs.Settings.{Settings}
@@ -7,12 +9,15 @@ use Rattle.bnc_config.specs.declared.place.Place.{Place}
 use Rattle.hub_threads.specs.declared.ending.Ended.{Ended}
 use Rattle.hub_threads.specs.Rings.{items_of}
 use Rattle.sessions.specs.Admission.{IsLetIn}
-use Rattle.sessions.specs.Claims.{parts_of}
-use Rattle.sessions.specs.Leaving.{HasEnded, WasAttached, WasHeard}
-use Rattle.sessions.specs.Logins.{LogsIn}
-use Rattle.sessions.specs.declared.arrival.Ending.TheVariants.{Claims}
+use Rattle.sessions.specs.Claims.{ClaimParts, parts_of}
+use Rattle.sessions.specs.Leaving.{HasEnded, WasHeard}
+use Rattle.sessions.specs.Logins.{IsCauseOf, LogsIn}
+use Rattle.sessions.specs.declared.arrival.Ending.{Ending}
+use Rattle.sessions.specs.declared.arrival.Ending.TheVariants.{Claims, Closes}
 use Rattle.sessions.specs.declared.attending.Leave.{Leave}
 use Rattle.sessions.specs.declared.claim.Claim.{Claim}
+use Rattle.sessions.specs.declared.fault.LoginFault.{LoginFault}
+use Rattle.sessions.specs.declared.fault.LoginFault.TheVariants.{Memory}
 use Rattle.sessions.specs.declared.serving.Served.{Served}
 use Rattle.sessions.specs.declared.serving.Served.TheVariants as served
 
@@ -28,21 +33,47 @@ pub record CameIn (settings : Settings) (places : List Place) (began was : Optio
   pub login : LogsIn began left was now (Claims claim) lines splitter
   pub let_in : IsLetIn settings places (parts_of claim)
 
-module _ {W : Type 0} (contents : W → Option (List ℕ)) (settings : Settings) (places : List Place)
-    (began left was : Option (List ℕ)) where
+-- A login failed for this cause, of which these bytes were read.
+pub record Failed (began left : Option (List ℕ)) : Type 0 where
+  pub bytes : List ℕ
+  pub fault : LoginFault
+  pub read : Consumes began left bytes
+  pub cause : IsCauseOf bytes fault
+  pub not_memory : fault ≢ Memory
+
+-- why a login that ended so gives no session: it was closed; or its client is turned away by the
+-- caller, or is not let in
+abbrev pub IsNoWayIn : (ClaimParts → Type 0) → Settings → List Place → Ending → Type 0
+IsNoWayIn turns_away settings places Closes = Unit {0}
+IsNoWayIn turns_away settings places (Claims claim) =
+    turns_away (parts_of claim) ⊎ (IsLetIn settings places (parts_of claim) → ⊥)
+
+-- A login ended, and gives no session. All that was read is its own.
+pub record GotNoWayIn (turns_away : ClaimParts → Type 0) (settings : Settings) (places : List Place)
+    (began left was : Option (List ℕ)) : Type 0 where
+  pub ending : Ending
+  pub now : Option (List ℕ)
+  pub lines : List Parts
+  pub splitter : Pending
+  pub login : LogsIn began left was now ending lines splitter
+  pub why : IsNoWayIn turns_away settings places ending
+
+module _ {W : Type 0} {g : Ghosts W} (contents : W → Option (List ℕ)) (turns_away : ClaimParts → Type 0)
+    (settings : Settings) (places : List Place) (began left was : Option (List ℕ)) where
   -- A client came in, and had a session: what it said after its login was heard until it left, and
   -- its writer wrote behind what its login was sent.
-  pub record HadSession (e : Ended W) : Type 0 where
+  pub record HadSession (e : Ended W g) : Type 0 where
     pub came : CameIn settings places began was
     pub why : Leave
     pub heard : WasHeard came.splitter came.lines came.left left why
     pub id : ℕ
-    pub attached : WasAttached (parts_of came.claim) id
     pub ended : HasEnded id e.token e.fresh (items_of e.end) came.now (contents e.out) e.written
 
-  -- nobody has a session, or is refused one, but who came in
-  abbrev pub IsServed : Served W → Type 0
-  IsServed served.NoLogin = Unit {0}
+  -- Nobody has a session, or is refused one, but who came in; and who logged in and is let in has
+  -- one or is refused one, if the caller does not turn the client away.
+  abbrev pub IsServed : Served W g → Type 0
+  IsServed served.NoLogin =
+      Failed began left ⊎ GotNoWayIn turns_away settings places began left was
   IsServed (served.Refused e) = CameIn settings places began was
   IsServed served.Cut = CameIn settings places began was
   IsServed (served.Ended e) = HadSession e

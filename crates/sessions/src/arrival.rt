@@ -1,30 +1,25 @@
 //! The login over a reader and a writer.
 
-ghost use Rattle.std.specs.Prelude.{◌≡◌, ◌++◌, ◌∷◌, [], ◌+◌, ◌<◌, ◌≤◌, ℕ, List, false, take};
+ghost use Rattle.std.specs.Prelude.{◌≡◌, ◌++◌, ◌∷◌, [], ◌+◌, ◌<◌, ℕ, List, false, take};
 ghost use Rattle.std.specs.Prelude.{IfErr, IfNone, IfOk, IfSome, OnOk, drop, length};
 ghost use Rattle.std.specs.Io.KnownBytes.{Appends, Consumes};
 ghost use Rattle.irc_line.specs.Line.{Parts};
-ghost use Rattle.irc_line.specs.Lines.{fed, lines_of, start};
 ghost use Rattle.irc_line.specs.Writing.{bytes_of};
 ghost use Rattle.sessions.specs.Answers.{answer_to, has_ended, is_end};
-ghost use Rattle.sessions.specs.Logins.{IsCauseOf, IsEndAt, IsEndOf, IsReading, IsSendCause};
-ghost use Rattle.sessions.specs.Logins.{LogsIn, lines_in, sent_for};
+ghost use Rattle.sessions.specs.Logins.{IsCauseOf, IsEndAt, IsEndOf, IsSendCause};
+ghost use Rattle.sessions.specs.Logins.{LogsIn, lines_in, outcome_of, sent_for};
 ghost use Rattle.sessions.specs.Taken.{HasTaken};
 
 use crate::claim::Claim;
 use crate::fault::LoginFault;
 use crate::login::{Login, LoginStep};
 use crate::sending::send;
-use irc_line::{Line, Splitter};
+use irc_line::{InputEnd, Line, LineTaker, Splitter, read_from_start};
 use std::alloc::Global;
-use std::io::{ErrorKind, Read, Write};
+use std::io::{Read, Write};
 
 /// How many bytes one read asks for.
 const PIECE: usize = 4_096;
-
-/// How many reads there are at most. An input that has not ended the login then counts as one that
-/// can't be read.
-const READ_LIMIT: u64 = 1_000_000_000;
 
 /// How a login ended.
 #[derive(Drop)]
@@ -115,40 +110,6 @@ fn take_lines<W: Write>(
     Ok(None)
 }
 
-/// Takes a piece of what was read: the lines that it completes are added to the list, which is
-/// empty before. Answers the place of the login's last line among them, from 0, and how it ended
-/// the login.
-fn take_piece<W: Write>(
-    alloc: Global,
-    login: &mut Login,
-    splitter: &mut Splitter,
-    lines: &mut Vec<Line>,
-    piece: &[u8],
-    writer: &mut W,
-) -> Result<Option<(usize, Ending)>, LoginFault>
-    requires { lines.old.items ≡ [] }
-    ensures none { (bytes : List ℕ) → IsReading bytes login.old splitter.old →
-        IfOk result (λ end. IfNone end
-        (IsReading (bytes ++ piece.now) login.new splitter.new)) }
-    ensures some { (bytes : List ℕ) → IsReading bytes login.old splitter.old →
-        IfOk result (λ end. IfSome end (λ e.
-        (splitter.new ≡ fed start (bytes ++ piece.now))
-        × IsEndAt (lines_of bytes) lines.new.items e.0 e.1
-        × Appends (W.contents writer.old) (W.contents writer.new)
-        (bytes_of (sent_for (lines_of bytes) (take (e.0 + 1) lines.new.items))))) }
-    ensures sent { (bytes : List ℕ) → IsReading bytes login.old splitter.old →
-        IfOk result (λ end. IfNone end (Appends (W.contents writer.old) (W.contents writer.new)
-        (bytes_of (sent_for (lines_of bytes) lines.new.items)))) }
-    ensures lines { (bytes : List ℕ) → IsReading bytes login.old splitter.old →
-        OnOk result (lines_of (bytes ++ piece.now) ≡ lines_of bytes ++ lines.new.items) }
-    ensures err { (bytes : List ℕ) → IsReading bytes login.old splitter.old →
-        IfErr result (IsCauseOf (bytes ++ piece.now)) }
-    ensures within { IfOk result (λ end. IfSome end (λ e. e.0 < length lines.new.items)) }
-{
-    splitter.feed(piece, lines)?;
-    take_lines(alloc, login, lines.as_slice(), writer)
-}
-
 /// Leaves the lines behind a place.
 fn leave_behind(lines: &mut Vec<Line>, place: usize)
     requires { place < length lines.old.items }
@@ -159,11 +120,68 @@ fn leave_behind(lines: &mut Vec<Line>, place: usize)
     lines.truncate(lines.len() - count);
 }
 
+/// What the last line of a login came to.
+#[derive(Drop)]
+struct LastLine {
+    /// How it ended the login.
+    ending: Ending,
+    /// The lines behind it, in order.
+    behind: Vec<Line>,
+}
+
+/// A login that takes the lines of its client, and sends what they are answered.
+#[derive(Drop)]
+struct LoggingIn<'a, W> {
+    alloc: Global,
+    login: &'a mut Login,
+    writer: &'a mut W,
+}
+
+impl<W: Write> LineTaker<Result<LastLine, LoginFault>> for LoggingIn<'_, W> {
+    ghost use Rattle.std.specs.Prelude.{◌≡◌};
+    ghost use Rattle.sessions.specs.Logins.{EndsLogin, GoesOn};
+
+    ghost is_after = { λ began lines now. (now.writer.ghost_name ≡ began.writer.ghost_name)
+        × GoesOn (W.contents began.writer.now) (W.contents now.writer.now) now.login.now lines };
+
+    ghost ends = { λ began lines answer now. (now.writer.ghost_name ≡ began.writer.ghost_name)
+        × EndsLogin (W.contents began.writer.now) (W.contents now.writer.now) lines answer };
+
+    fn take_lines(&mut self, lines: Vec<Line>) -> Option<Result<LastLine, LoginFault>> {
+        let mut lines = lines;
+        match take_lines(self.alloc, self.login, lines.as_slice(), self.writer) {
+            Ok(None) => None,
+            Ok(Some((place, ending))) => {
+                leave_behind(&mut lines, place);
+                Some(Ok(LastLine {
+                    ending,
+                    behind: lines,
+                }))
+            }
+            Err(fault) => Some(Err(fault)),
+        }
+    }
+}
+
+/// What a login came to, by why its input is read no further.
+fn outcome(end: InputEnd<Result<LastLine, LoginFault>>) -> Result<LastLine, LoginFault>
+    ensures { result ≡ outcome_of end }
+{
+    match end {
+        InputEnd::Answered(answer) => answer,
+        InputEnd::EndOfInput | InputEnd::ReadFault(_) | InputEnd::ReadsSpent => {
+            Err(LoginFault::Read)
+        }
+        InputEnd::TooLong => Err(LoginFault::TooLong),
+        InputEnd::OutOfMemory => Err(LoginFault::NoRoom),
+    }
+}
+
 /// Lets a client log in: reads lines, and sends for each what it is answered, in one write, until
 /// the login has ended. Who is let in is for the caller to say ([`let_in`](crate::let_in)).
 ///
-/// It reads at most 1,000,000,000 times. A read that is interrupted is tried again. How long a
-/// client may take is the reader's own affair: one that answers an error ends the login.
+/// It reads at most `irc_line::READ_LIMIT` times. A read that is interrupted is tried again. How
+/// long a client may take is the reader's own affair: one that answers an error ends the login.
 pub fn log_in<R: Read, W: Write>(
     alloc: Global,
     reader: &mut R,
@@ -176,29 +194,18 @@ pub fn log_in<R: Read, W: Write>(
         × Consumes (R.remaining reader.old) (R.remaining reader.new) bytes
         × IsCauseOf bytes fault) }
 {
-    let mut login = Login::new(alloc);
-    let mut splitter = Splitter::new(alloc);
-    let mut lines = Vec::new(alloc);
     let mut buffer = vec![in alloc; 0; PIECE]?;
-    for _ in 0..READ_LIMIT {
-        match reader.read(&mut buffer) {
-            Ok(0) => return Err(LoginFault::Read),
-            Ok(count) => {
-                let piece = &buffer[..count];
-                let end = take_piece(alloc, &mut login, &mut splitter, &mut lines, piece, writer)?;
-                if let Some((place, ending)) = end {
-                    leave_behind(&mut lines, place);
-                    let unread = Unread { splitter, lines };
-                    return Ok(LoggedIn { ending, unread });
-                }
-                lines.clear();
-            }
-            Err(error) => {
-                if error.kind() != ErrorKind::Interrupted {
-                    return Err(LoginFault::Read);
-                }
-            }
-        }
-    }
-    Err(LoginFault::Read)
+    let mut login = Login::new(alloc);
+    let mut logging_in = LoggingIn {
+        alloc,
+        login: &mut login,
+        writer,
+    };
+    let (end, splitter) = read_from_start(alloc, &mut logging_in, reader, &mut buffer);
+    let LastLine {
+        ending,
+        behind: lines,
+    } = outcome(end)?;
+    let unread = Unread { splitter, lines };
+    Ok(LoggedIn { ending, unread })
 }

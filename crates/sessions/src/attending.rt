@@ -2,7 +2,6 @@
 
 ghost use Rattle.std.specs.Prelude.{◌≡◌, [], None, IfErr, IfOk, Result, option_map};
 ghost use Rattle.hub_core.specs.Attaching.{Attaches, Refuses};
-ghost use Rattle.hub_core.specs.Insides.{outlet_of};
 ghost use Rattle.hub_core.specs.Saying.{Says};
 ghost use Rattle.hub_core.specs.declared.hub.HubError as error;
 ghost use Rattle.hub_core.specs.declared.said.Said as said;
@@ -40,19 +39,14 @@ pub fn attach_claim<V: NetworkView + Drop, I: Inlet, O: Outlet>(
     claim: &Claim,
     outlet: O,
 ) -> Result<SessionId, (AttachError, O)>
-    requires { (O.sent outlet ≡ []) × (O.closed outlet ≡ None) }
+    requires { ((O.state outlet).sent ≡ []) × ((O.state outlet).closed ≡ None) }
     ensures ok { IfOk result (λ id. Attaches O.alone hub.old (parts_of claim.now).caps
-        (parts_of claim.now).client
-        (outlet_of O.sent O.closed O.capacity O.free outlet) id hub.new) }
+        (parts_of claim.now).client (O.state outlet) id hub.new) }
     ensures refused { IfErr result (λ e. Refuses hub.old (parts_of claim.now).client
-        (outlet_of O.sent O.closed O.capacity O.free outlet) e.0) }
+        (O.state outlet) e.0) }
     ensures kept { IfErr result (λ e. hub.new ≡ hub.old) }
 {
-    let name = match &claim.client {
-        Some(name) => Some(name.as_slice()),
-        None => None,
-    };
-    hub.attach(claim.caps, name, outlet)
+    hub.attach(claim.caps, claim.client.as_deref(), outlet)
 }
 
 /// Why a session ends by what was done of its line, where it does. What could not be done for want

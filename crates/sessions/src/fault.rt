@@ -1,7 +1,6 @@
 //! Why a login over streams fails.
 
 use crate::OutOfMemory;
-use irc_line::FeedError;
 use thiserror::Error;
 
 /// Why a login over streams failed.
@@ -32,19 +31,5 @@ impl From<OutOfMemory> for LoginFault {
 
     fn from(_refused: OutOfMemory) -> LoginFault {
         LoginFault::Memory
-    }
-}
-
-impl From<FeedError> for LoginFault {
-    ghost use Rattle.std.specs.Prelude.{◌≡◌};
-    ghost use Rattle.sessions.specs.Logins.{piece_fault};
-
-    ghost from_gives = { λ error made. made ≡ piece_fault error };
-
-    fn from(error: FeedError) -> LoginFault {
-        match error {
-            FeedError::TooLong => LoginFault::TooLong,
-            FeedError::OutOfMemory => LoginFault::NoRoom,
-        }
     }
 }

@@ -28,13 +28,7 @@ pub(crate) fn latest<'a>(
     ensures { option_map (λ text. text.now) result
         ≡ option_or (given command.now line.now) (option_map (λ text. text.items) before.now) }
 {
-    match given(line, command) {
-        Some(text) => Some(text),
-        None => match before {
-            Some(text) => Some(text.as_slice()),
-            None => None,
-        },
-    }
+    given(line, command).or(before.as_deref())
 }
 
 /// A copy of a text, where there is one.

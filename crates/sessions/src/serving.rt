@@ -3,7 +3,7 @@
 ghost use Rattle.std.specs.Prelude.{ℕ, ◌≡◌, [], IfOk, None, map};
 ghost use Rattle.hub_threads.specs.Rings.{closed_of, items_of, sent_of};
 ghost use Rattle.sessions.specs.Claims.{parts_of};
-ghost use Rattle.sessions.specs.Leaving.{HasEnded, WasAttached, WasHeard};
+ghost use Rattle.sessions.specs.Leaving.{HasEnded, WasHeard};
 ghost use Rattle.sessions.specs.Serving.{IsServed};
 
 use crate::OutOfMemory;
@@ -13,13 +13,14 @@ use crate::attending::{Leave, attach_claim};
 use crate::claim::Claim;
 use crate::fault::LoginFault;
 use crate::sending::{deny, refuse};
-use crate::talk::talk;
+use crate::talk::{Talking, talk};
 use crate::watcher::{Refusal, Watcher};
 use bnc_config::{Config, Place};
 use hub_core::{AttachError, NoSession};
 use hub_ends::SessionId;
 use hub_threads::{
-    Clock, Ended, Gate, Network, RingOutlet, Writer, Written, end_session, outlet, spawn_writer,
+    Clock, Ended, Gate, Network, RingOutlet, Turns, Worker, Writer, Written, end_session,
+    spawn_writer,
 };
 use net_view::NetworkView;
 use std::alloc::Global;
@@ -76,20 +77,20 @@ fn start_writer<
     V: NetworkView + Drop,
     W: Write + Send + Drop + 'static,
     G: Gate + Clone + Send + Drop + 'static,
+    C,
     R: Threads + Wait + Send + Copy + 'static,
 >(
-    rt: R,
-    alloc: Global,
+    worker: &Worker<'_, R, G, C>,
     writer: W,
     network: &Network<V>,
-    gate: &G,
 ) -> Result<(RingOutlet, Writer<W>), OutOfMemory>
     ensures outlet { IfOk result (λ x. (sent_of x.0 ≡ []) × (closed_of x.0 ≡ None)) }
     ensures writer { IfOk result (λ x. (items_of x.1.promise.0.value ≡ []) ×
         (x.1.promise.1.value ≡ writer)) }
 {
-    let (outlet, end) = outlet(alloc, PACKETS, network.pump_bell()?)?;
-    let handle = spawn_writer(rt, end, writer, gate.clone()?, u64::MAX)?;
+    let (outlet, end) = network.outlet(worker.alloc, PACKETS)?;
+    let gate = worker.gate.clone()?;
+    let handle = spawn_writer(worker.rt, end, writer, gate, Turns::Endless)?;
     Ok((outlet, handle))
 }
 
@@ -102,7 +103,6 @@ fn join_in<V: NetworkView + Drop, R: Wait>(
     outlet: RingOutlet,
 ) -> Result<SessionId, AttachError>
     requires { (sent_of outlet ≡ []) × (closed_of outlet ≡ None) }
-    ensures { IfOk result (λ id. WasAttached (parts_of claim.now) id) }
 {
     let mut hub = network.lock(rt);
     let attached = attach_claim(&mut hub, claim, outlet);
@@ -143,38 +143,46 @@ pub fn serve<
     X: Watcher<V, N, I>,
     R: Threads + Wait + Send + Copy + 'static,
 >(
-    rt: R,
-    alloc: Global,
+    worker: &Worker<'_, R, G, C>,
     reader: &mut I,
     writer: W,
     claim: &Claim,
     unread: Unread,
     network: &Network<V>,
-    gate: &G,
-    clock: &C,
     watcher: &mut X,
 ) -> Result<(Leave, Ended<W>), ServeFault>
     ensures heard { IfOk result (λ x. WasHeard unread.splitter unread.lines.items
         (I.remaining reader.old) (I.remaining reader.new) x.0) }
-    ensures ended { IfOk result (λ x. (id : ℕ) × WasAttached (parts_of claim.now) id
-        × HasEnded id x.1.token x.1.fresh (items_of x.1.end)
+    ensures ended { IfOk result (λ x. (id : ℕ) × HasEnded id x.1.token x.1.fresh (items_of x.1.end)
         (W.contents writer) (W.contents x.1.out) x.1.written) }
 {
-    let (outlet, handle) = start_writer(rt, alloc, writer, network, gate)?;
-    let id = match join_in(&rt, claim, network, outlet) {
+    let rt = &worker.rt;
+    let (outlet, handle) = match start_writer(worker, writer, network) {
+        Ok(started) => started,
+        Err(refused) => {
+            watcher.refused(Refusal::NotAttached(AttachError::OutOfMemory));
+            return Err(ServeFault::from(refused));
+        }
+    };
+    let id = match join_in(rt, claim, network, outlet) {
         Ok(id) => id,
         Err(error) => {
             watcher.refused(Refusal::NotAttached(error));
-            turn_away(&rt, handle, error);
+            turn_away(rt, handle, error);
             return Err(ServeFault::Refused(error));
         }
     };
     watcher.attached(id);
-    let leave = talk(
-        &rt, alloc, reader, unread, network, id, gate, clock, watcher,
-    );
+    let Worker {
+        alloc,
+        gate,
+        clock,
+        ..
+    } = worker;
+    let mut talking = Talking::new(rt, network, id, *gate, *clock, watcher);
+    let leave = talk(*alloc, &mut talking, reader, unread);
     watcher.ended(leave);
-    match end_session(&rt, network, id, handle) {
+    match end_session(rt, network, id, handle) {
         Ok(ended) => Ok((leave, ended)),
         Err(NoSession) => Err(ServeFault::Cut),
     }
@@ -195,21 +203,19 @@ pub fn serve_session<
     X: Watcher<V, N, I>,
     R: Threads + Wait + Send + Copy + 'static,
 >(
-    rt: R,
-    alloc: Global,
+    worker: &Worker<'_, R, G, C>,
     reader: &mut I,
     writer: W,
     config: &Config,
     networks: &[(Place, N)],
-    gate: &G,
-    clock: &C,
     watcher: &mut X,
 ) -> Result<Served<W>, OutOfMemory>
-    ensures { IfOk result (IsServed W.contents config.now (map (λ one. one.0) networks.now)
-        (I.remaining reader.old) (I.remaining reader.new) (W.contents writer)) }
+    ensures { IfOk result (IsServed W.contents (λ claim. (x : X) × X.turns_away x claim) config.now
+        (map (λ one. one.0) networks.now) (I.remaining reader.old) (I.remaining reader.new)
+        (W.contents writer)) }
 {
     let mut writer = writer;
-    let LoggedIn { ending, unread } = match log_in(alloc, reader, &mut writer) {
+    let LoggedIn { ending, unread } = match log_in(worker.alloc, reader, &mut writer) {
         Ok(login) => login,
         Err(fault) => {
             watcher.refused(Refusal::Login(fault));
@@ -238,9 +244,7 @@ pub fn serve_session<
             return Ok(Served::Refused(error));
         }
     };
-    match serve(
-        rt, alloc, reader, writer, &claim, unread, &network, gate, clock, watcher,
-    ) {
+    match serve(worker, reader, writer, &claim, unread, &network, watcher) {
         Ok((_, ended)) => Ok(Served::Ended(ended)),
         Err(ServeFault::Refused(error)) => Ok(Served::Refused(error)),
         Err(ServeFault::Cut) => Ok(Served::Cut),

@@ -1,24 +1,23 @@
 //! What a client says in its session.
 
-ghost use Rattle.sessions.specs.Leaving.{LeavesBy, WasHeard, WasTaken, WereSaid};
+ghost use Rattle.std.specs.Prelude.{◌≡◌};
+ghost use Rattle.sessions.specs.Leaving.{LeavesBy, WasHeard, WereSaid, leave_at};
 
 use crate::arrival::Unread;
 use crate::attending::{Leave, say};
 use crate::watcher::Watcher;
 use client_caps::{Caps, Moment};
 use hub_ends::SessionId;
-use hub_threads::{Clock, Gate, Network, Point};
-use irc_line::{FeedError, Line, Splitter};
+use hub_threads::{Clock, Gate, Network};
+use irc_line::{InputEnd, Line, LineTaker, ReadPoint, read_lines};
 use net_view::NetworkView;
 use std::alloc::Global;
-use std::io::{ErrorKind, Read};
+use std::io::Read;
+use std::marker::PhantomData;
 use std::sync::Wait;
 
 /// How many bytes one read asks for.
 const PIECE: usize = 4_096;
-
-/// How many reads there are at most.
-const READ_LIMIT: u64 = 1_000_000_000;
 
 /// Tells which capabilities a client holds now, if they are others than before.
 fn tell_change<V: NetworkView + Drop, N, I: Read, X: Watcher<V, N, I>>(
@@ -32,72 +31,117 @@ fn tell_change<V: NetworkView + Drop, N, I: Read, X: Watcher<V, N, I>>(
     }
 }
 
-/// Says a CAP line, and tells if it changed the client's capabilities; answers why the session
-/// ends, where it does.
-fn say_cap<V: NetworkView + Drop, N, I: Read, X: Watcher<V, N, I>, R: Wait>(
-    rt: &R,
-    network: &Network<V>,
+/// What says the lines of a client to the hub of its network.
+#[derive(Drop)]
+pub(crate) struct Talking<'a, V: NetworkView + Drop, N, I, G, C, X, R> {
+    rt: &'a R,
+    network: &'a Network<V>,
     id: SessionId,
-    line: &Line,
-    moment: Moment,
-    watcher: &mut X,
-) -> Option<Leave>
-    ensures { LeavesBy line.now result }
-{
-    let mut hub = network.lock(rt);
-    let before = hub.caps(id);
-    let leave = say(&mut hub, id, line, moment);
-    let after = hub.caps(id);
-    drop(hub);
-    tell_change(watcher, before, after);
-    leave
+    gate: &'a G,
+    clock: &'a C,
+    watcher: &'a mut X,
+    // the network and the reader that the watcher knows
+    watched: PhantomData<(N, I)>,
 }
 
-/// Says lines, in order, up to one that ends the session; answers why, where one does. The lock is
-/// taken anew for each.
-fn say_all<V: NetworkView + Drop, N, I: Read, C: Clock, X: Watcher<V, N, I>, R: Wait>(
-    rt: &R,
-    network: &Network<V>,
-    id: SessionId,
-    lines: &[Line],
-    clock: &C,
-    watcher: &mut X,
-) -> Option<Leave>
-    ensures { WereSaid lines.now result }
-{
-    for line in lines {
-        let moment = clock.now();
-        let leave = if line.is(b"CAP") {
-            say_cap(rt, network, id, line, moment, watcher)
-        } else {
-            say(&mut network.lock(rt), id, line, moment)
-        };
-        if let Some(why) = leave {
-            return Some(why);
+impl<
+    'a,
+    V: NetworkView + Drop,
+    N,
+    I: Read,
+    G: Gate,
+    C: Clock,
+    X: Watcher<V, N, I>,
+    R: Wait,
+> Talking<'a, V, N, I, G, C, X, R> {
+    pub(crate) fn new(
+        rt: &'a R,
+        network: &'a Network<V>,
+        id: SessionId,
+        gate: &'a G,
+        clock: &'a C,
+        watcher: &'a mut X,
+    ) -> Self {
+        Talking {
+            rt,
+            network,
+            id,
+            gate,
+            clock,
+            watcher,
+            watched: PhantomData,
         }
     }
-    None
+
+    /// Says a CAP line, and tells if it changed the client's capabilities; answers why the session
+    /// ends, where it does.
+    fn say_cap(&mut self, line: &Line, moment: Moment) -> Option<Leave>
+        ensures { LeavesBy line.now result }
+    {
+        let mut hub = self.network.lock(self.rt);
+        let before = hub.caps(self.id);
+        let leave = say(&mut hub, self.id, line, moment);
+        let after = hub.caps(self.id);
+        drop(hub);
+        tell_change(self.watcher, before, after);
+        leave
+    }
+
+    /// Says a line; answers why the session ends, where it does.
+    fn say_line(&mut self, line: &Line) -> Option<Leave>
+        ensures { LeavesBy line.now result }
+    {
+        let moment = self.clock.now();
+        if line.is(b"CAP") {
+            return self.say_cap(line, moment);
+        }
+        say(&mut self.network.lock(self.rt), self.id, line, moment)
+    }
+
+    /// Says lines, in order, up to one that ends the session; answers why, where one does. The lock
+    /// is taken anew for each.
+    fn say_all(&mut self, lines: &[Line]) -> Option<Leave>
+        ensures { WereSaid lines.now result }
+    {
+        for line in lines {
+            if let Some(why) = self.say_line(line) {
+                return Some(why);
+            }
+        }
+        None
+    }
 }
 
-/// Takes a piece of what was read: says the lines that it completes; answers why the session ends,
-/// where it does.
-fn take_piece<V: NetworkView + Drop, N, I: Read, C: Clock, X: Watcher<V, N, I>, R: Wait>(
-    rt: &R,
-    alloc: Global,
-    splitter: &mut Splitter,
-    piece: &[u8],
-    network: &Network<V>,
-    id: SessionId,
-    clock: &C,
-    watcher: &mut X,
-) -> Option<Leave>
-    ensures { WasTaken splitter.old piece.now result splitter.new }
+impl<V: NetworkView + Drop, N, I: Read, G: Gate, C: Clock, X: Watcher<V, N, I>, R: Wait> LineTaker<
+    Leave,
+> for Talking<'_, V, N, I, G, C, X, R> {
+    ghost use Rattle.std.specs.Prelude.{None, Some};
+    ghost use Rattle.sessions.specs.Leaving.{WereSaid};
+
+    ghost is_after = { λ began lines now. WereSaid lines None };
+
+    ghost ends = { λ began lines why now. WereSaid lines (Some why) };
+
+    #[tactic(auto, using(crate::proofs::Heard::said_on, crate::proofs::Heard::said_last))]
+    fn take_lines(&mut self, lines: Vec<Line>) -> Option<Leave> {
+        self.say_all(lines.as_slice())
+    }
+
+    fn pass(&self, point: ReadPoint) {
+        self.gate.pass(point.into());
+    }
+}
+
+/// Why a session ends, by why its input is read no further.
+fn leave_at(end: InputEnd<Leave>) -> Leave
+    ensures { result ≡ leave_at end }
 {
-    let mut lines = Vec::new(alloc);
-    match splitter.feed(piece, &mut lines) {
-        Ok(()) => say_all(rt, network, id, lines.as_slice(), clock, watcher),
-        Err(FeedError::TooLong) => Some(Leave::TooLong),
-        Err(FeedError::OutOfMemory) => Some(Leave::OutOfMemory),
+    match end {
+        InputEnd::Answered(why) => why,
+        InputEnd::EndOfInput => Leave::EndOfInput,
+        InputEnd::ReadFault(_) | InputEnd::ReadsSpent => Leave::ReadFault,
+        InputEnd::TooLong => Leave::TooLong,
+        InputEnd::OutOfMemory => Leave::OutOfMemory,
     }
 }
 
@@ -112,54 +156,21 @@ pub(crate) fn talk<
     X: Watcher<V, N, I>,
     R: Wait,
 >(
-    rt: &R,
     alloc: Global,
+    talking: &mut Talking<'_, V, N, I, G, C, X, R>,
     reader: &mut I,
     unread: Unread,
-    network: &Network<V>,
-    id: SessionId,
-    gate: &G,
-    clock: &C,
-    watcher: &mut X,
 ) -> Leave
     ensures { WasHeard unread.splitter unread.lines.items (I.remaining reader.old)
         (I.remaining reader.new) result }
 {
     let Unread { splitter, lines } = unread;
     let mut splitter = splitter;
-    if let Some(why) = say_all(rt, network, id, lines.as_slice(), clock, watcher) {
+    if let Some(why) = talking.say_all(lines.as_slice()) {
         return why;
     }
     let Ok(mut buffer) = vec![in alloc; 0; PIECE] else {
         return Leave::OutOfMemory;
     };
-    for _ in 0..READ_LIMIT {
-        gate.pass(Point::BeforeRead);
-        match reader.read(&mut buffer) {
-            Ok(0) => return Leave::EndOfInput,
-            Ok(count) => {
-                gate.pass(Point::AfterRead);
-                let piece = &buffer[..count];
-                let leave = take_piece(
-                    rt,
-                    alloc,
-                    &mut splitter,
-                    piece,
-                    network,
-                    id,
-                    clock,
-                    watcher,
-                );
-                if let Some(why) = leave {
-                    return why;
-                }
-            }
-            Err(error) => {
-                if error.kind() != ErrorKind::Interrupted {
-                    return Leave::ReadFault;
-                }
-            }
-        }
-    }
-    Leave::ReadFault
+    leave_at(read_lines(alloc, &mut splitter, talking, reader, &mut buffer))
 }

@@ -1,6 +1,7 @@
 //! Who watches how a client is served, and lends it its network.
 
-ghost use Rattle.std.specs.Prelude.{◌≡◌};
+ghost use Rattle.std.specs.Prelude.{◌≡◌, false};
+ghost use Rattle.sessions.specs.Claims.{ClaimParts, parts_of};
 
 use crate::attending::Leave;
 use crate::claim::Claim;
@@ -32,9 +33,13 @@ pub enum Refusal {
 /// What [`serve_session`](crate::serve_session) promises holds whatever a watcher answers: it can
 /// turn a client away, and can't let one in.
 pub trait Watcher<V: NetworkView + Drop, N, I: Read> {
+    // It may turn away a client that claims this.
+    ghost turns_away: { Self → ClaimParts → Type 0 };
+
     /// The login is complete; whether the password is right isn't known yet. If the answer is
     /// `false`, the client is not served and gets no answer.
-    fn logged_in(&mut self, claim: &Claim) -> bool;
+    fn logged_in(&mut self, claim: &Claim) -> bool
+        ensures { result ≡ false → turns_away self.new (parts_of claim.now) };
 
     /// The client may attach to this network. Lends the network for the session, or tells why there
     /// is none now; the client is then told so. From here on the reader reads for a session; it must
@@ -48,7 +53,7 @@ pub trait Watcher<V: NetworkView + Drop, N, I: Read> {
         ensures { I.remaining reader.new ≡ I.remaining reader.old };
 
     /// The client gets no session. It is told why after this call returns, unless its login failed
-    /// or was closed.
+    /// or was closed, or no thread could be started for its session.
     fn refused(&mut self, refusal: Refusal);
 
     /// The client has a session with this number.
@@ -66,6 +71,8 @@ pub trait Watcher<V: NetworkView + Drop, N, I: Read> {
 pub struct Unwatched;
 
 impl<V: NetworkView + Drop, I: Read> Watcher<V, Arc<Network<V>>, I> for Unwatched {
+    ghost turns_away = { λ _ _. ⊥ };
+
     fn logged_in(&mut self, _claim: &Claim) -> bool {
         true
     }

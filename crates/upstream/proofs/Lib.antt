@@ -1,7 +1,7 @@
 pub mod BegunLemmas
 pub mod Ends
 pub mod OfferLemmas
-pub mod ReadLemmas
+pub mod Registered
 pub mod SentLemmas
 pub mod Writable
 pub mod ServedLemmas

@@ -1,8 +1,8 @@
 -- What is sent, and what is read.
 use Rattle.std.proofs.Common.{◌≡◌, ◌∙◌, refl, sym, ap, subst, ℕ, Bool, true, false, List}
 use Rattle.std.proofs.Common.{[], ◌∷◌, ◌++◌, ◌||◌, append_assoc, append-nil, Option, Some, None}
-use Rattle.std.proofs.Common.{inl, inr, Err, ap₂}
-use Rattle.std.specs.Prelude.{if◌then◌else◌, ◌↔◌, IsErrOf, IsTrue}
+use Rattle.std.proofs.Common.{inl, inr, ap₂}
+use Rattle.std.specs.Prelude.{if◌then◌else◌}
 use Rattle.std.specs.Io.KnownBytes.{Appends}
 use Rattle.upstream.proofs.Writable.{sure}
 use Rattle.irc_line.specs.Line.{Parts}
@@ -10,11 +10,9 @@ use Rattle.bnc_config.specs.Settings.{NetworkSettings}
 use Rattle.upstream.specs.Said.{said}
 use Rattle.upstream.proofs.Ends.{ended_step}
 use Rattle.irc_line.specs.Writing.{bytes_of}
-use Rattle.irc_line.specs.Lines.{Pending, fed, is_too_long, lines_of, start}
-use Rattle.irc_line.specs.declared.splitter.FeedError.{FeedError}
-use Rattle.irc_line.specs.declared.splitter.FeedError.TheVariants as feed
+use Rattle.irc_line.specs.Lines.{is_too_long, lines_of}
 use Rattle.upstream.specs.Handshake.{IsCauseOf, IsLinesCause, IsStepCause, all_sent, lines_in}
-use Rattle.upstream.specs.Handshake.{piece_fault, sent_for}
+use Rattle.upstream.specs.Handshake.{sent_for}
 use Rattle.upstream.specs.Registration.{first_lines, is_end, answer_to, fails_or_sends, fault_of}
 use Rattle.upstream.specs.Registration.{has_ended, is_welcome, join_lines, reply_to, sends}
 use Rattle.upstream.specs.Registration.{welcomes}
@@ -22,7 +20,6 @@ use Rattle.upstream.specs.declared.handshake.DialFault.{DialFault}
 use Rattle.upstream.specs.declared.handshake.DialFault.TheVariants.{Memory, Read, Write, TooLong}
 use Rattle.upstream.specs.declared.handshake.DialFault.TheVariants.{Register}
 use Rattle.upstream.specs.declared.registration.RegisterFault.{RegisterFault}
-use Rattle.irc_line.proofs.PiecesTaken.{long_more}
 use Rattle.irc_line.proofs.Sent.{appends_more, bytes_more}
 
 -- one line more
@@ -122,15 +119,6 @@ pub all_sent_is : (network : NetworkSettings) (lines : List Parts) (u v w : Opti
 all_sent_is network lines u v w first next =
     subst (λ t. Appends u w t) (sym (bytes_more (first_lines network) (sent_for network [] lines)))
     (appends_more u v w _ _ first next)
-
--- why a piece was not taken
-pub piece_cause : (network : NetworkSettings) (s : Pending) (a b : List ℕ) (e : FeedError)
-    → s ≡ fed start a
-    → is_too_long a ≡ false
-    → (IsErrOf {T = Unit {0}} (Err e) feed.TooLong ↔ IsTrue (is_too_long (s.rest ++ b)))
-    → IsCauseOf network (a ++ b) (piece_fault e)
-piece_cause network s a b feed.TooLong at short h = rw (long_more s a b at short) (h.0 refl)
-piece_cause network s a b feed.OutOfMemory at short h = tt
 
 pub all_lines_cause : (network : NetworkSettings) (bytes : List ℕ) (before lines : List Parts)
     (f : DialFault)

@@ -1,13 +1,22 @@
 -- A connection to a network, put together from its parts.
-use Rattle.std.proofs.Common.{◌≡◌, ◌∷◌, ◌++◌, [], ℕ, List, sym}
-use Rattle.std.specs.Prelude.{Option}
+use Rattle.std.proofs.Common.{◌≡◌, ◌∷◌, ◌++◌, [], ℕ, List, subst, sym}
+use Rattle.std.specs.Prelude.{Bool, Option, Result}
 use Rattle.std.specs.Io.KnownBytes.{Appends, Consumes}
 use Rattle.irc_line.specs.Line.{Parts}
-use Rattle.irc_line.specs.Lines.{fed, lines_of, start}
+use Rattle.irc_line.specs.Lines.{Pending, fed, lines_of, start}
 use Rattle.irc_line.specs.Writing.{bytes_of}
 use Rattle.bnc_config.specs.Settings.{NetworkSettings}
+use Rattle.hub_ends.specs.Came.{Came}
+use Rattle.hub_threads.specs.Rings.{items_of, put_of}
+use Rattle.hub_threads.specs.Writes.{IsWritten}
+use Rattle.hub_threads.specs.declared.queued.Queued.{Queued}
+use Rattle.hub_threads.specs.declared.reading.ReadEnd.{ReadEnd}
+use Rattle.hub_threads.specs.declared.writing.WriteFault.{WriteFault}
 use Rattle.upstream.specs.Handshake.{IsWelcomed, all_sent}
-use Rattle.upstream.specs.Served.{IsRegistered}
+use Rattle.upstream.specs.Served.{IsEndedBy, IsRead, IsRegistered, WasServed}
+use Rattle.upstream.specs.declared.link.Link.{Link}
+use Rattle.upstream.specs.declared.serving.NetworkEnd.TheVariants as end
+use Rattle.upstream.specs.declared.serving.Served.{Served}
 use Rattle.upstream.specs.declared.dialled.Duplex.{Duplex}
 use Rattle.upstream.specs.declared.handshake.Welcomed.{Welcomed}
 
@@ -34,3 +43,42 @@ registered_by rem con network first dialled begun last live got was d u l w know
   splitter_is = rw (sym w) at known.7;
   sent = rw (d, sym l) at known.8;
 }
+
+-- a connection that was read to its end was served, by what stands in the ends that it hands back
+pub was_served : {I W : Type 0} (remaining : I → Option (List ℕ)) (contents : W → Option (List ℕ))
+    (network : NetworkSettings) (stream : Duplex I W) (link : Link) (s : Served I W)
+    (ended : ReadEnd) (left sent begun after got : Option (List ℕ)) (lines : List Parts)
+    (splitter : Pending) (put : List Came) (items : List Queued) (outcome : Result ℕ WriteFault)
+    (fresh : Bool) → s.end ≡ end.Lost ended → put_of s.link.inlet ≡ put →
+    items_of s.link.outlet ≡ items → remaining s.stream.reader ≡ after →
+    contents s.stream.writer ≡ got → s.written ≡ outcome →
+    IsRegistered network (remaining stream.reader) left (contents stream.writer) sent lines splitter
+    → ((bytes : List ℕ) × Appends sent begun bytes) →
+    IsRead (put_of link.inlet) put lines splitter left after ended →
+    IsWritten (items_of link.outlet) items begun got fresh outcome →
+    WasServed remaining contents network stream link s
+was_served remaining contents network stream link s ended left sent begun after got lines splitter
+    put items outcome fresh end_is put_is items_are after_is got_is outcome_is registered keeper read
+    written =
+    subst (λ e. IsEndedBy remaining contents network stream link e s) (sym end_is) (record {
+      left = left;
+      sent = sent;
+      begun = begun;
+      lines = lines;
+      splitter = splitter;
+      registered = registered;
+      of_the_keeper = keeper;
+      read = subst (λ p. IsRead (put_of link.inlet) p lines splitter left (remaining
+          s.stream.reader) ended) (sym put_is)
+          (subst (λ a. IsRead (put_of link.inlet) put lines splitter left a ended) (sym after_is)
+          read);
+      written = (
+        fresh,
+        subst (λ i. IsWritten (items_of link.outlet) i begun (contents
+            s.stream.writer) fresh s.written) (sym items_are)
+            (subst (λ o. IsWritten (items_of link.outlet) items begun (contents s.stream.writer) fresh
+            o) (sym outcome_is)
+            (subst (λ o. IsWritten (items_of link.outlet) items begun o fresh outcome) (sym got_is)
+            written)),
+      );
+    })

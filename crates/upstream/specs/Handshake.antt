@@ -1,17 +1,19 @@
 -- What a registration over two streams sends, and why it fails.
 use Rattle.std.specs.Prelude.{◌≡◌, ◌<◌, ◌+◌, ℕ, Bool, true, false, drop, length, take, List, []}
-use Rattle.std.specs.Prelude.{◌∷◌, ◌++◌, IsTrue, Option}
+use Rattle.std.specs.Prelude.{◌∷◌, ◌++◌, IsTrue, Option, Result, Ok, Err}
 use Rattle.std.specs.Io.KnownBytes.{Appends}
 use Rattle.irc_line.specs.Line.{Parts}
-use Rattle.irc_line.specs.Lines.{Pending, fed, is_too_long, lines_of, start}
+use Rattle.irc_line.specs.Lines.{is_too_long, lines_of}
+use Rattle.irc_line.specs.Writing.{bytes_of}
 use Rattle.bnc_config.specs.Settings.{NetworkSettings}
 use Rattle.upstream.specs.Registration.{Answer, answer_to, fails, first_lines, has_ended, is_end}
 use Rattle.upstream.specs.Registration.{join_lines, sends}
 use Rattle.upstream.specs.Registration.{welcomes}
 use Rattle.upstream.specs.Progress.{Progress}
 use Rattle.upstream.specs.Taken.{HasTaken}
-use Rattle.irc_line.specs.declared.splitter.FeedError.{FeedError}
-use Rattle.irc_line.specs.declared.splitter.FeedError.TheVariants as feed
+use Rattle.irc_line.specs.declared.input.InputEnd.{InputEnd}
+use Rattle.irc_line.specs.declared.input.InputEnd.TheVariants as input
+use Rattle.upstream.specs.declared.handshake.FromWelcome.{FromWelcome}
 use Rattle.upstream.specs.declared.handshake.DialFault.{DialFault}
 use Rattle.upstream.specs.declared.handshake.DialFault.TheVariants.{Memory, Read, Write, TooLong}
 use Rattle.upstream.specs.declared.handshake.DialFault.TheVariants.{Register}
@@ -87,19 +89,42 @@ IsWelcomeAt network before lines place =
     × (drop place lines ≡ welcome ∷ drop (place + 1) lines)
     × (answer_to network (before ++ take place lines) welcome ≡ welcomes (join_lines network))
 
--- the fault of a piece that was not taken
-abbrev pub piece_fault : FeedError → DialFault
-piece_fault feed.TooLong = TooLong
-piece_fault feed.OutOfMemory = Memory
+-- what a registration came to, by why its input was read no further
+abbrev pub outcome_of : InputEnd (Result FromWelcome DialFault) → Result FromWelcome DialFault
+outcome_of (input.Answered answer) = answer
+outcome_of input.TooLong = Err TooLong
+outcome_of input.OutOfMemory = Err Memory
+outcome_of _ = Err Read
 
--- where a registration stands that has read these bytes and goes on
-abbrev pub IsReading : NetworkSettings → List ℕ → Progress → Pending → Type 0
-IsReading network bytes register splitter = record {
-  taken : HasTaken network (lines_of bytes) register;
-  going : has_ended (lines_of bytes) ≡ false;
-  split : splitter ≡ fed start bytes;
-  short : is_too_long bytes ≡ false;
-}
+-- where a registration stands that has taken these lines, answered each, and goes on
+pub record IsGoing (network : NetworkSettings) (was now : Option (List ℕ)) (register : Progress)
+    (lines : List Parts) : Type 0 where
+  pub taken : HasTaken network lines register
+  pub going : has_ended lines ≡ false
+  pub sent : Appends was now (bytes_of (sent_for network [] lines))
+
+-- the same, of each network at which it began
+abbrev pub GoesOn : Progress → Option (List ℕ) → Option (List ℕ) → Progress → List Parts → Type 0
+GoesOn first was now register lines =
+    (network : NetworkSettings) → HasTaken network [] first → IsGoing network was now register lines
+
+-- the welcome is among these lines, and each up to it was answered; or one of them is a fault, or
+-- no more could be sent
+abbrev pub IsEnded : NetworkSettings → Option (List ℕ) → Option (List ℕ) → List Parts
+    → Result FromWelcome DialFault → Type 0
+IsEnded network was now lines (Ok welcomed) =
+    (before : List Parts) × (welcome : Parts) × (after : List Parts)
+    × IsWelcomed network lines before welcome after
+    × (welcomed.lines.items ≡ welcome ∷ after)
+    × Appends was now (bytes_of (sent_for network [] (before ++ welcome ∷ [])))
+IsEnded network was now lines (Err fault) =
+    IsLinesCause network [] lines fault × Begins was now (bytes_of (sent_for network [] lines))
+
+-- the same, of each network at which it began
+abbrev pub EndsSo : Progress → Option (List ℕ) → Option (List ℕ) → List Parts
+    → Result FromWelcome DialFault → Type 0
+EndsSo first was now lines answer =
+    (network : NetworkSettings) → HasTaken network [] first → IsEnded network was now lines answer
 
 -- lines are only not sent for these causes
 abbrev pub IsSendCause : DialFault → Type 0

@@ -1,7 +1,7 @@
 //! The registration over a reader and a writer.
 
 ghost use Rattle.std.specs.Prelude.{◌≡◌, ◌++◌, ◌∷◌, [], ◌+◌, ℕ, List, false, take};
-ghost use Rattle.std.specs.Prelude.{◌<◌, ◌≤◌, IfErr, IfNone, IfOk, IfSome, OnErr, OnOk, drop, length};
+ghost use Rattle.std.specs.Prelude.{◌<◌, ◌≤◌, IfErr, IfNone, IfOk, IfSome, OnOk, drop, length};
 ghost use Rattle.std.specs.Io.KnownBytes.{Appends, Consumes};
 ghost use Rattle.irc_line.specs.Line.{Parts};
 ghost use Rattle.irc_line.specs.Lines.{fed, lines_of, start};
@@ -10,24 +10,20 @@ ghost use Rattle.upstream.specs.Registration.{answer_to, first_lines, has_ended}
 ghost use Rattle.upstream.specs.Handshake.{Begins, IsCauseOf, IsEndedBy, IsLinesCause, IsSendCause};
 ghost use Rattle.upstream.specs.Handshake.{IsStepCause, IsWelcomeAt, IsWelcomed};
 ghost use Rattle.irc_line.specs.Writing.{bytes_of};
-ghost use Rattle.upstream.specs.Handshake.{IsReading, all_sent, lines_in, sent_for};
+ghost use Rattle.upstream.specs.Handshake.{all_sent, lines_in, outcome_of, sent_for};
 ghost use Rattle.upstream.specs.Taken.{HasTaken};
 
 use crate::OutOfMemory;
 use crate::registration::{Register, RegisterFault, Step};
 use crate::writing::send;
 use bnc_config::NetworkConfig;
-use irc_line::{FeedError, Line, Splitter};
+use irc_line::{InputEnd, Line, LineTaker, Splitter, read_from_start};
 use std::alloc::Global;
-use std::io::{ErrorKind, Read, Write};
+use std::io::{Read, Write};
 use thiserror::Error;
 
 /// How many bytes one read asks for.
 const PIECE: usize = 4_096;
-
-/// How many reads there are at most. An input that has not ended the registration then counts as
-/// one that can't be read.
-const READ_LIMIT: u64 = 1_000_000_000;
 
 /// Why a registration over streams failed.
 #[derive(Debug, Drop, Error)]
@@ -57,20 +53,6 @@ impl From<OutOfMemory> for DialFault {
 
     fn from(_refused: OutOfMemory) -> DialFault {
         DialFault::Memory
-    }
-}
-
-impl From<FeedError> for DialFault {
-    ghost use Rattle.std.specs.Prelude.{◌≡◌};
-    ghost use Rattle.upstream.specs.Handshake.{piece_fault};
-
-    ghost from_gives = { λ error made. made ≡ piece_fault error };
-
-    fn from(error: FeedError) -> DialFault {
-        match error {
-            FeedError::TooLong => DialFault::TooLong,
-            FeedError::OutOfMemory => DialFault::Memory,
-        }
     }
 }
 
@@ -158,50 +140,6 @@ fn take_lines<W: Write>(
     Ok(None)
 }
 
-/// Takes a piece of what was read: the lines that it completes are added to the list, which is
-/// empty before. Answers the place of the welcome among them, from 0.
-fn take_piece<W: Write>(
-    alloc: Global,
-    register: &mut Register,
-    splitter: &mut Splitter,
-    lines: &mut Vec<Line>,
-    piece: &[u8],
-    writer: &mut W,
-) -> Result<Option<usize>, DialFault>
-    requires { lines.old.items ≡ [] }
-    ensures none { (network : NetworkSettings) (bytes : List ℕ) →
-        IsReading network bytes register.old splitter.old →
-        IfOk result (λ place. IfNone place
-        (IsReading network (bytes ++ piece.now) register.new splitter.new)) }
-    ensures some { (network : NetworkSettings) (bytes : List ℕ) →
-        IsReading network bytes register.old splitter.old →
-        IfOk result (λ place. IfSome place (λ i.
-        (splitter.new ≡ fed start (bytes ++ piece.now))
-        × IsWelcomeAt network (lines_of bytes) lines.new.items i
-        × Appends (W.contents writer.old) (W.contents writer.new)
-        (bytes_of (sent_for network (lines_of bytes) (take (i + 1) lines.new.items))))) }
-    ensures sent { (network : NetworkSettings) (bytes : List ℕ) →
-        IsReading network bytes register.old splitter.old →
-        IfOk result (λ place. IfNone place (Appends (W.contents writer.old) (W.contents writer.new)
-        (bytes_of (sent_for network (lines_of bytes) lines.new.items)))) }
-    ensures lines { (network : NetworkSettings) (bytes : List ℕ) →
-        IsReading network bytes register.old splitter.old →
-        OnOk result (lines_of (bytes ++ piece.now) ≡ lines_of bytes ++ lines.new.items) }
-    ensures err { (network : NetworkSettings) (bytes : List ℕ) →
-        IsReading network bytes register.old splitter.old →
-        IfErr result (IsCauseOf network (bytes ++ piece.now)) }
-    ensures begun { (network : NetworkSettings) (bytes : List ℕ) →
-        IsReading network bytes register.old splitter.old →
-        OnErr result ((more : List Parts)
-        × (lines_of (bytes ++ piece.now) ≡ lines_of bytes ++ more)
-        × Begins (W.contents writer.old) (W.contents writer.new)
-        (bytes_of (sent_for network (lines_of bytes) more))) }
-    ensures within { IfOk result (λ place. IfSome place (λ i. i < length lines.new.items)) }
-{
-    splitter.feed(piece, lines)?;
-    take_lines(alloc, register, lines.as_slice(), writer)
-}
-
 /// Leaves the lines from a place on.
 fn drop_front(lines: &mut Vec<Line>, place: usize)
     requires { place ≤ length lines.old.items }
@@ -229,54 +167,57 @@ pub(crate) fn open<W: Write>(
     Ok(register)
 }
 
-/// Reads lines up to the welcome, and sends for each what is to be sent for it, in one write;
-/// answers the place of the welcome, from 0, among the lines of the last piece that was read.
-fn read_on<R: Read, W: Write>(
+/// The lines that were read from the welcome on, in order.
+#[derive(Drop)]
+struct FromWelcome {
+    lines: Vec<Line>,
+}
+
+/// A registration that takes the lines of its network, and sends what is to be sent for them.
+#[derive(Drop)]
+struct Completing<'a, W> {
     alloc: Global,
-    register: &mut Register,
-    splitter: &mut Splitter,
-    lines: &mut Vec<Line>,
-    reader: &mut R,
-    writer: &mut W,
-) -> Result<usize, DialFault>
-    requires no_lines { lines.old.items ≡ [] }
-    requires started { splitter.old ≡ start }
-    ensures ok { (network : NetworkSettings) → HasTaken network [] register.old →
-        IfOk result (λ place. (bytes : List ℕ) × (before : List Parts) × (welcome : Parts)
-        × (after : List Parts)
-        × Consumes (R.remaining reader.old) (R.remaining reader.new) bytes
-        × IsWelcomed network (lines_of bytes) before welcome after
-        × (drop place lines.new.items ≡ welcome ∷ after)
-        × (splitter.new ≡ fed start bytes)
-        × Appends (W.contents writer.old) (W.contents writer.new)
-        (bytes_of (sent_for network [] (before ++ welcome ∷ [])))) }
-    ensures err { (network : NetworkSettings) → HasTaken network [] register.old →
-        IfErr result (λ fault. (bytes : List ℕ)
-        × Consumes (R.remaining reader.old) (R.remaining reader.new) bytes
-        × IsCauseOf network bytes fault
-        × Begins (W.contents writer.old) (W.contents writer.new)
-        (bytes_of (sent_for network [] (lines_of bytes)))) }
-    ensures within { IfOk result (λ place. place < length lines.new.items) }
-{
-    let mut buffer = vec![in alloc; 0; PIECE]?;
-    for _ in 0..READ_LIMIT {
-        match reader.read(&mut buffer) {
-            Ok(0) => return Err(DialFault::Read),
-            Ok(count) => {
-                let piece = &buffer[..count];
-                if let Some(place) = take_piece(alloc, register, splitter, lines, piece, writer)? {
-                    return Ok(place);
-                }
-                lines.clear();
+    register: &'a mut Register,
+    writer: &'a mut W,
+}
+
+impl<W: Write> LineTaker<Result<FromWelcome, DialFault>> for Completing<'_, W> {
+    ghost use Rattle.std.specs.Prelude.{◌≡◌};
+    ghost use Rattle.upstream.specs.Handshake.{EndsSo, GoesOn};
+
+    ghost is_after = { λ began lines now. (now.writer.ghost_name ≡ began.writer.ghost_name)
+        × GoesOn began.register.now (W.contents began.writer.now) (W.contents now.writer.now)
+        now.register.now lines };
+
+    ghost ends = { λ began lines answer now. (now.writer.ghost_name ≡ began.writer.ghost_name)
+        × EndsSo began.register.now (W.contents began.writer.now) (W.contents now.writer.now)
+        lines answer };
+
+    fn take_lines(&mut self, lines: Vec<Line>) -> Option<Result<FromWelcome, DialFault>> {
+        let mut lines = lines;
+        match take_lines(self.alloc, self.register, lines.as_slice(), self.writer) {
+            Ok(None) => None,
+            Ok(Some(place)) => {
+                drop_front(&mut lines, place);
+                Some(Ok(FromWelcome { lines }))
             }
-            Err(error) => {
-                if error.kind() != ErrorKind::Interrupted {
-                    return Err(DialFault::Read);
-                }
-            }
+            Err(fault) => Some(Err(fault)),
         }
     }
-    Err(DialFault::Read)
+}
+
+/// What a registration came to, by why its input is read no further.
+fn outcome(end: InputEnd<Result<FromWelcome, DialFault>>) -> Result<FromWelcome, DialFault>
+    ensures { result ≡ outcome_of end }
+{
+    match end {
+        InputEnd::Answered(answer) => answer,
+        InputEnd::EndOfInput | InputEnd::ReadFault(_) | InputEnd::ReadsSpent => Err(
+            DialFault::Read,
+        ),
+        InputEnd::TooLong => Err(DialFault::TooLong),
+        InputEnd::OutOfMemory => Err(DialFault::Memory),
+    }
 }
 
 /// Goes on with a registration that was opened: sends, for each line that comes, what is to be sent
@@ -303,26 +244,23 @@ pub(crate) fn complete<R: Read, W: Write>(
         × Begins (W.contents writer.old) (W.contents writer.new)
         (bytes_of (sent_for network [] (lines_of bytes)))) }
 {
+    let mut buffer = vec![in alloc; 0; PIECE]?;
     let mut register = register;
-    let mut splitter = Splitter::new(alloc);
-    let mut lines = Vec::new(alloc);
-    let place = read_on(
+    let mut completing = Completing {
         alloc,
-        &mut register,
-        &mut splitter,
-        &mut lines,
-        reader,
+        register: &mut register,
         writer,
-    )?;
-    drop_front(&mut lines, place);
+    };
+    let (end, splitter) = read_from_start(alloc, &mut completing, reader, &mut buffer);
+    let FromWelcome { lines } = outcome(end)?;
     Ok(Welcomed { splitter, lines })
 }
 
 /// Registers at a network: sends the first lines, and then, for each line that comes, what is to be
 /// sent for it, in one write. Answers the lines from the welcome on, once it has come.
 ///
-/// It reads at most 1,000,000,000 times. A read or a write that is interrupted is tried again. At a
-/// fault a beginning of what is to be sent was sent.
+/// It reads at most `irc_line::READ_LIMIT` times. A read or a write that is interrupted is tried
+/// again. At a fault a beginning of what is to be sent was sent.
 pub fn register<R: Read, W: Write>(
     alloc: Global,
     reader: &mut R,

@@ -1,8 +1,6 @@
 //! Which capabilities a network offers.
 
-ghost use Rattle.std.specs.Prelude.{◌≡◌, ◌==◌, ◌<◌, ◌++◌, ◌∷◌, [], List, IfNone, IfOk, IfSome};
-ghost use Rattle.std.specs.Prelude.{OnOk, length, map};
-ghost use Rattle.std.specs.Prelude.{position};
+ghost use Rattle.std.specs.Prelude.{◌≡◌, ◌==◌, ◌++◌, ◌∷◌, [], List, IfOk, OnOk, map};
 ghost use Rattle.std.specs.List.{list_any, slice_split};
 ghost use Rattle.irc_line.specs.Line.{Parts};
 ghost use Rattle.upstream.specs.Registration.{is_word_for, last_param, named, names_of, offered_by};
@@ -10,7 +8,7 @@ ghost use Rattle.upstream.specs.Said.{said};
 
 use crate::OutOfMemory;
 use crate::said::Said;
-use irc_line::Line;
+use irc_line::{Line, place_of, split_byte};
 use std::alloc::Global;
 
 /// Which of the capabilities that we can use were offered.
@@ -23,14 +21,6 @@ pub struct Offered {
     server_time: bool,
 }
 
-/// Where the first such byte stands.
-fn place_of(byte: u8, text: &[u8]) -> Option<usize>
-    ensures place { result ≡ position (λ b. b == byte) text.now }
-    ensures within { IfSome result (λ place. place < length text.now) }
-{
-    text.iter().position(|b| *b == byte)
-}
-
 /// Whether the word of a list offers the capability of this name: `sasl=PLAIN` offers `sasl`.
 fn is_word_for(name: &[u8], word: &[u8]) -> bool
     ensures { result ≡ is_word_for name.now word.now }
@@ -41,23 +31,12 @@ fn is_word_for(name: &[u8], word: &[u8]) -> bool
     }
 }
 
-/// What stands before the first space, and what stands behind it.
-fn split_word(text: &[u8]) -> Option<(&[u8], &[u8])>
-    ensures none { IfNone result (slice_split (λ b. b == 32) text.now ≡ text.now ∷ []) }
-    ensures some { IfSome result (λ x. slice_split (λ b. b == 32) text.now
-        ≡ x.0.now ∷ slice_split (λ b. b == 32) x.1.now) }
-    ensures shorter { IfSome result (λ x. length x.1.now < length text.now) }
-{
-    let end = place_of(b' ', text)?;
-    Some((&text[..end], &text[end + 1..]))
-}
-
 /// Whether the capability of this name is offered in a list.
 fn has_word_for(name: &[u8], list: &[u8]) -> bool
     ensures { result ≡ list_any (is_word_for name.now) (slice_split (λ b. b == 32) list.now) }
 {
     let mut rest = list;
-    while let Some((word, after)) = split_word(rest) {
+    while let Some((word, after)) = split_byte(b' ', rest) {
         if is_word_for(name, word) {
             return true;
         }

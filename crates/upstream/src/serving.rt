@@ -2,7 +2,7 @@
 
 ghost use Rattle.std.specs.Prelude.{◌≡◌, ℕ, IfErr, IfOk, List};
 ghost use Rattle.std.specs.Io.KnownBytes.{Consumes};
-ghost use Rattle.hub_threads.specs.Rings.{put_of};
+ghost use Rattle.hub_threads.specs.Rings.{items_of, put_of};
 ghost use Rattle.upstream.specs.Handshake.{IsCauseOf};
 ghost use Rattle.upstream.specs.Served.{IsRead, IsRegistered, WasServed};
 
@@ -12,8 +12,8 @@ use crate::keeper::Keeper;
 use crate::link::Link;
 use bnc_config::NetworkConfig;
 use hub_threads::{
-    Clock, FreeGate, Gate, InletEnd, ReadEnd, Reading, Stopper, WriteFault, put_lines, read_in,
-    spawn_stoppable,
+    Clock, Gate, InletEnd, ReadEnd, Reading, Stopper, Worker, WriteFault, Written, put_lines,
+    read_in, spawn_stoppable,
 };
 use std::alloc::Global;
 use std::io::{Read, Write};
@@ -58,6 +58,40 @@ impl<I, W: Write> Served<I, W> {
     }
 }
 
+/// A connection that ended so: its stream and the ends of the hub's rings, put together again of
+/// what its reader and its writer handed back.
+fn handed_back<I, W: Write>(
+    end: NetworkEnd,
+    reader: I,
+    inlet: InletEnd,
+    written: Written<W>,
+    stopper: Stopper,
+) -> Served<I, W>
+    ensures end { result.end ≡ end }
+    ensures inlet { put_of result.link.inlet ≡ put_of inlet }
+    ensures outlet { items_of result.link.outlet ≡ items_of written.end }
+    ensures stream { (result.stream.reader ≡ reader) × (result.stream.writer ≡ written.out) }
+    ensures written { result.written ≡ written.outcome }
+{
+    let Written {
+        end: outlet,
+        out: writer,
+        outcome,
+        ..
+    } = written;
+    outlet.go_on();
+    Served {
+        end,
+        link: Link {
+            inlet,
+            outlet,
+            stopper,
+        },
+        stream: Duplex { reader, writer },
+        written: outcome,
+    }
+}
+
 /// Registers at a network; the stream and what was read from the welcome on.
 fn register_over<I: Read, W: Write>(
     alloc: Global,
@@ -77,23 +111,27 @@ fn register_over<I: Read, W: Write>(
 }
 
 /// Puts the lines from the welcome on, and reads the network to the connection's end.
-fn read_to_end<I: Read, W: Write, C: Clock, X: Keeper<I, W>, R: Wait>(
-    rt: &R,
-    alloc: Global,
+fn read_to_end<I: Read, W: Write, G: Gate, C: Clock, X: Keeper<I, W>, R: Wait>(
+    worker: &Worker<'_, R, G, C>,
     reader: &mut I,
     welcomed: Welcomed,
     inlet: InletEnd,
     stopper: &Stopper,
-    clock: &C,
     keeper: &mut X,
 ) -> Reading
     ensures { IsRead (put_of inlet) (put_of result.end) welcomed.lines.items welcomed.splitter
         (I.remaining reader.old) (I.remaining reader.new) result.ended }
 {
     let Welcomed { splitter, lines } = welcomed;
+    let Worker {
+        rt,
+        alloc,
+        gate,
+        clock,
+    } = worker;
     let mut inlet = inlet;
     put_lines(rt, &mut inlet, lines, clock.now());
-    let reading = read_in(rt, alloc, reader, splitter, inlet, &FreeGate, clock);
+    let reading = read_in(rt, *alloc, reader, splitter, inlet, *gate, *clock);
     stopper.stop();
     keeper.ended();
     reading
@@ -102,27 +140,24 @@ fn read_to_end<I: Read, W: Write, C: Clock, X: Keeper<I, W>, R: Wait>(
 /// Serves a connection to a network, from its first byte to its end: registers, puts the lines from
 /// the welcome on into the hub's inlet and then all that is read, and at the end one loss; in a
 /// thread beside it, writes the hub's packets. The keeper is told each step. Returns once both have
-/// ended.
+/// ended. The reader passes the worker's gate, and the writer a copy of it.
 pub fn serve_network<
     I: Read,
     W: Write + Send + Drop + 'static,
-    G: Gate + Send + Drop + 'static,
+    G: Gate + Clone + Send + Drop + 'static,
     C: Clock,
     X: Keeper<I, W>,
     R: Threads + Wait + Send + Copy + 'static,
 >(
-    rt: R,
-    alloc: Global,
+    worker: &Worker<'_, R, G, C>,
     stream: Duplex<I, W>,
     network: &NetworkConfig,
     link: Link,
-    gate: G,
-    clock: &C,
     keeper: &mut X,
 ) -> Served<I, W>
     ensures { WasServed I.remaining W.contents network.now stream link result }
 {
-    let (stream, welcomed) = match register_over(alloc, stream, network) {
+    let (stream, welcomed) = match register_over(worker.alloc, stream, network) {
         Ok(registered) => registered,
         Err((fault, stream)) => {
             return Served::unread(NetworkEnd::NotRegistered(fault), link, stream);
@@ -133,52 +168,31 @@ pub fn serve_network<
     if !keeper.registered(&mut reader, &mut writer, welcomed.lines.as_slice()) {
         return Served::unread(NetworkEnd::GivenUp, link, Duplex { reader, writer });
     }
+    let Ok(gate) = worker.gate.clone() else {
+        keeper.no_thread();
+        return Served::unread(NetworkEnd::GivenUp, link, Duplex { reader, writer });
+    };
     let Link {
         inlet,
         outlet,
         stopper,
     } = link;
-    match spawn_stoppable(rt, outlet, writer, gate, &stopper) {
+    match spawn_stoppable(worker.rt, outlet, writer, gate, &stopper) {
         Ok(handle) => {
-            let Reading { end, ended } = read_to_end(
-                &rt,
-                alloc,
+            let Reading { end: inlet, ended } = read_to_end(
+                worker,
                 &mut reader,
                 welcomed,
                 inlet,
                 &stopper,
-                clock,
                 keeper,
             );
-            let written = handle.join(&rt);
-            written.end.go_on();
-            Served {
-                end: NetworkEnd::Lost(ended),
-                link: Link {
-                    inlet: end,
-                    outlet: written.end,
-                    stopper,
-                },
-                stream: Duplex {
-                    reader,
-                    writer: written.out,
-                },
-                written: written.outcome,
-            }
+            let written = handle.join(&worker.rt);
+            handed_back(NetworkEnd::Lost(ended), reader, inlet, written, stopper)
         }
         Err(written) => {
             keeper.no_thread();
-            written.end.go_on();
-            let link = Link {
-                inlet,
-                outlet: written.end,
-                stopper,
-            };
-            let stream = Duplex {
-                reader,
-                writer: written.out,
-            };
-            Served::unread(NetworkEnd::GivenUp, link, stream)
+            handed_back(NetworkEnd::GivenUp, reader, inlet, written, stopper)
         }
     }
 }

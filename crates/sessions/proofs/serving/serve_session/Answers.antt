@@ -1,7 +1,7 @@
-use Rattle.std.proofs.Common.{subst}
+use Rattle.std.proofs.Common.{inr, subst}
 use Rattle.sessions.specs.Claims.{parts_of}
 use Rattle.sessions.specs.Logins.{LogsIn}
-use Rattle.sessions.proofs.CameIn.{came_in_by}
+use Rattle.sessions.proofs.CameIn.{came_in_by, no_way_in_for}
 use Rattle.sessions.proofs.Places.{let_in_by}
 use Rattle.sessions.proofs.serving.serve_session.Goals as goal
 
@@ -26,8 +26,7 @@ returns-in-Ok-serve g c =
       why = c.in-Ok-serve.field-0-0;
       heard = rw (c.let_in-2.ensures) at c.in-Ok-serve.ensures.heard;
       id = c.in-Ok-serve.ensures.ended.0;
-      attached = c.in-Ok-serve.ensures.ended.1;
-      ended = c.in-Ok-serve.ensures.ended.2;
+      ended = c.in-Ok-serve.ensures.ended.1;
     }
 
 pub returns-in-Err-let_in : goal.returns-in-Err-let_in
@@ -53,3 +52,12 @@ returns-in-Err-Cut g c =
     (g.W.Write.contents c.log_in.new.writer) c.in-Claims.claim c.in-Some.network.now
     c.in-Ok.login.ending c.in-Ok.login.unread.lines.items c.in-Ok.login.unread.splitter
     c.in-Ok.ensures.ok c.in-Claims.is c.in-Some.ensures.some
+
+pub returns-in_default-let_in : goal.returns-in_default-let_in
+returns-in_default-let_in g c =
+    inr (no_way_in_for (λ claim. (x : g.row.X.Denot) × g.X.Watcher.turns_away x claim)
+    c.args.config.now c.args.networks.now (g.I.Read.remaining c.args.reader.now)
+    (g.I.Read.remaining c.log_in.new.reader) (g.W.Write.contents c.args.writer)
+    (g.W.Write.contents c.log_in.new.writer) c.in-Claims.claim c.in-Ok.login.ending
+    c.in-Ok.login.unread.lines.items c.in-Ok.login.unread.splitter c.in-Ok.ensures.ok
+    c.in-Claims.is c.in_default-let_in.ensures.none)

@@ -1,11 +1,11 @@
 use Rattle.std.proofs.Common.{◌++◌, ◌∷◌, [], ℕ, List}
 use Rattle.std.specs.Io.KnownBytes.{Consumes}
+use Rattle.std.proofs.KnownBytes.{Consumes-nil}
 use Rattle.irc_line.proofs.Outcomes.{err_more, ok_more, refused_by}
 use Rattle.irc_line.specs.Lines.{lines_of}
 use Rattle.irc_line.specs.Writing.{bytes_of}
 use Rattle.upstream.specs.Handshake.{Begins, IsCauseOf, all_sent}
 use Rattle.upstream.proofs.BegunLemmas.{begun_all, begun_first, cause_of_none}
-use Rattle.upstream.proofs.ReadLemmas.{consumes_nil}
 use Rattle.upstream.proofs.SentLemmas.{all_sent_is}
 use Rattle.upstream.proofs.handshake.register.Goals as goal
 
@@ -35,7 +35,7 @@ returns-in_err-register-clause-err g c =
     (bytes_of (all_sent network (lines_of bytes))))
     fault c.from_residual.ensures.1 (
       [],
-      consumes_nil left,
+      Consumes-nil left,
       cause_of_none network fault c.in_err-register.ensures.err,
       begun_first network [] _ _ c.in_err-register.ensures.begun,
     )
