@@ -14,6 +14,10 @@ use crate::{ConfigFault, Key, NetworkConfig, Place, Text, UserConfig};
 use std::alloc::Global;
 use std::marker::Model;
 
+/// How many messages a file may ask for: as many as a history can hold (`history::CAPACITY_LIMIT`,
+/// which this crate, below that one, can't name).
+const HISTORY_LIMIT: u32 = 10_000;
+
 /// The settings that a file means.
 #[derive(Debug, Drop)]
 pub struct Config {
@@ -55,7 +59,7 @@ impl Config {
             Err(_) => return Err(ConfigFault::NotToml),
         };
         let listen = required_text(alloc, &table, Key::Listen)?;
-        let history = number_or(&table, Key::History, 500, 10_000)?;
+        let history = number_or(&table, Key::History, 500, HISTORY_LIMIT)?;
         let retry = number_or(&table, Key::Retry, 30, 3_600)?;
         let users = read_users(alloc, tables_at(&table, Key::User)?)?;
         Ok(Config {

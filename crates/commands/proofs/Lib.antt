@@ -1,6 +1,5 @@
 pub mod WordsLemmas
 pub mod ReportLemmas
-pub mod ModeLemmas
 pub mod AttachLemmas
 pub mod MemberLemmas
 pub mod StreamLemmas

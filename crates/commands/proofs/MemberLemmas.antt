@@ -4,16 +4,11 @@ use Rattle.std.proofs.Common.{[], ◌∷◌, ◌++◌, Option, Some, None, refl,
 use Rattle.std.proofs.Common.{append_assoc, append-nil}
 use Rattle.std.specs.Prelude.{option_to_list}
 use Rattle.std.specs.List.{cons_option, range_with_len}
-use Rattle.std.specs.Option.{option_map}
-use Rattle.std.specs.Borrow.{Bor}
 use Rattle.std.proofs.lemmas.List.Elements.{filter-append, filter_map-append}
 use Rattle.net_view.specs.Text.{Text}
 use Rattle.net_view.specs.Tokens.{Token}
 use Rattle.net_view.specs.Ranking.{symbol_of}
 use Rattle.net_view.specs.Ranks.{rank_count, ranks_that, has_rank}
-use Rattle.net_view.specs.Readers.{MemberParts}
-use Rattle.net_view.specs.declared.channel.Member.{Member}
-use Rattle.commands.specs.Readers.{parts_of}
 use Rattle.irc_support.specs.Written.{symbols_of}
 
 -- the ranks of a set that stand before a place
@@ -88,33 +83,3 @@ pub ranks_all : (ranks : List ℕ) (rank : ℕ) → rank ≡ 16 → ranks ≡ ra
     → ranks_before ranks rank ≡ ranks
 unfolding ranks_that
 ranks_all ranks rank last set = ap (ranks_before ranks) (last ∙ rank_count-is) ∙ sym set
-
--- ---- a member that is shown
-
--- what a reader lends is the member at that place
-pub parts_shown : (o : Option MemberParts) (member : Member)
-    → Some member.nick.now ≡ option_map (λ (m : MemberParts). m.nick) o
-    → Some member.ranks ≡ option_map (λ (m : MemberParts). m.ranks) o
-    → Some (option_map (λ (name : Bor Text). name.now) member.account)
-    ≡ option_map (λ (m : MemberParts). m.account) o
-    → Some (option_map (λ (text : Bor Text). text.now) member.away)
-    ≡ option_map (λ (m : MemberParts). m.away) o
-    → o ≡ Some (parts_of member)
-parts_shown None member nick ranks account away = cc
-parts_shown (Some m) member nick ranks account away =
-    let same_nick : member.nick.now ≡ m.nick = cc in
-    let same_ranks : member.ranks ≡ m.ranks = cc in
-    let same_account : option_map (λ (name : Bor Text). name.now) member.account ≡ m.account = cc in
-    let same_away : option_map (λ (text : Bor Text). text.now) member.away ≡ m.away = cc in
-    λ i. Some record {
-      nick = sym same_nick i;
-      ranks = sym same_ranks i;
-      account =
-          sym same_account i;
-      away = sym same_away i;
-    }
-
-pub none_shown : (o : Option MemberParts) → None ≡ option_map (λ (m : MemberParts). m.nick) o
-    → o ≡ None
-none_shown None none = refl
-none_shown (Some m) none = cc

@@ -2,8 +2,6 @@
 use Rattle.std.specs.Prelude.{◌≡◌, ◌≢◌, ◌++◌, ℕ, List, codes, string_bytes}
 use Rattle.std.specs.declared.io.ErrorKind.{ErrorKind}
 use Rattle.std.specs.declared.io.ErrorKind.TheVariants as kind
-use Rattle.irc_line.specs.declared.splitter.FeedError.{FeedError}
-use Rattle.irc_line.specs.declared.splitter.FeedError.TheVariants as feed
 use Rattle.bnc_config.specs.ConfigFault as config
 use Rattle.commands.specs.declared.fault.Fault.{Fault}
 use Rattle.commands.specs.declared.fault.Fault.TheVariants.{CannotListen, CannotRead}
@@ -33,8 +31,3 @@ IsFileFault k OutOfMemory = k ≡ kind.OutOfMemory
 IsFileFault k CannotRead = k ≢ kind.OutOfMemory
 IsFileFault k (CannotReadFile why) = k ≢ kind.OutOfMemory
 IsFileFault k _ = ⊥
-
--- the fault of a piece that was not taken
-abbrev pub piece_fault : FeedError → Fault
-piece_fault feed.TooLong = LineTooLong
-piece_fault feed.OutOfMemory = OutOfMemory

@@ -2,6 +2,5 @@ pub mod Attach
 pub mod Check
 pub mod Command
 pub mod Faults
-pub mod Readers
 pub mod Report
 pub mod Stream

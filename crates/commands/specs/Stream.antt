@@ -17,17 +17,13 @@ transcript_of bytes = map Received (lines_of bytes)
 abbrev pub stream_report : List ℕ → List ℕ
 stream_report bytes = report_of (view_of (transcript_of bytes)) (counted (skipped_of bytes))
 
--- why a piece that brings the input to these bytes is refused: a line that is too long is told
--- where there is one, and there no other fault is told
-abbrev pub IsPieceRefusal : List ℕ → Fault → Type 0
-IsPieceRefusal bytes LineTooLong = IsTrue (is_too_long bytes)
-IsPieceRefusal bytes OutOfMemory = is_too_long bytes ≡ false
-IsPieceRefusal bytes _ = ⊥
-
--- why an input of which these bytes were read is refused
+-- why an input of which these bytes were read is refused: a line that is too long is told where
+-- there is one, and there no other fault is told
 abbrev pub IsRefusal : List ℕ → Fault → Type 0
 IsRefusal bytes CannotRead = is_too_long bytes ≡ false
-IsRefusal bytes fault = IsPieceRefusal bytes fault
+IsRefusal bytes LineTooLong = IsTrue (is_too_long bytes)
+IsRefusal bytes OutOfMemory = is_too_long bytes ≡ false
+IsRefusal bytes _ = ⊥
 
 -- the same once the report may have been begun, where that is left to read: all was read before
 abbrev pub IsCauseOf : List ℕ → Option (List ℕ) → Fault → Type 0

@@ -5,7 +5,6 @@ ghost use Rattle.std.specs.IoError.{error_kind};
 ghost use Rattle.commands.specs.Faults.{IsFileFault, reading_fault};
 
 use bnc_config::ConfigFault;
-use irc_line::FeedError;
 use std::alloc::{AllocError, Global};
 use std::error::Error;
 use std::io::ErrorKind;
@@ -67,20 +66,6 @@ impl From<AllocError> for Fault {
 
     fn from(_refused: AllocError) -> Fault {
         Fault::OutOfMemory
-    }
-}
-
-impl From<FeedError> for Fault {
-    ghost use Rattle.std.specs.Prelude.{◌≡◌};
-    ghost use Rattle.commands.specs.Faults.{piece_fault};
-
-    ghost from_gives = { λ error fault. fault ≡ piece_fault error };
-
-    fn from(error: FeedError) -> Fault {
-        match error {
-            FeedError::TooLong => Fault::LineTooLong,
-            FeedError::OutOfMemory => Fault::OutOfMemory,
-        }
     }
 }
 

@@ -2,15 +2,15 @@
 
 ghost use Rattle.std.specs.Prelude.{◌≡◌, ◌++◌, ◌∷◌, [], ℕ, List, false, map, IfErr, IfOk, OnOk};
 ghost use Rattle.std.specs.Io.KnownBytes.{Consumes, IsAtEnd};
-ghost use Rattle.irc_line.specs.Lines.{counted, fed, is_too_long, skipped_of, start};
+ghost use Rattle.irc_line.specs.Lines.{counted, is_too_long, skipped_of};
 ghost use Rattle.net_view.specs.Arrival.{Arrival, Received};
-ghost use Rattle.commands.specs.Stream.{IsPieceRefusal, IsRefusal, transcript_of};
+ghost use Rattle.commands.specs.Stream.{IsRefusal, transcript_of};
 
 use crate::fault::Fault;
-use irc_line::{Line, Splitter};
+use irc_line::{InputEnd, Line, LineTaker, read_from_start};
 use net_view::OutOfMemory;
 use std::alloc::Global;
-use std::io::{ErrorKind, Read};
+use std::io::Read;
 
 /// What takes the lines of an input, in order.
 pub trait Taker {
@@ -30,47 +30,41 @@ pub trait Taker {
 /// How many bytes one read asks for.
 pub const PIECE: usize = 65_536;
 
-/// How many reads there are at most. An input that is not at its end then counts as one that can't
-/// be read.
-const READ_LIMIT: u64 = 1_000_000_000;
-
-/// Takes lines out of the list, in order.
-fn take_lines<T: Taker>(taker: &mut T, lines: &mut Vec<Line>) -> Result<(), OutOfMemory>
+/// Takes lines, in order.
+fn take_all<T: Taker>(taker: &mut T, lines: Vec<Line>) -> Result<(), OutOfMemory>
     ensures taken { (items : List Arrival) → T.is_after taker.old items →
-        OnOk result (T.is_after taker.new (items ++ map Received lines.old.items)) }
+        OnOk result (T.is_after taker.new (items ++ map Received lines.items)) }
     ensures kept { OnOk result (T.room taker.new ≡ T.room taker.old) }
-    ensures emptied { OnOk result (lines.new.items ≡ []) }
 {
-    for line in lines.drain(..) {
+    for line in lines {
         taker.take_line(line)?;
     }
     Ok(())
 }
 
-/// Takes a piece of the input: the lines that it completes. The list is empty between pieces, so it
-/// needs no more memory than the lines of one.
-fn take_piece<T: Taker>(
-    taker: &mut T,
-    splitter: &mut Splitter,
-    lines: &mut Vec<Line>,
-    piece: &[u8],
-) -> Result<(), Fault>
-    requires no_lines { lines.old.items ≡ [] }
-    ensures taken { (bytes : List ℕ) → splitter.old ≡ fed start bytes →
-        T.is_after taker.old (transcript_of bytes) →
-        OnOk result (T.is_after taker.new (transcript_of (bytes ++ piece.now))) }
-    ensures kept { OnOk result (T.room taker.new ≡ T.room taker.old) }
-    ensures split { (bytes : List ℕ) → splitter.old ≡ fed start bytes →
-        OnOk result (splitter.new ≡ fed start (bytes ++ piece.now)) }
-    ensures short { (bytes : List ℕ) → splitter.old ≡ fed start bytes →
-        is_too_long bytes ≡ false → OnOk result (is_too_long (bytes ++ piece.now) ≡ false) }
-    ensures refused { (bytes : List ℕ) → splitter.old ≡ fed start bytes →
-        is_too_long bytes ≡ false → IfErr result (IsPieceRefusal (bytes ++ piece.now)) }
-    ensures emptied { OnOk result (lines.new.items ≡ []) }
-{
-    splitter.feed(piece, lines)?;
-    take_lines(taker, lines)?;
-    Ok(())
+/// Takes the lines of an input one by one, until memory is refused.
+#[derive(Drop)]
+struct OneByOne<'a, T> {
+    taker: &'a mut T,
+}
+
+impl<T: Taker> LineTaker<OutOfMemory> for OneByOne<'_, T> {
+    ghost use Rattle.std.specs.Prelude.{◌≡◌, ◌++◌, List, map, ⊤};
+    ghost use Rattle.net_view.specs.Arrival.{Arrival, Received};
+
+    ghost is_after = { λ began lines now. (now.taker.ghost_name ≡ began.taker.ghost_name)
+        × (T.room now.taker.now ≡ T.room began.taker.now)
+        × ((items : List Arrival) → T.is_after began.taker.now items →
+        T.is_after now.taker.now (items ++ map Received lines)) };
+
+    ghost ends = { λ began lines refused now. ⊤ };
+
+    fn take_lines(&mut self, lines: Vec<Line>) -> Option<OutOfMemory> {
+        match take_all(self.taker, lines) {
+            Ok(()) => None,
+            Err(refused) => Some(refused),
+        }
+    }
 }
 
 /// Reads the input to its end, and answers how many lines were skipped.
@@ -91,19 +85,15 @@ pub fn read_all<T: Taker, R: Read>(
         × Consumes (R.remaining reader.old) (R.remaining reader.new) bytes
         × IsRefusal bytes fault) }
 {
-    let mut splitter = Splitter::new(alloc);
-    let mut lines = Vec::new(alloc);
     let mut buffer = vec![in alloc; 0; PIECE]?;
-    for _ in 0..READ_LIMIT {
-        match reader.read(&mut buffer) {
-            Ok(0) => return Ok(splitter.skipped()),
-            Ok(count) => take_piece(taker, &mut splitter, &mut lines, &buffer[..count])?,
-            Err(error) => {
-                if error.kind() != ErrorKind::Interrupted {
-                    return Err(Fault::of_reading(&error));
-                }
-            }
-        }
+    let mut lines = OneByOne { taker };
+    let (end, splitter) = read_from_start(alloc, &mut lines, reader, &mut buffer);
+    match end {
+        InputEnd::EndOfInput => Ok(splitter.skipped()),
+        InputEnd::ReadFault(error) => Err(Fault::of_reading(&error)),
+        InputEnd::ReadsSpent => Err(Fault::CannotRead),
+        InputEnd::TooLong => Err(Fault::LineTooLong),
+        InputEnd::OutOfMemory => Err(Fault::OutOfMemory),
+        InputEnd::Answered(refused) => Err(refused.into()),
     }
-    Err(Fault::CannotRead)
 }

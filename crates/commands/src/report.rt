@@ -1,20 +1,18 @@
 //! The report of `bnc view`. Names are the bytes that the network sent, in no particular encoding.
 
-ghost use Rattle.std.specs.Prelude.{◌≡◌, ◌≤◌, ◌+◌, ◌++◌, [], IfOk, OnOk, option_map};
+ghost use Rattle.std.specs.Prelude.{◌≡◌, ◌++◌, [], IfOk, OnOk, option_map};
 ghost use Rattle.std.specs.Option.{option_map_or};
 ghost use Rattle.irc_line.specs.Lines.{with_lf};
 ghost use Rattle.net_view.specs.Readers.{channel_shown};
-ghost use Rattle.commands.specs.Readers.{modes_shown, parts_of};
+ghost use Rattle.net_view.specs.Walks.{modes_at, parts_of};
 ghost use Rattle.commands.specs.Report.{channel_lines, channels_lines, labelled, letters_of};
 ghost use Rattle.commands.specs.Report.{member_line, member_lines, mode_lines, params_of};
 ghost use Rattle.commands.specs.Report.{report_of, skipped_lines, text_of, topic_lines};
 ghost use Rattle.irc_support.specs.Written.{symbols_of};
 
-use net_view::{Member, NetworkView, OutOfMemory};
+use irc_support::RANK_COUNT;
+use net_view::{Member, Members, Modes, NetworkView, OutOfMemory};
 use std::alloc::Global;
-
-/// How many ranks there can be.
-const RANK_COUNT: u8 = 16;
 
 /// Adds a line to a report: what it is about, and then a name or a number.
 fn push_line(report: &mut Vec<u8>, label: &[u8], text: &[u8]) -> Result<(), OutOfMemory>
@@ -38,25 +36,14 @@ fn push_labelled(report: &mut Vec<u8>, label: &[u8], text: Option<&[u8]>) -> Res
     Ok(())
 }
 
-/// The place behind that of a mode. Letters rise from place to place, so none stands at a place
-/// above it.
-fn place_behind(letter: u8, j: usize) -> usize
-    requires { j ≤ letter }
-    ensures next { result ≡ j + 1 }
-    ensures small { result ≤ 256 }
-{
-    j + 1
-}
-
 /// Adds the letters of the modes of the channel at place `i`.
 fn push_letters<V: NetworkView>(report: &mut Vec<u8>, view: &V, i: usize) -> Result<(), OutOfMemory>
     ensures { OnOk result (report.new.items
-        ≡ report.old.items ++ letters_of (modes_shown (V.view view.now) i)) }
+        ≡ report.old.items ++ letters_of (modes_at (V.view view.now) i)) }
 {
-    let mut j = 0;
-    while let Some((letter, _)) = view.mode_at(i, j) {
+    let mut modes = Modes::of(view, i);
+    while let Some((letter, _)) = modes.next() {
         report.push(letter)?;
-        j = place_behind(letter, j);
     }
     Ok(())
 }
@@ -64,12 +51,11 @@ fn push_letters<V: NetworkView>(report: &mut Vec<u8>, view: &V, i: usize) -> Res
 /// Adds the parameters of the modes of the channel at place `i`.
 fn push_params<V: NetworkView>(report: &mut Vec<u8>, view: &V, i: usize) -> Result<(), OutOfMemory>
     ensures { OnOk result (report.new.items
-        ≡ report.old.items ++ params_of (modes_shown (V.view view.now) i)) }
+        ≡ report.old.items ++ params_of (modes_at (V.view view.now) i)) }
 {
-    let mut j = 0;
-    while let Some((letter, param)) = view.mode_at(i, j) {
+    let mut modes = Modes::of(view, i);
+    while let Some((_, param)) = modes.next() {
         push_labelled(report, b" ", param)?;
-        j = place_behind(letter, j);
     }
     Ok(())
 }
@@ -77,7 +63,7 @@ fn push_params<V: NetworkView>(report: &mut Vec<u8>, view: &V, i: usize) -> Resu
 /// Adds the modes of the channel at place `i`, where it has any.
 fn push_modes<V: NetworkView>(report: &mut Vec<u8>, view: &V, i: usize) -> Result<(), OutOfMemory>
     ensures { OnOk result (report.new.items
-        ≡ report.old.items ++ text_of (mode_lines (modes_shown (V.view view.now) i))) }
+        ≡ report.old.items ++ text_of (mode_lines (modes_at (V.view view.now) i))) }
 {
     if view.mode_at(i, 0).is_none() {
         return Ok(());
@@ -144,10 +130,9 @@ fn push_members<V: NetworkView>(report: &mut Vec<u8>, view: &V, i: usize) -> Res
         ++ option_map_or (λ channel. text_of (member_lines (V.view view.now) channel))
         (channel_shown (V.view view.now) i) []) }
 {
-    for j in 0..view.member_count(i) {
-        if let Some(member) = view.member_at(i, j) {
-            push_member(report, view, &member)?;
-        }
+    let mut members = Members::of(view, i);
+    while let Some(member) = members.next() {
+        push_member(report, view, &member)?;
     }
     Ok(())
 }

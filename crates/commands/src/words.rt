@@ -16,6 +16,7 @@ use clap::builder::ValueParser;
 use clap::error::ErrorKind;
 use clap::{Arg, ArgAction, ArgMatches};
 use client_caps::{Caps, read_request};
+use history::CAPACITY_LIMIT;
 use std::alloc::{AllocError, AllocFailed, Global};
 use thiserror::Error;
 
@@ -103,7 +104,7 @@ fn history_argument<'a>(alloc: Global) -> Arg<'a>
         .long("history")
         .action(ArgAction::Set)
         .value_name("N")
-        .value_parser(ValueParser::unsigned(1, 10_000))
+        .value_parser(ValueParser::unsigned(1, CAPACITY_LIMIT as u64))
         .default_value("500")
         .help("How many of the last messages to each target are played back at most")
 }
@@ -220,7 +221,7 @@ fn history_in(text: &str) -> Option<usize>
     ensures none { IfNone result ((n : ℕ) → IsHistory text.now n → ⊥) }
 {
     match text.parse::<usize>() {
-        Ok(count) if 1 <= count && count <= 10_000 => Some(count),
+        Ok(count) if 1 <= count && count <= CAPACITY_LIMIT => Some(count),
         _ => None,
     }
 }

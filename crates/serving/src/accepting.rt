@@ -85,7 +85,12 @@ pub fn accept<R: Threads + Clock + Wait + Copy + Send + Drop + 'static>(
     listener: &TcpListener,
     shared: &Arc<Shared>,
 ) {
-    for _ in 0..shared.limits().accepts {
+    let mut accepts = 0u64;
+    for _ in rt.forever() {
+        if shared.limits().accepts.are_over(accepts) {
+            return;
+        }
+        accepts = accepts.saturating_add(1);
         match listener.accept() {
             Ok(_) if shared.is_stopping() => return,
             Ok((stream, peer)) => take_connection(rt, alloc, shared, stream, peer),

@@ -9,6 +9,7 @@ use crate::limits::Limits;
 use crate::seats::Seat;
 use crate::shared::Shared;
 use crate::watching::{At, Watching};
+use hub_threads::Worker;
 use sessions::serve_session;
 use std::alloc::Global;
 use std::io;
@@ -34,17 +35,15 @@ fn serve<'a, R: Threads + Clock + Wait + Copy + Send + Drop + 'static>(
     let (out, count) = Counted::new(at.alloc, at.connection.share()?)?;
     let mut input = ClientInput::start(at.rt, at.alloc, at.connection, seat.time)?;
     let mut watching = Watching::start(at, seat, count);
-    let served = serve_session(
-        *at.rt,
-        at.alloc,
-        &mut input,
-        out,
-        at.roster.config(),
-        at.roster.networks(),
-        &gate,
-        &SystemClock::of(at.rt),
-        &mut watching,
-    );
+    let worker = Worker {
+        rt: *at.rt,
+        alloc: at.alloc,
+        gate: &gate,
+        clock: &SystemClock::of(at.rt),
+    };
+    let config = at.roster.config();
+    let networks = at.roster.networks();
+    let served = serve_session(&worker, &mut input, out, config, networks, &mut watching);
     watching.finish(&input, &served);
     Ok(())
 }

@@ -7,11 +7,12 @@ use crate::event::Event;
 use crate::keeping::{Input, Keeping};
 use crate::limits::Limits;
 use crate::link::Link;
+use crate::network_gate::NetworkGate;
 use crate::network_input::NetworkInput;
 use crate::recalling::Recalling;
 use crate::shared::{Served, Shared};
 use crate::station::Station;
-use hub_threads::OutletEnd;
+use hub_threads::{OutletEnd, Worker};
 use std::alloc::Global;
 use std::io;
 use std::io::Write;
@@ -70,16 +71,16 @@ fn come_in<R: Wait + Clock + Net<Listener = TcpListener, Stream = TcpStream>>(
     }
 }
 
-/// What a connection to a network is served with: its two ends, and the gate of its writer, which
-/// shuts it when nothing more can be written.
+/// What a connection to a network is served with: its two ends, and its gate.
 fn ends_of<'a, R: Wait + Clock>(
     rt: &'a R,
     alloc: Global,
     connection: &'a Connection,
-    limits: &Limits,
-) -> io::Result<(Duplex<Input<'a, R>, Connection>, HangingUp)> {
-    let gate = HangingUp::on(connection.share()?);
-    let reader = Recalling::new(alloc, NetworkInput::start(rt, connection, limits)?);
+    served: &Served<'_>,
+) -> io::Result<(Duplex<Input<'a, R>, Connection>, NetworkGate)> {
+    let closing = HangingUp::on(connection.share()?);
+    let gate = NetworkGate::new(closing, served.station.slot())?;
+    let reader = Recalling::new(alloc, NetworkInput::start(rt, connection, &served.limits)?);
     let writer = connection.share()?;
     Ok((Duplex { reader, writer }, gate))
 }
@@ -122,7 +123,7 @@ fn dial<
     let Some(connection) = come_in(rt, alloc, served) else {
         return link;
     };
-    let Ok((stream, gate)) = ends_of(rt, alloc, &connection, &served.limits) else {
+    let Ok((stream, gate)) = ends_of(rt, alloc, &connection, served) else {
         let retry = served.retry();
         served.tell(rt, &Event::ConnectionWithoutMemory { retry });
         return link;
@@ -133,18 +134,14 @@ fn dial<
         served,
         connection: &connection,
     };
-    let network = served.settings;
     let clock = SystemClock::of(rt);
-    let over = serve_network(
-        *rt,
+    let worker = Worker {
+        rt: *rt,
         alloc,
-        stream,
-        network,
-        link,
-        gate,
-        &clock,
-        &mut keeping,
-    );
+        gate: &gate,
+        clock: &clock,
+    };
+    let over = serve_network(&worker, stream, served.settings, link, &mut keeping);
     let upstream::Served {
         end,
         mut link,
@@ -203,10 +200,13 @@ pub fn stay_connected<
         + 'static,
 >(rt: &R, alloc: Global, shared: &Shared, station: &Station, link: Link) {
     let mut link = link;
-    for _ in 0..shared.limits().dials {
-        if shared.is_stopping() || station.slot().is_left() {
+    let mut dials = 0u64;
+    for _ in rt.forever() {
+        let is_over = shared.limits().dials.are_over(dials);
+        if is_over || shared.is_stopping() || station.slot().is_left() {
             break;
         }
+        dials = dials.saturating_add(1);
         link = station.slot().link_of_now(rt, link);
         let (same, retry) = dial_now(rt, alloc, shared, station, link);
         link = same;

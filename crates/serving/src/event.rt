@@ -214,6 +214,13 @@ impl Event<'_> {
                 f,
                 "connection given up: begun anew, or its settings changed; dials again in {retry} s"
             ),
+            _ => self.write_of_hub(f),
+        }
+    }
+
+    /// What is told of the networks' hubs.
+    fn write_of_hub<W: fmt::Write>(&self, f: &mut fmt::Formatter<W>) -> fmt::Result {
+        match self {
             Event::NotServed => write!(
                 f,
                 "not served: out of memory or threads; reload tries again"

@@ -20,6 +20,7 @@ mod kept;
 mod limits;
 mod link;
 mod log;
+mod network_gate;
 mod network_input;
 mod pace;
 mod paced;

@@ -1,5 +1,6 @@
 //! How long things may take, and how many there may be.
 
+use hub_threads::Turns;
 use keep::Watch;
 use std::time::Duration;
 
@@ -8,7 +9,7 @@ use std::time::Duration;
 #[derive(Clone, Copy)]
 pub struct Limits {
     /// How many connections of clients are accepted.
-    pub accepts: u64,
+    pub accepts: Turns,
     /// How many connections may wait for their login at once.
     pub logins: u64,
     /// How many of these one address may have.
@@ -29,7 +30,7 @@ pub struct Limits {
     /// How the system watches the connections of clients.
     pub watch: Watch,
     /// How often a network is dialled.
-    pub dials: u64,
+    pub dials: Turns,
     /// Between the end of a connection to a network, or of the attempt at one, and the next dial.
     pub retry: Duration,
     /// For one address of a network to answer.
@@ -50,7 +51,7 @@ pub struct Limits {
     /// the log to be written.
     pub stop: Duration,
     /// How many turns a pump makes at a time.
-    pub turns: u64,
+    pub turns: Turns,
     /// How many bytes are in reserve for the other networks when one has taken all memory.
     pub reserve: usize,
     /// How many bytes a network that takes much leaves beside them.
@@ -64,7 +65,7 @@ impl Limits {
     /// Those of the program, with the time between two dials that the settings give, in seconds.
     pub fn of_program(retry: u64) -> Limits {
         Limits {
-            accepts: u64::MAX,
+            accepts: Turns::Endless,
             logins: 256,
             logins_of_address: 16,
             exempts_loopback: true,
@@ -77,7 +78,7 @@ impl Limits {
                 idle: 60,
                 limit: 60_000,
             },
-            dials: u64::MAX,
+            dials: Turns::Endless,
             retry: Duration::from_secs(retry),
             connect: Duration::from_secs(30),
             registration: Duration::from_secs(120),
@@ -87,7 +88,7 @@ impl Limits {
             burst: 1_500,
             pace: 100,
             stop: Duration::from_secs(2),
-            turns: u64::MAX,
+            turns: Turns::Endless,
             reserve: 8_388_608,
             spare: 60_000,
             packets: 256,

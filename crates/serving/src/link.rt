@@ -3,12 +3,10 @@
 ghost use Rattle.std.specs.Prelude.{◌≡◌, true};
 ghost use Rattle.history.specs.Messages.{is_capacity};
 
-use history::CapacityError;
-use hub_core::{Hub, Setup};
-use hub_threads::{Network, inlet, outlet, shared_bell};
+use hub_core::Setup;
+use hub_threads::{Network, Started};
 use quick_view::QuickView;
 use std::alloc::{AllocError, Global};
-use std::sync::Arc;
 pub use upstream::Link;
 
 /// A network of which nothing came, and its link. Its history keeps so many messages, and its rings
@@ -22,24 +20,22 @@ pub fn network_with_link(
     requires { is_capacity history ≡ true }
 {
     let packets = packets.max(1);
-    let pump = shared_bell(alloc)?;
-    let (end, items) = inlet(alloc, packets, Arc::try_clone(&pump)?)?;
-    let (upstream, outlet) = outlet(alloc, packets, Arc::try_clone(&pump)?)?;
-    let stopper = outlet.stopper()?;
     let setup = Setup {
         history,
         first_number: 1,
         first_session: 0,
     };
-    let hub = match Hub::start(alloc, QuickView::new(alloc)?, items, upstream, setup) {
-        Ok(hub) => hub,
-        Err(CapacityError::OutOfMemory) => return Err(AllocError),
-        Err(CapacityError::BadCapacity) => unreachable!(),
-    };
+    let view = QuickView::new(alloc)?;
+    let Started {
+        network,
+        inlet,
+        outlet,
+    } = Network::start(alloc, view, setup, packets, packets)?;
+    let stopper = outlet.stopper()?;
     let link = Link {
-        inlet: end,
+        inlet,
         outlet,
         stopper,
     };
-    Ok((Network::new(hub, pump), link))
+    Ok((network, link))
 }

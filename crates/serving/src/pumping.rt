@@ -9,7 +9,7 @@ use crate::slot::Slot;
 use crate::sparing::Sparing;
 use crate::station::Station;
 use hub_core::{HubError, Pumped};
-use hub_threads::{Network, Patience, PumpEnd, REFUSALS, REFUSED_REST, Refusals};
+use hub_threads::{Network, Patience, PumpEnd, REFUSALS, REFUSED_REST, Refusals, Turns};
 use net_view::NetworkView;
 use std::alloc::Global;
 use std::rt::Clock;
@@ -40,20 +40,20 @@ fn is_due<R: Clock>(rt: &R, told: Option<Instant>) -> bool {
 pub struct Pump<'a, V: NetworkView + Drop> {
     slot: &'a Slot<V>,
     sparing: Sparing<'a>,
-    turns: u64,
+    turns: Turns,
     rest: u64,
     // how often it ended for want of memory with no item taken between
     refused: u32,
 }
 
 impl<'a, V: NetworkView + Drop> Pump<'a, V> {
-    /// A pump that makes so many turns at a time, and rests for so many milliseconds after a
+    /// A pump that makes this many turns at a time, and rests for `rest` milliseconds after a
     /// refusal. When its network takes much, it leaves so many bytes beside the reserve.
     pub fn new(
         slot: &'a Slot<V>,
         reserve: &'a Reserve,
         spare: usize,
-        turns: u64,
+        turns: Turns,
         rest: u64,
     ) -> Pump<'a, V> {
         Pump {
@@ -68,25 +68,26 @@ impl<'a, V: NetworkView + Drop> Pump<'a, V> {
     /// Takes an item into the hub, where the network may take one; else it is as if memory were
     /// refused.
     fn take<R: Wait + Clock>(&mut self, rt: &R, network: &Network<V>) -> Result<Pumped, HubError> {
+        self.sparing.note_taken(self.slot.taken_beside());
         if !self.sparing.may_take(rt) {
             return Err(HubError::OutOfMemory);
         }
         let outcome = network.lock(rt).pump();
         match outcome {
-            Ok(Pumped::Taken { .. }) => self.sparing.note_taken(),
+            Ok(Pumped::Taken { .. }) => self.sparing.note_taken(1),
             Err(HubError::OutOfMemory) => self.sparing.note_refused(rt),
             Ok(Pumped::Nothing) | Err(HubError::Spent) => {}
         }
         outcome
     }
 
-    /// Makes so many turns, as `pump_loop` does; but a network that waits for memory takes nothing.
+    /// Makes this many turns, as `pump_loop` does; but a network that waits for memory takes nothing.
     fn turn<R: Wait + Clock>(
         &mut self,
         rt: &R,
         alloc: Global,
         network: &Network<V>,
-        turns: u64,
+        turns: Turns,
     ) -> PumpEnd {
         let Ok(bell) = network.pump_bell() else {
             return PumpEnd::Memory;
@@ -96,25 +97,27 @@ impl<'a, V: NetworkView + Drop> Pump<'a, V> {
         let clock = SystemClock::of(rt);
         let mut patience = Patience::new(alloc);
         let mut refusals = Refusals::none();
-        for _ in 0..turns {
-            if self.slot.is_closed() {
+        let mut made = 0u64;
+        for _ in rt.forever() {
+            if turns.are_over(made) || self.slot.is_closed() {
                 return PumpEnd::Turns;
             }
+            made = made.saturating_add(1);
             patience.give_time(rt, network, &bell, &clock);
             let outcome = self.take(rt, network);
             if let Some(end) = refusals.note(outcome) {
                 return end;
             }
             match outcome {
-                Ok(Pumped::Nothing) => bell.sleep(rt, turns),
+                Ok(Pumped::Nothing) => bell.doze(rt, turns),
                 Err(_) => bed.park_timeout(rt, Duration::from_millis(self.rest)),
                 Ok(Pumped::Taken { .. }) => {}
             }
         }
-        PumpEnd::Turns
+        unreachable!()
     }
 
-    /// Pumps so many turns, or until there is no memory or no number. After want of memory only as
+    /// Pumps for its turns, or until there is no memory or no number. After want of memory only as
     /// many turns as may be refused: then it ends so again only if no item was taken.
     pub fn run<R: Wait + Clock>(&mut self, rt: &R, alloc: Global) -> PumpEnd {
         let Some(network) = self.slot.network(rt) else {
@@ -124,7 +127,7 @@ impl<'a, V: NetworkView + Drop> Pump<'a, V> {
         let turns = if self.refused == 0 {
             self.turns
         } else {
-            u64::from(REFUSALS)
+            Turns::AtMost(u64::from(REFUSALS))
         };
         let ended = self.turn(rt, alloc, &network, turns);
         self.refused = match ended {

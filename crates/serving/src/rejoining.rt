@@ -134,14 +134,6 @@ impl JoinLines {
     }
 }
 
-/// The key of a channel, where it has one.
-fn key_of(channel: &LostChannel) -> Option<&[u8]> {
-    match &channel.key {
-        Some(key) => Some(key.as_slice()),
-        None => None,
-    }
-}
-
 /// Whether the settings join this channel, without a key, by themselves.
 fn is_in_settings(settings: &NetworkConfig, channel: &LostChannel) -> bool {
     let mut names = settings.join().iter();
@@ -162,7 +154,7 @@ fn joins<R: Wait>(rt: &R, alloc: Global, served: &Served<'_>) -> Result<Vec<u8>,
                 break;
             };
             if channel.key.is_some() == has_key && !is_in_settings(served.settings, channel) {
-                lines.add(&channel.name, key_of(channel))?;
+                lines.add(&channel.name, channel.key.as_deref())?;
             }
         }
     }

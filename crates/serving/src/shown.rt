@@ -1,6 +1,6 @@
 //! What comes from outside, as it stands in the log.
 
-use client_caps::Caps;
+use client_caps::{Cap, Caps};
 use std::fmt;
 
 /// How many bytes of a text are shown.
@@ -76,10 +76,10 @@ impl fmt::Display for Held {
             return f.write_str("no capabilities");
         }
         let mut gap = "";
-        for place in 0..6 {
-            if let (true, Some(name)) = (self.0.holds(place), Caps::name(place)) {
+        for cap in Cap::ALL {
+            if self.0.holds(cap) {
                 f.write_str(gap)?;
-                write!(f, "{}", Shown(name))?;
+                write!(f, "{}", Shown(cap.name()))?;
                 gap = " ";
             }
         }

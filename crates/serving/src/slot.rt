@@ -8,8 +8,12 @@ use hub_threads::Network;
 use net_view::NetworkView;
 use std::alloc::{AllocError, Global};
 use std::mem;
-use std::sync::atomic::{AtomicBool, Ordering};
+use std::sync::atomic::{AtomicBool, AtomicU64, Ordering};
 use std::sync::{Arc, Mutex, Wait};
+
+/// How many items the thread that reads a network takes into the hub itself at most, before the pump
+/// looks whether its network takes much.
+const BESIDE: u64 = 32;
 
 /// A client of the network.
 #[derive(Drop)]
@@ -81,6 +85,8 @@ pub struct Slot<V: NetworkView + Drop> {
     standing: Mutex<Standing<V>>,
     is_left: AtomicBool,
     is_closed: AtomicBool,
+    // how many items the thread that reads took into the hub itself since the pump was told
+    beside: AtomicU64,
 }
 
 /// A client's stay at the network that stood in a slot when it came. Dropping it ends that.
@@ -129,6 +135,7 @@ impl<V: NetworkView + Drop> Slot<V> {
             }),
             is_left: AtomicBool::new(false),
             is_closed: AtomicBool::new(false),
+            beside: AtomicU64::new(0),
         })
     }
 
@@ -136,6 +143,23 @@ impl<V: NetworkView + Drop> Slot<V> {
     pub fn network<R: Wait>(&self, rt: &R) -> Option<Arc<Network<V>>> {
         let standing = self.standing.lock(rt);
         standing.network_of_now()
+    }
+
+    /// Takes what the thread that reads has put into the hub, if the pump sleeps; whether nothing
+    /// is left, so that it may sleep on. After 32 items it is woken, and told of them.
+    pub(crate) fn pump_beside<R: Wait>(&self, rt: &R) -> bool {
+        let Some(network) = self.network(rt) else {
+            return false;
+        };
+        let most = BESIDE.saturating_sub(self.beside.load(Ordering::SeqCst));
+        let beside = network.pump_beside(rt, most);
+        self.beside.fetch_add(beside.taken, Ordering::SeqCst);
+        beside.is_done
+    }
+
+    /// How many items the thread that reads took into the hub itself since this was asked last.
+    pub(crate) fn taken_beside(&self) -> u64 {
+        self.beside.swap(0, Ordering::SeqCst)
     }
 
     /// The link of the network that stands here: this one, or that of the network begun anew since.

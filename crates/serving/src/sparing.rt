@@ -90,9 +90,9 @@ impl<'a> Sparing<'a> {
         !self.is_waiting
     }
 
-    /// Notes that an item was taken.
-    pub(crate) fn note_taken(&mut self) {
-        self.items = self.items.saturating_add(1);
+    /// Notes that this many items were taken.
+    pub(crate) fn note_taken(&mut self, items: u64) {
+        self.items = self.items.saturating_add(items);
     }
 
     /// Notes that memory was refused: one that took much lately gives way.

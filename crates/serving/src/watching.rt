@@ -317,6 +317,8 @@ impl<'a, R: Wait + Clock + Copy + Drop> Watching<'a, R> {
 
 impl<'a, R: Wait + Clock + Copy + Drop> Watcher<QuickView, Arc<Station>, ClientInput<'a, R>>
     for Watching<'a, R> {
+    ghost turns_away = { λ _ _. Unit {0} };
+
     fn logged_in(&mut self, claim: &Claim) -> bool {
         let Ok(completed) = Instant::now(self.at.rt) else {
             return false;

@@ -1,9 +1,13 @@
-use Rattle.std.proofs.Common.{◌≡◌, ◌++◌}
-use Rattle.net_view.specs.Readers.{channel_shown}
-use Rattle.commands.proofs.ReportLemmas.{members_before}
+use Rattle.std.proofs.Common.{◌≡◌, ◌++◌, length}
+use Rattle.net_view.specs.Walks.{member_parts_at}
+use Rattle.commands.proofs.ReportLemmas.{members_text}
 use Rattle.commands.proofs.report.push_members.Given as goal
 
-abbrev pub invariant-loop-j : goal.invariant-loop-j
-invariant-loop-j g l =
+abbrev pub invariant-loop-member : goal.invariant-loop-member
+invariant-loop-member g l =
     let v = g.V.NetworkView.view l.view in
-    l.report.items ≡ l.fn.report.items ++ members_before v (channel_shown v l.i) l.j
+    l.fn.report.items ++ members_text v (member_parts_at v l.i)
+    ≡ l.report.items ++ members_text v l.members
+
+abbrev pub decreases-loop-member : goal.decreases-loop-member
+decreases-loop-member g l = length l.members

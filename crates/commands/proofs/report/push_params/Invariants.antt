@@ -1,14 +1,12 @@
-use Rattle.std.proofs.Common.{◌≡◌, ◌-◌, ◌≤◌, ◌++◌, take}
-use Rattle.commands.specs.Readers.{modes_shown}
+use Rattle.std.proofs.Common.{◌≡◌, ◌++◌, length}
+use Rattle.net_view.specs.Walks.{modes_at}
 use Rattle.commands.specs.Report.{params_of}
 use Rattle.commands.proofs.report.push_params.Given as goal
 
-abbrev pub invariant-loop-letter : goal.invariant-loop-letter
-invariant-loop-letter g l = record {
-  few : l.j ≤ 256;
-  so_far : l.report.items
-      ≡ l.fn.report.items ++ params_of (take l.j (modes_shown (g.V.NetworkView.view l.view) l.i));
-}
+abbrev pub invariant-loop-param : goal.invariant-loop-param
+invariant-loop-param g l =
+    l.fn.report.items ++ params_of (modes_at (g.V.NetworkView.view l.view) l.i)
+    ≡ l.report.items ++ params_of l.modes
 
-abbrev pub decreases-loop-letter : goal.decreases-loop-letter
-decreases-loop-letter g l = 256 - l.j
+abbrev pub decreases-loop-param : goal.decreases-loop-param
+decreases-loop-param g l = length l.modes
