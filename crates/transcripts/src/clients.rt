@@ -2,7 +2,7 @@
 
 use crate::lines::line;
 use crate::views::{Rows, check_after};
-use client_caps::{Caps, Moment, image, part_lines, read_request};
+use client_caps::{Cap, Caps, Moment, image, part_lines, read_request};
 use irc_line::Line;
 use net_view::NetworkView;
 use std::alloc::Global;
@@ -69,9 +69,9 @@ fn names_held(alloc: Global, caps: Option<Caps>) -> Result<Vec<u8>, Fail> {
         text.push(b'-')?;
         return Ok(text);
     };
-    for place in 0..6 {
-        if caps.holds(place) {
-            text.extend_from_slice(Caps::name(place).ok_or("six names")?)?;
+    for cap in Cap::ALL {
+        if caps.holds(cap) {
+            text.extend_from_slice(cap.name())?;
             text.push(b' ')?;
         }
     }
@@ -100,6 +100,7 @@ fn capabilities_asked_for(rt: HostRuntime) -> Result<(), Fail> {
         let held = names_held(rt.alloc(), read_request(before, text))?;
         assert!(&rt; held.as_slice() == *wanted);
     }
+    assert!(&rt; Caps::name(5).ok_or("six names")? == Cap::Batch.name());
     assert!(&rt; Caps::name(6).is_none());
     Ok(())
 }

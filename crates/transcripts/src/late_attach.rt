@@ -11,7 +11,7 @@ mod rows;
 use crate::late_attach::known::defined_text;
 use crate::late_attach::received::{read_text, received};
 use crate::views::{show_fact, show_ranks};
-use client_caps::{Caps, read_request};
+use client_caps::{Cap, Caps, read_request};
 use irc_support::Ranks;
 use net_view::{Item, Member, NetworkView};
 use quick_view::QuickView;
@@ -39,10 +39,10 @@ fn show_member<V: NetworkView>(
     text.push(b' ')?;
     show_ranks(view, ranks, text)?;
     text.extend_from_slice(member.nick)?;
-    if caps.holds(1) && caps.holds(2) {
+    if caps.holds(Cap::ExtendedJoin) && caps.holds(Cap::AccountNotify) {
         show_fact(b'=', member.account, text)?;
     }
-    if caps.holds(3) {
+    if caps.holds(Cap::AwayNotify) {
         show_fact(b'~', member.away, text)?;
     }
     Ok(())
@@ -52,9 +52,9 @@ fn show_member<V: NetworkView>(
 fn caps_of(alloc: Global, set: u64) -> Result<Caps, Fail> {
     let mut names = Vec::new(alloc);
     let mut left = set;
-    for place in 0..6 {
+    for cap in Cap::ALL {
         if left % 2 == 1 {
-            names.extend_from_slice(Caps::name(place).ok_or("six names")?)?;
+            names.extend_from_slice(cap.name())?;
             names.push(b' ')?;
         }
         left /= 2;

@@ -5,7 +5,7 @@ use crate::coming_back::{PHONE, PLAIN, Room, come, gather, leave, let_in};
 use crate::connections::turned_away;
 use crate::refusing::Refusing;
 use crate::stage::{BURST, JOINED, attach, empty_stage, is_sent, put};
-use hub_threads::{Network, PumpEnd};
+use hub_threads::{Network, PumpEnd, Turns};
 use net_view::NetworkView;
 use quick_view::QuickView;
 use serving::{Link, Pump, Reserve, Slot, Start, begin_anew, network_with_link};
@@ -21,7 +21,7 @@ use std::thread::{JoinHandle, Threads};
 use std::time::Duration;
 
 /// How many turns a pump of these tests makes at a time: more than may be refused.
-const TURNS: u64 = 1_010;
+const TURNS: Turns = Turns::AtMost(1_010);
 
 /// A network, by a view that is refused memory for so many topics, and its link.
 fn refusing(alloc: Global, times: u64) -> Result<(Network<Refusing<QuickView>>, Link), Fail> {

@@ -2,6 +2,7 @@
 
 use crate::peer::Peer;
 use bnc_config::Config;
+use hub_threads::Turns;
 use keep::Watch;
 use serving::{Limits, Shared, accept, start_log, start_networks};
 use std::alloc::Global;
@@ -27,10 +28,10 @@ pub struct Bouncer {
     log: Option<JoinHandle<()>>,
 }
 
-/// Limits for tests: so many clients, and so many dials.
+/// Limits for tests: at most this many clients, and this many dials.
 pub fn limits(accepts: u64, dials: u64) -> Limits {
     Limits {
-        accepts,
+        accepts: Turns::AtMost(accepts),
         logins: 8,
         logins_of_address: 4,
         exempts_loopback: true,
@@ -43,7 +44,7 @@ pub fn limits(accepts: u64, dials: u64) -> Limits {
             idle: 60,
             limit: 60_000,
         },
-        dials,
+        dials: Turns::AtMost(dials),
         retry: Duration::from_millis(50),
         connect: Duration::from_secs(10),
         registration: Duration::from_secs(10),
@@ -53,7 +54,7 @@ pub fn limits(accepts: u64, dials: u64) -> Limits {
         burst: 1_000_000,
         pace: 1_000_000,
         stop: Duration::from_secs(5),
-        turns: 100,
+        turns: Turns::AtMost(100),
         reserve: 65_536,
         spare: 1_024,
         packets: 256,

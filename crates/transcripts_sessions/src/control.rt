@@ -147,6 +147,12 @@ fn reload<
     Ok(go_by(rt, alloc, &bouncer.shared, config)?)
 }
 
+/// A client hears what bob says.
+fn hears_bob(alloc: Global, network: &mut Peer, client: &mut Peer) -> Result<(), Fail> {
+    network.say(":bob!b@h PRIVMSG #c :one\r\n")?;
+    client.hears(alloc, ":bob!b@h PRIVMSG #c one\r\n")
+}
+
 /// What a network hears first of a bouncer with the nick bea.
 const FROM_BEA: &str = "CAP LS 302\r\nNICK bea\r\nUSER ann 0 * :Ann A\r\n";
 
@@ -154,7 +160,36 @@ const FROM_BEA: &str = "CAP LS 302\r\nNICK bea\r\nUSER ann 0 * :Ann A\r\n";
 const WRONG: &str = ":bnc 464 * :Password incorrect\r\n";
 
 /// A network is added, and the session at the other one goes on. Then that one is removed: its client
-/// and it are told so, and nobody logs in to it any more.
+/// and it are told so.
+fn added_and_removed<
+    R: Threads
+        + Wait
+        + Clock
+        + Net<Listener = TcpListener, Stream = TcpStream>
+        + Copy
+        + Send
+        + Sync
+        + Drop
+        + 'static,
+>(
+    rt: R,
+    alloc: Global,
+    bouncer: &Bouncer,
+    other: &TcpListener,
+    (network, phone): (&mut Peer, &mut Peer),
+) -> Result<(), Fail> {
+    let here = ("net", bouncer.network.local_addr()?, "ann");
+    let there = ("other", other.local_addr()?, "bea");
+    reload(rt, alloc, bouncer, BC, &[there, here])?;
+    let mut second = Peer::accept(other)?;
+    second.hears(alloc, FROM_BEA)?;
+    hears_bob(alloc, network, phone)?;
+    reload(rt, alloc, bouncer, BC, &[there])?;
+    phone.ends_with(alloc, "ERROR :removed\r\n")?;
+    network.ends_with(alloc, "QUIT :removed\r\n")
+}
+
+/// A network is added and the other one is removed, to which nobody logs in any more.
 fn one_more_and_one_less<
     R: Threads
         + Wait
@@ -166,18 +201,9 @@ fn one_more_and_one_less<
         + Drop
         + 'static,
 >(rt: R, alloc: Global, bouncer: &Bouncer, other: &TcpListener) -> Result<(), Fail> {
-    let here = ("net", bouncer.network.local_addr()?, "ann");
-    let there = ("other", other.local_addr()?, "bea");
     let mut network = let_in(alloc, bouncer)?;
     let mut phone = come(&rt, alloc, bouncer, PHONE, PLAIN)?;
-    reload(rt, alloc, bouncer, BC, &[there, here])?;
-    let mut second = Peer::accept(other)?;
-    second.hears(alloc, FROM_BEA)?;
-    network.say(":bob!b@h PRIVMSG #c :one\r\n")?;
-    phone.hears(alloc, ":bob!b@h PRIVMSG #c one\r\n")?;
-    reload(rt, alloc, bouncer, BC, &[there])?;
-    phone.ends_with(alloc, "ERROR :removed\r\n")?;
-    network.ends_with(alloc, "QUIT :removed\r\n")?;
+    added_and_removed(rt, alloc, bouncer, other, (&mut network, &mut phone))?;
     turned_away(&rt, alloc, bouncer.address, PHONE, WRONG)
 }
 
@@ -191,7 +217,21 @@ fn a_network_is_added_and_one_removed(rt: HostRuntime) -> Result<(), Fail> {
     Ok(())
 }
 
-/// Our nick changes: the network is left behind a word and dialled anew, and the session stays.
+/// The network is left behind a word, its client hears so, and the network is dialled anew.
+fn dialled_anew(
+    alloc: Global,
+    bouncer: &Bouncer,
+    network: &mut Peer,
+    phone: &mut Peer,
+) -> Result<(), Fail> {
+    network.ends_with(alloc, "QUIT :settings changed\r\n")?;
+    phone.hears(alloc, ":ann PART #c\r\n")?;
+    let mut again = Peer::accept(&bouncer.network)?;
+    again.hears(alloc, FROM_BEA)?;
+    leave(alloc, phone)
+}
+
+/// Our nick changes: the network is dialled anew, and the session stays.
 fn another_nick<
     R: Threads
         + Wait
@@ -207,11 +247,7 @@ fn another_nick<
     let mut phone = come(&rt, alloc, bouncer, PHONE, PLAIN)?;
     let here = ("net", bouncer.network.local_addr()?, "bea");
     reload(rt, alloc, bouncer, BC, &[here])?;
-    network.ends_with(alloc, "QUIT :settings changed\r\n")?;
-    phone.hears(alloc, ":ann PART #c\r\n")?;
-    let mut again = Peer::accept(&bouncer.network)?;
-    again.hears(alloc, FROM_BEA)?;
-    leave(alloc, &mut phone)
+    dialled_anew(alloc, bouncer, &mut network, &mut phone)
 }
 
 #[test]
@@ -225,6 +261,40 @@ fn a_network_is_dialled_by_other_settings(rt: HostRuntime) -> Result<(), Fail> {
 
 /// The login of the phone with the password `bd`.
 const BY_BD: &str = "PASS ann@phone/net:bd\r\nNICK x\r\nUSER x 0 * :x\r\n";
+
+/// The password changes while a client logs in, which is asked to come again.
+fn late_login<
+    R: Threads
+        + Wait
+        + Clock
+        + Net<Listener = TcpListener, Stream = TcpStream>
+        + Copy
+        + Send
+        + Sync
+        + Drop
+        + 'static,
+>(rt: R, alloc: Global, bouncer: &Bouncer) -> Result<(), Fail> {
+    let mut late = Peer::dial(&rt, bouncer.address)?;
+    late.say("PING x\r\nPASS ann@pc/net:bc\r\n")?;
+    late.hears(alloc, ":bnc PONG bnc x\r\n")?;
+    let here = ("net", bouncer.network.local_addr()?, "ann");
+    reload(rt, alloc, bouncer, BD, &[here])?;
+    late.say("NICK x\r\nUSER x 0 * :x\r\n")?;
+    late.ends_with(alloc, "ERROR :settings changed, log in again\r\n")
+}
+
+/// Two clients hear what bob says, and go.
+fn hear_and_leave(
+    alloc: Global,
+    network: &mut Peer,
+    phone: &mut Peer,
+    pad: &mut Peer,
+) -> Result<(), Fail> {
+    hears_bob(alloc, network, phone)?;
+    pad.hears(alloc, ":bob!b@h PRIVMSG #c one\r\n")?;
+    leave(alloc, pad)?;
+    leave(alloc, phone)
+}
 
 /// The password changes: a login that began before it is asked to come again, later ones go by the
 /// new one, and a session stays.
@@ -241,20 +311,10 @@ fn another_password<
 >(rt: R, alloc: Global, bouncer: &Bouncer) -> Result<(), Fail> {
     let mut network = let_in(alloc, bouncer)?;
     let mut phone = come(&rt, alloc, bouncer, PHONE, PLAIN)?;
-    let mut late = Peer::dial(&rt, bouncer.address)?;
-    late.say("PING x\r\nPASS ann@pc/net:bc\r\n")?;
-    late.hears(alloc, ":bnc PONG bnc x\r\n")?;
-    let here = ("net", bouncer.network.local_addr()?, "ann");
-    reload(rt, alloc, bouncer, BD, &[here])?;
-    late.say("NICK x\r\nUSER x 0 * :x\r\n")?;
-    late.ends_with(alloc, "ERROR :settings changed, log in again\r\n")?;
+    late_login(rt, alloc, bouncer)?;
     turned_away(&rt, alloc, bouncer.address, PHONE, WRONG)?;
     let mut pad = come(&rt, alloc, bouncer, BY_BD, PLAIN)?;
-    network.say(":bob!b@h PRIVMSG #c :one\r\n")?;
-    phone.hears(alloc, ":bob!b@h PRIVMSG #c one\r\n")?;
-    pad.hears(alloc, ":bob!b@h PRIVMSG #c one\r\n")?;
-    leave(alloc, &mut pad)?;
-    leave(alloc, &mut phone)
+    hear_and_leave(alloc, &mut network, &mut phone, &mut pad)
 }
 
 #[test]
@@ -278,12 +338,14 @@ fn status_and_stop<
         + Sync
         + Drop
         + 'static,
->(rt: R, alloc: Global, bouncer: &Bouncer) -> Result<bool, Fail> {
-    let mut network = let_in(alloc, bouncer)?;
-    let mut phone = come(&rt, alloc, bouncer, PHONE, PLAIN)?;
-    network.say(":bob!b@h PRIVMSG #c :one\r\n")?;
-    phone.hears(alloc, ":bob!b@h PRIVMSG #c one\r\n")?;
-    settle(alloc, &mut network)?;
+>(
+    rt: R,
+    alloc: Global,
+    bouncer: &Bouncer,
+    (network, phone): (&mut Peer, &mut Peer),
+) -> Result<bool, Fail> {
+    hears_bob(alloc, network, phone)?;
+    settle(alloc, network)?;
     let mut words = b"status\nstop\n".as_slice();
     let is_told = obey(rt, alloc, &bouncer.shared, &mut words, &Gone { alloc });
     bouncer.shared.begin_stop();
@@ -291,6 +353,23 @@ fn status_and_stop<
     phone.ends_with(alloc, "ERROR :bnc stops\r\n")?;
     network.ends_with(alloc, "QUIT :bnc stops\r\n")?;
     Ok(is_told)
+}
+
+/// A client comes, and the words are obeyed.
+fn obeyed<
+    R: Threads
+        + Wait
+        + Clock
+        + Net<Listener = TcpListener, Stream = TcpStream>
+        + Copy
+        + Send
+        + Sync
+        + Drop
+        + 'static,
+>(rt: R, alloc: Global, bouncer: &Bouncer) -> Result<bool, Fail> {
+    let mut network = let_in(alloc, bouncer)?;
+    let mut phone = come(&rt, alloc, bouncer, PHONE, PLAIN)?;
+    status_and_stop(rt, alloc, bouncer, (&mut network, &mut phone))
 }
 
 /// Whether a text stands in another.
@@ -311,7 +390,7 @@ fn the_status_and_the_end(rt: HostRuntime) -> Result<(), Fail> {
         ..limits(1, 1)
     };
     let bouncer = start_unlogged(rt, alloc, limits)?;
-    assert!(rt; status_and_stop(rt, alloc, &bouncer)?);
+    assert!(rt; obeyed(rt, alloc, &bouncer)?);
     let log = bouncer.logged(&rt, alloc)?;
     assert!(rt; stands_in(log.as_slice(), b"; sessions 1; messages 1, 43 bytes\n"));
     assert!(rt; stands_in(log.as_slice(), b"session ended: bnc stops; "));

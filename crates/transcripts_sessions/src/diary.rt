@@ -61,6 +61,8 @@ impl Diary {
 }
 
 impl<V: NetworkView + Drop, I: Read> Watcher<V, Arc<Network<V>>, I> for Diary {
+    ghost turns_away = { λ _ _. Unit {0} };
+
     fn logged_in(&mut self, claim: &Claim) -> bool {
         let noted = push_claimed(&mut self.text, b"logged in ", claim);
         self.note(noted.is_ok());

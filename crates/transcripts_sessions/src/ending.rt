@@ -2,7 +2,7 @@
 
 use crate::stage::{attach, stage_after};
 use crate::streams::Sink;
-use hub_threads::{Ended, FreeGate, Network, WriteFault, end_session, spawn_writer};
+use hub_threads::{Ended, FreeGate, Network, Turns, WriteFault, end_session, spawn_writer};
 use net_view::NetworkView;
 use std::alloc::Global;
 use std::sync::Wait;
@@ -37,7 +37,7 @@ fn ended_on<V: NetworkView + Drop, R: Threads + Wait + Send + Copy + 'static>(
     out: Sink,
 ) -> Result<Ended<Sink>, Fail> {
     let (id, end) = attach(&rt, alloc, network, b"", 8)?;
-    let writer = spawn_writer(rt, end, out, FreeGate, u64::MAX)?;
+    let writer = spawn_writer(rt, end, out, FreeGate, Turns::Endless)?;
     match end_session(&rt, network, id, writer) {
         Ok(ended) => Ok(ended),
         Err(_) => Err("no session")?,
@@ -87,7 +87,7 @@ fn is_refused_by<V: NetworkView + Drop, R: Threads + Wait + Send + Copy + 'stati
     network: &Network<V>,
 ) -> Result<bool, Fail> {
     let (_, end) = attach(&rt, alloc, network, b"", 8)?;
-    let writer = spawn_writer(rt, end, Sink::whole(alloc), FreeGate, 1)?;
+    let writer = spawn_writer(rt, end, Sink::whole(alloc), FreeGate, Turns::AtMost(1))?;
     Ok(end_session(&rt, network, 99, writer).is_err())
 }
 

@@ -9,7 +9,7 @@ use crate::streams::Sink;
 use hub_core::Said;
 use hub_ends::SessionId;
 use hub_threads::{
-    FreeGate, Network, OutletEnd, Stopper, Writer, Written, end_session, spawn_writer,
+    FreeGate, Network, OutletEnd, Stopper, Turns, Writer, Written, end_session, spawn_writer,
 };
 use net_view::NetworkView;
 use std::alloc::Global;
@@ -34,7 +34,7 @@ fn held<V: NetworkView + Drop, R: Threads + Wait + Clock + Send + Copy + Drop + 
         rt,
         door: Arc::try_clone(door)?,
     };
-    let writer = spawn_writer(rt, end, Sink::whole(alloc), gate, u64::MAX)?;
+    let writer = spawn_writer(rt, end, Sink::whole(alloc), gate, Turns::Endless)?;
     if !door.is_reached(&rt) {
         return Err("the writer writes")?;
     }
@@ -62,7 +62,7 @@ fn bytes_of_another<V: NetworkView + Drop, R: Threads + Wait + Send + Copy + 'st
     network: &Network<V>,
 ) -> Result<Vec<u8>, Fail> {
     let (id, end) = attach(&rt, alloc, network, b"", 8)?;
-    let writer = spawn_writer(rt, end, Sink::whole(alloc), FreeGate, u64::MAX)?;
+    let writer = spawn_writer(rt, end, Sink::whole(alloc), FreeGate, Turns::Endless)?;
     bytes_at_end(&rt, network, id, writer)
 }
 
@@ -211,7 +211,7 @@ fn started<R: Threads + Wait + Send + Copy + 'static>(
     end: OutletEnd,
 ) -> Result<(Stopper, Writer<Sink>), Fail> {
     let stopper = end.stopper()?;
-    let writer = spawn_writer(rt, end, Sink::whole(alloc), FreeGate, u64::MAX)?;
+    let writer = spawn_writer(rt, end, Sink::whole(alloc), FreeGate, Turns::Endless)?;
     Ok((stopper, writer))
 }
 
@@ -227,7 +227,7 @@ fn bytes_of_two<V: NetworkView + Drop, R: Threads + Wait + Send + Copy + 'static
     let Written { end, out, .. } = writer.join(&rt);
     put_and_take(&rt, alloc, stage, &MESSAGES)?;
     end.go_on();
-    let writer = spawn_writer(rt, end, out, FreeGate, u64::MAX)?;
+    let writer = spawn_writer(rt, end, out, FreeGate, Turns::Endless)?;
     bytes_at_end(&rt, &stage.network, id, writer)
 }
 

@@ -1,8 +1,10 @@
 //! What a hub does of scripts of events: what is answered, what clients and the network are sent.
 
 mod between;
+mod chance;
 pub(crate) mod events;
 mod garden;
+mod model;
 pub(crate) mod replies;
 pub(crate) mod scripts;
 mod state_parts;

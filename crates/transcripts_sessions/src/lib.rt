@@ -1,12 +1,15 @@
-//! Tests alone: handshakes with clients and networks, scripts of events over a hub, and clients
-//! over streams in memory; hubs between threads, with readers and writers that fail and workers
-//! that are held; and the bouncer over the loopback range, with a small network and clients of the
-//! tests' own. Each of these ends by itself: every wait has a limit, and all that is served is
-//! counted.
+//! Tests alone: messages that are kept, handshakes with clients and networks, scripts of events over
+//! a hub, and clients over streams in memory; hubs between threads, with readers and writers that
+//! fail and workers that are held; the bouncer over the loopback range, with a small network and
+//! clients of the tests' own; and what the program reads and prints: settings files, the words of
+//! its command line and its reports. Each of these ends by itself: every wait has a limit, and all
+//! that is served is counted.
 #![tactic(auto)]
 
 #[cfg(test)]
 mod begun_anew;
+#[cfg(test)]
+mod beside;
 #[cfg(test)]
 mod bouncer;
 #[cfg(test)]
@@ -29,6 +32,10 @@ mod given_back;
 mod held;
 #[cfg(test)]
 mod hub_rows;
+#[cfg(test)]
+mod kept_messages;
+#[cfg(test)]
+mod kept_targets;
 #[cfg(test)]
 mod log_lines;
 #[cfg(test)]
@@ -56,6 +63,8 @@ mod registration;
 #[cfg(test)]
 mod rejoining;
 #[cfg(test)]
+mod reports;
+#[cfg(test)]
 mod reserve;
 #[cfg(test)]
 mod rings;
@@ -65,6 +74,8 @@ mod scenes;
 mod served;
 #[cfg(test)]
 mod session;
+#[cfg(test)]
+mod settings_file;
 #[cfg(test)]
 mod slow;
 #[cfg(test)]

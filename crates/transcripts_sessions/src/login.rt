@@ -2,7 +2,7 @@
 
 mod words;
 
-use client_caps::{Caps, answer, read_request};
+use client_caps::{Cap, Caps, answer, read_request};
 use irc_line::Line;
 use sessions::{Claim, Login, LoginStep};
 use std::alloc::{AllocError, Global};
@@ -34,10 +34,10 @@ pub(crate) fn texts(alloc: Global, lines: &[Line]) -> Result<Vec<u8>, Fail> {
 
 /// The names of capabilities, each behind a space.
 pub(crate) fn push_caps(out: &mut Vec<u8>, caps: Caps) -> Result<(), AllocError> {
-    for place in 0..6 {
-        if caps.holds(place) {
+    for cap in Cap::ALL {
+        if caps.holds(cap) {
             out.push(b' ')?;
-            out.extend_from_slice(Caps::name(place).unwrap_or(b""))?;
+            out.extend_from_slice(cap.name())?;
         }
     }
     Ok(())

@@ -5,7 +5,7 @@ use crate::served::{self, LOGIN, is_cut, many_questions, serves_over};
 use crate::stage::{BURST, JOINED, attach, stage_after};
 use hub_ends::Inlet;
 use hub_threads::{
-    FreeGate, ReadEnd, RingInlet, WriteFault, inlet, read_in, shared_bell, spawn_writer,
+    FreeGate, ReadEnd, RingInlet, Turns, WriteFault, inlet, read_in, shared_bell, spawn_writer,
 };
 use irc_line::Splitter;
 use net_view::Item;
@@ -49,7 +49,7 @@ fn no_byte_is_taken(rt: HostRuntime) -> Result<(), Fail> {
         bytes: Vec::new(alloc),
         in_all: 100,
     };
-    let writer = spawn_writer(rt, end, out, FreeGate, u64::MAX)?;
+    let writer = spawn_writer(rt, end, out, FreeGate, Turns::Endless)?;
     let written = writer.join(&rt);
     assert!(&rt; written.outcome == Err(WriteFault));
     assert!(&rt; written.out.bytes.as_slice() == &BURST[..100]);
@@ -92,7 +92,7 @@ fn a_session_that_is_not_flushed(rt: HostRuntime) -> Result<(), Fail> {
     let alloc = rt.alloc();
     let stage = stage_after(&rt, alloc, 1, &JOINED)?;
     let (_, end) = attach(&rt, alloc, &stage.network, b"", 8)?;
-    let writer = spawn_writer(rt, end, Unflushed::new(alloc, 0), FreeGate, u64::MAX)?;
+    let writer = spawn_writer(rt, end, Unflushed::new(alloc, 0), FreeGate, Turns::Endless)?;
     let written = writer.join(&rt);
     assert!(&rt; written.outcome == Err(WriteFault));
     assert!(&rt; written.out.bytes.as_slice() == BURST);

@@ -2,6 +2,7 @@
 
 use crate::bouncer::{Bouncer, limits, start, start_unlogged};
 use crate::coming_back::{PHONE, PLAIN, Room, come, gather, leave, let_in};
+use crate::peer::Peer;
 use serving::Limits;
 use std::alloc::Global;
 use std::net::{Net, TcpListener, TcpStream};
@@ -34,17 +35,28 @@ fn lines(alloc: Global, source: &str, middle: &str) -> Result<String, Fail> {
     Ok(text)
 }
 
+/// The lines are said, with a PING in their middle.
+fn say_lines(alloc: Global, peer: &mut Peer) -> Result<(), Fail> {
+    let said = lines(alloc, "", "PING :half\r\n")?;
+    peer.say(said.as_str())
+}
+
+/// The lines are heard, each behind this text.
+fn hears_lines(alloc: Global, peer: &mut Peer, source: &str) -> Result<(), Fail> {
+    let wanted = lines(alloc, source, "")?;
+    peer.hears(alloc, wanted.as_str())
+}
+
 /// One client says lines at once, with a PING among them. The network and the other client hear the
 /// lines in order, and the PING is answered. Answers after how long it was, and all was heard.
 fn timed<R: Clock>(rt: &R, alloc: Global, room: &mut Room) -> Result<(Duration, Duration), Fail> {
-    let said = lines(alloc, "", "PING :half\r\n")?;
     let began = Instant::now(rt)?;
-    room.phone.say(said.as_str())?;
+    say_lines(alloc, &mut room.phone)?;
     room.phone.hears(alloc, ":bnc PONG bnc half\r\n")?;
     let half = began.elapsed(rt)?;
-    room.network.hears(alloc, lines(alloc, "", "")?.as_str())?;
+    hears_lines(alloc, &mut room.network, "")?;
     let whole = began.elapsed(rt)?;
-    room.desk.hears(alloc, lines(alloc, ":ann ", "")?.as_str())?;
+    hears_lines(alloc, &mut room.desk, ":ann ")?;
     leave(alloc, &mut room.phone)?;
     leave(alloc, &mut room.desk)?;
     Ok((half, whole))
@@ -105,7 +117,23 @@ fn all_clients_of_a_network_have_one_pace(rt: HostRuntime) -> Result<(), Fail> {
     Ok(())
 }
 
-/// A client asks a hundred times, says one thing and quits: what counts are 20 bytes.
+/// A client asks so.
+fn ask(alloc: Global, phone: &mut Peer, number: u32) -> Result<(), Fail> {
+    let question = format!(in alloc; "ping :{number}\r\n")?;
+    phone.say(question.as_str())
+}
+
+/// A client asks a hundred times; the answers.
+fn ask_often(alloc: Global, phone: &mut Peer) -> Result<String, Fail> {
+    let mut answers = String::new(alloc);
+    for number in 0..100 {
+        ask(alloc, phone, number)?;
+        answers.push_str(format!(in alloc; ":bnc PONG bnc {number}\r\n")?.as_str())?;
+    }
+    Ok(answers)
+}
+
+/// A client comes, asks, says one thing and quits: what counts are 20 bytes.
 fn ask_and_quit<R: Net<Listener = TcpListener, Stream = TcpStream>>(
     rt: &R,
     alloc: Global,
@@ -113,11 +141,12 @@ fn ask_and_quit<R: Net<Listener = TcpListener, Stream = TcpStream>>(
 ) -> Result<(), Fail> {
     let mut network = let_in(alloc, bouncer)?;
     let mut phone = come(rt, alloc, bouncer, PHONE, PLAIN)?;
-    let mut answers = String::new(alloc);
-    for number in 0..100 {
-        phone.say(format!(in alloc; "ping :{number}\r\n")?.as_str())?;
-        answers.push_str(format!(in alloc; ":bnc PONG bnc {number}\r\n")?.as_str())?;
-    }
+    asks_and_quits(alloc, &mut network, &mut phone)
+}
+
+/// A client asks a hundred times, says one thing and quits.
+fn asks_and_quits(alloc: Global, network: &mut Peer, phone: &mut Peer) -> Result<(), Fail> {
+    let mut answers = ask_often(alloc, phone)?;
     phone.say("PRIVMSG #c :hi all\r\n@a=b :x PING y\r\nPONG z\r\nCAP LIST\r\nQUIT :bye\r\n")?;
     network.hears(alloc, "PRIVMSG #c :hi all\r\n")?;
     answers.push_str(":bnc PONG bnc y\r\n:bnc CAP ann LIST :\r\n")?;

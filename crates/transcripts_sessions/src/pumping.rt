@@ -10,7 +10,7 @@ use crate::stage::{
 use hub_core::Said;
 use hub_ends::SessionId;
 use hub_threads::{
-    FreeGate, Network, OutletEnd, Patience, PumpEnd, SharedBell, pump_loop, shared_bell,
+    FreeGate, Network, OutletEnd, Patience, PumpEnd, SharedBell, Turns, pump_loop, shared_bell,
 };
 use net_view::NetworkView;
 use quick_view::QuickView;
@@ -28,7 +28,15 @@ fn pump<V: NetworkView + Drop, R: Wait>(
     network: &Network<V>,
     turns: u64,
 ) -> PumpEnd {
-    pump_loop(rt, alloc, network, &FreeGate, &Still, turns, 0)
+    pump_loop(
+        rt,
+        alloc,
+        network,
+        &FreeGate,
+        &Still,
+        Turns::AtMost(turns),
+        0,
+    )
 }
 
 /// Each item is sent to each session, and the turns go on while nothing comes.
@@ -164,10 +172,26 @@ fn time_is_given_once<V: NetworkView + Drop, R: AllocGlobal + Wait + Abort>(
     // behind these it has room for two packets of twelve
     put_messages(rt.alloc(), stage, 9)?;
     let clock = Stepping::new();
-    let ended = pump_loop(rt, rt.alloc(), &stage.network, &FreeGate, &clock, 9, 0);
+    let ended = pump_loop(
+        rt,
+        rt.alloc(),
+        &stage.network,
+        &FreeGate,
+        &clock,
+        Turns::AtMost(9),
+        0,
+    );
     assert!(rt; ended == PumpEnd::Turns && clock.looks() == 0);
     put_messages(rt.alloc(), stage, 3)?;
-    let ended = pump_loop(rt, rt.alloc(), &stage.network, &FreeGate, &clock, 3, 0);
+    let ended = pump_loop(
+        rt,
+        rt.alloc(),
+        &stage.network,
+        &FreeGate,
+        &clock,
+        Turns::AtMost(3),
+        0,
+    );
     assert!(rt; ended == PumpEnd::Turns && clock.looks() == 51);
     Ok(())
 }
@@ -185,7 +209,8 @@ pub(crate) fn who_reads_is_given_time<V: NetworkView + Drop, R: AllocGlobal + Wa
 ) -> Result<(), Fail> {
     let (_, mut end) = attach(rt, rt.alloc(), &stage.network, b"", 4)?;
     let bell = shared_bell(rt.alloc())?;
-    time_is_given_again(rt, stage, &mut end, &bell)
+    let mut patience = Patience::new(rt.alloc());
+    time_is_given_again(rt, stage, &mut end, &bell, &mut patience)
 }
 
 /// A session with room for four packets is given time, takes a packet, and is given time again.
@@ -194,9 +219,9 @@ fn time_is_given_again<V: NetworkView + Drop, R: AllocGlobal + Wait + Abort>(
     stage: &mut Stage<V>,
     end: &mut OutletEnd,
     bell: &SharedBell,
+    patience: &mut Patience,
 ) -> Result<(), Fail> {
     let clock = Stepping::new();
-    let mut patience = Patience::new(rt.alloc());
     put_and_pump(rt, stage, &THREE_MESSAGES, 3)?;
     patience.give_time(rt, &stage.network, bell, &clock);
     assert!(rt; clock.looks() == 51);
@@ -297,7 +322,15 @@ fn refused_on_and_on<V: NetworkView + Drop, R: AllocGlobal + Wait + Abort>(
     let (_, mut end) = attach(rt, rt.alloc(), &stage.network, b"", 8)?;
     put(rt.alloc(), &mut stage.end, &TOPIC)?;
     let gate = Steps::new();
-    let ended = pump_loop(rt, rt.alloc(), &stage.network, &gate, &Still, 5_000, 0);
+    let ended = pump_loop(
+        rt,
+        rt.alloc(),
+        &stage.network,
+        &gate,
+        &Still,
+        Turns::AtMost(5_000),
+        0,
+    );
     assert!(rt; ended == PumpEnd::Memory && gate.count() == 1_000);
     the_topic_is_sent_late(rt, &stage.network, &mut end, 2)
 }
@@ -316,7 +349,7 @@ fn a_pump_rests_after_each_refusal(rt: HostRuntime) -> Result<(), Fail> {
         &stage.network,
         &FreeGate,
         &Still,
-        u64::MAX,
+        Turns::Endless,
         1,
     );
     assert!(rt; ended == PumpEnd::Memory);
@@ -337,7 +370,15 @@ pub(crate) fn no_number_is_left<V: NetworkView + Drop, R: AllocGlobal + Wait + A
 ) -> Result<(), Fail> {
     put_messages(rt.alloc(), stage, 2)?;
     let gate = Steps::new();
-    let ended = pump_loop(rt, rt.alloc(), &stage.network, &gate, &Still, 5_000, 0);
+    let ended = pump_loop(
+        rt,
+        rt.alloc(),
+        &stage.network,
+        &gate,
+        &Still,
+        Turns::AtMost(5_000),
+        0,
+    );
     assert!(rt; ended == PumpEnd::Spent && gate.count() == 2);
     assert!(rt; pump(rt, rt.alloc(), &stage.network, 9) == PumpEnd::Spent);
     Ok(())

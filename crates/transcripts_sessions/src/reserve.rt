@@ -1,7 +1,7 @@
 //! Memory in reserve: what a network takes when there is none beside it.
 
 use crate::stage::{BURST, JOINED, Stage, attach, put, put_and_take, quick_stage, waiting_text};
-use hub_threads::{OutletEnd, PumpEnd};
+use hub_threads::{OutletEnd, PumpEnd, Turns};
 use quick_view::QuickView;
 use serving::{Pump, Reserve, Slot};
 use std::alloc::Global;
@@ -50,7 +50,7 @@ fn takes<R: AllocGlobal + Wait + Clock>(
 ) -> Result<(PumpEnd, usize), Fail> {
     let (slot, mut session) = network_that_heard(rt, rt.alloc(), messages)?;
     let reserve = Reserve::new(rt.alloc(), reserve);
-    let mut pump = Pump::new(&slot, &reserve, spare, turns, 0);
+    let mut pump = Pump::new(&slot, &reserve, spare, Turns::AtMost(turns), 0);
     let ended = pump.run(rt, rt.alloc());
     Ok((ended, messages_in(rt.alloc(), &mut session)?))
 }
@@ -83,7 +83,7 @@ fn a_network_that_takes_much_while_there_is_no_memory(rt: HostRuntime) -> Result
     let alloc = rt.alloc();
     let (slot, mut session) = network_that_heard(&rt, alloc, 100)?;
     let reserve = Reserve::new(alloc, TOO_MUCH);
-    let mut pump = Pump::new(&slot, &reserve, TOO_MUCH, 1_100, 0);
+    let mut pump = Pump::new(&slot, &reserve, TOO_MUCH, Turns::AtMost(1_100), 0);
     let began = Instant::now(&rt)?;
     let ended = pump.run(&rt, alloc);
     if !is_fast(&rt, began)? {

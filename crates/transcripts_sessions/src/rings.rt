@@ -7,7 +7,7 @@ use crate::stage::{
 };
 use crate::streams::Pieces;
 use hub_threads::{
-    FreeGate, InletEnd, Network, OutletEnd, PumpEnd, ReadEnd, Reading, pump_loop, read_in,
+    FreeGate, InletEnd, Network, OutletEnd, PumpEnd, ReadEnd, Reading, Turns, pump_loop, read_in,
 };
 use irc_line::Splitter;
 use net_view::NetworkView;
@@ -176,7 +176,7 @@ fn pump<R: Threads + Wait + Send + Copy + 'static>(
 
 /// Pumps without an end to its turns.
 fn pumped<V: NetworkView + Drop, R: Wait>(rt: &R, alloc: Global, network: &Network<V>) -> PumpEnd {
-    pump_loop(rt, alloc, network, &FreeGate, &Still, u64::MAX, 0)
+    pump_loop(rt, alloc, network, &FreeGate, &Still, Turns::Endless, 0)
 }
 
 /// Whether the network has told of a channel.

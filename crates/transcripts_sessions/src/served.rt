@@ -4,7 +4,7 @@ use crate::gates::Still;
 use crate::slow_streams::{Gone, flag};
 use crate::stage::{Stage, stage_after};
 use bnc_config::{Config, Place};
-use hub_threads::{FreeGate, Network, OutletEnd};
+use hub_threads::{FreeGate, Network, OutletEnd, Worker};
 use quick_view::QuickView;
 use sessions::{Served, Unwatched, serve_session};
 use std::alloc::Global;
@@ -103,17 +103,13 @@ fn served_text<R: Threads + Wait + Send + Copy + 'static>(
     mut said: &[u8],
 ) -> Result<Vec<u8>, Fail> {
     let writer = Vec::new(alloc);
-    let served = serve_session(
+    let worker = Worker {
         rt,
         alloc,
-        &mut said,
-        writer,
-        config,
-        networks,
-        &FreeGate,
-        &Still,
-        &mut Unwatched,
-    )?;
+        gate: &FreeGate,
+        clock: &Still,
+    };
+    let served = serve_session(&worker, &mut said, writer, config, networks, &mut Unwatched)?;
     let mut out = told(alloc, &served)?;
     push_sent(sent, &mut out)?;
     Ok(out)
@@ -222,17 +218,13 @@ pub(crate) fn serves_over<
     let config = Config::read(alloc, SETTINGS.as_bytes())?;
     let (network, _sent) = network_of(&rt, alloc, &HEARD)?;
     let networks = of_ann(alloc, network)?;
-    Ok(serve_session(
+    let worker = Worker {
         rt,
         alloc,
-        &mut said,
-        out,
-        &config,
-        &networks,
-        &FreeGate,
-        &Still,
-        &mut Unwatched,
-    )?)
+        gate: &FreeGate,
+        clock: &Still,
+    };
+    Ok(serve_session(&worker, &mut said, out, &config, &networks, &mut Unwatched)?)
 }
 
 /// Serves a client that says this, over this writer; whether its session was cut.

@@ -4,7 +4,7 @@ use crate::peer::{Peer, same};
 use crate::served::{BURST, HEARD, LOGIN};
 use crate::stage::put;
 use bnc_config::{Config, Place};
-use hub_threads::{FreeGate, Network, OutletEnd, PumpEnd, pump_loop};
+use hub_threads::{FreeGate, Network, OutletEnd, PumpEnd, Turns, Worker, pump_loop};
 use quick_view::QuickView;
 use serving::{Link, SystemClock, network_with_link};
 use sessions::{Served, Unwatched, serve_session};
@@ -27,7 +27,15 @@ fn take_all<R: Wait + Clock>(
     alloc: Global,
     network: &Network<QuickView>,
 ) -> Result<(), Fail> {
-    match pump_loop(rt, alloc, network, &FreeGate, &SystemClock::of(rt), 8, 0) {
+    match pump_loop(
+        rt,
+        alloc,
+        network,
+        &FreeGate,
+        &SystemClock::of(rt),
+        Turns::AtMost(8),
+        0,
+    ) {
         PumpEnd::Turns => Ok(()),
         PumpEnd::Memory | PumpEnd::Spent => Err("the pump ended".into()),
     }
@@ -75,19 +83,16 @@ fn serve<R: Threads + Wait + Clock + Send + Copy + 'static>(
     networks: &[(Place, Arc<Network<QuickView>>)],
 ) -> Result<(), Fail> {
     let out = stream.try_clone()?;
-    let clock = SystemClock::of(&rt);
+    let host = rt;
+    let clock = SystemClock::of(&host);
     let input = &mut &stream;
-    let served = serve_session(
+    let worker = Worker {
         rt,
         alloc,
-        input,
-        out,
-        config,
-        networks,
-        &FreeGate,
-        &clock,
-        &mut Unwatched,
-    )?;
+        gate: &FreeGate,
+        clock: &clock,
+    };
+    let served = serve_session(&worker, input, out, config, networks, &mut Unwatched)?;
     match served {
         Served::Ended(ended) if ended.token && ended.written == Ok(BURST.len() as u64) => Ok(()),
         _ => Err("the session has not ended with all written".into()),

@@ -8,7 +8,7 @@ use crate::streams::Sink;
 use hub_core::Said;
 use hub_ends::{Outlet, SessionId};
 use hub_threads::{
-    FreeGate, PumpEnd, RingOutlet, end_session, outlet, pump_loop, shared_bell, spawn_writer,
+    FreeGate, PumpEnd, RingOutlet, Turns, end_session, outlet, pump_loop, shared_bell, spawn_writer,
 };
 use irc_line::Line;
 use net_view::NetworkView;
@@ -93,7 +93,7 @@ fn who_reads_slowly_gets_all(rt: HostRuntime) -> Result<(), Fail> {
         bytes: Vec::new(alloc),
         calls: 0,
     };
-    let writer = spawn_writer(rt, end, slow, FreeGate, u64::MAX)?;
+    let writer = spawn_writer(rt, end, slow, FreeGate, Turns::Endless)?;
     assert!(rt; is_offered(&rt, &mut outlet, long_packet(alloc, 2_000)?));
     offer_lines(&rt, alloc, &mut outlet, 2_000, 3_000)?;
     door.let_go();
@@ -124,7 +124,15 @@ fn flood<V: NetworkView + Drop, R: AllocGlobal + Wait + Abort>(
     let clock = Dragging::new();
     for _ in 0..times {
         put(rt.alloc(), &mut stage.end, &[text])?;
-        let ended = pump_loop(rt, rt.alloc(), &stage.network, &FreeGate, &clock, 1, 0);
+        let ended = pump_loop(
+            rt,
+            rt.alloc(),
+            &stage.network,
+            &FreeGate,
+            &clock,
+            Turns::AtMost(1),
+            0,
+        );
         assert!(rt; ended == PumpEnd::Turns);
     }
     Ok(())
@@ -154,9 +162,9 @@ fn who_stops_is_cut_and_another_is_not(rt: HostRuntime) -> Result<(), Fail> {
         bytes: Vec::new(alloc),
         calls: 0,
     };
-    let writer = spawn_writer(rt, end, slow, FreeGate, u64::MAX)?;
+    let writer = spawn_writer(rt, end, slow, FreeGate, Turns::Endless)?;
     let (other, end) = attach(&rt, alloc, &stage.network, b"", 256)?;
-    let others = spawn_writer(rt, end, Sink::whole(alloc), FreeGate, u64::MAX)?;
+    let others = spawn_writer(rt, end, Sink::whole(alloc), FreeGate, Turns::Endless)?;
     let text = long_message(alloc)?;
     flood(&rt, &mut stage, &text, 40)?;
     assert!(rt; asked(&rt, &stage, id)? == Said::Answered);
@@ -184,7 +192,7 @@ fn who_is_cut_has_thirty_seconds_left(rt: HostRuntime) -> Result<(), Fail> {
     let (mut outlet, end) = outlet(alloc, 8, shared_bell(alloc)?)?;
     assert!(rt; is_offered(&rt, &mut outlet, long_packet(alloc, 2_000)?));
     drop(outlet);
-    let writer = spawn_writer(rt, end, Dripping { calls: 0 }, FreeGate, u64::MAX)?;
+    let writer = spawn_writer(rt, end, Dripping { calls: 0 }, FreeGate, Turns::Endless)?;
     let written = writer.join(&rt);
     assert!(rt; written.outcome.is_err());
     assert_eq!(rt; written.out.calls, 750);

@@ -5,14 +5,14 @@ ghost use Rattle.std.specs.Prelude.{◌≡◌, ◌<◌};
 ghost use Rattle.net_view.specs.View.{empty_view};
 
 use client_caps::{Caps, Moment, read_request};
-use hub_core::{Hub, Pumped, Said, Setup};
+use hub_core::{Pumped, Said, Setup};
 use hub_ends::SessionId;
-use hub_threads::{InletEnd, Network, OutletEnd, inlet, outlet, shared_bell};
+use hub_threads::{InletEnd, Network, OutletEnd, Started};
 use irc_line::Line;
 use net_view::{Item, NetworkView};
 use quick_view::QuickView;
 use std::alloc::Global;
-use std::sync::{Arc, Wait};
+use std::sync::Wait;
 use std::test::Fail;
 
 /// A network, the end that its lines are put into, and the end that what it sends to the network is
@@ -53,19 +53,20 @@ pub(crate) fn empty_stage<V: NetworkView + Drop>(
     requires view { V.view view ≡ empty_view }
     requires items { 0 < items }
 {
-    let pump = shared_bell(alloc)?;
-    let (end, inlet) = inlet(alloc, items, Arc::try_clone(&pump)?)?;
-    let (upstream, upward) = outlet(alloc, 8, Arc::try_clone(&pump)?)?;
     let setup = Setup {
         history: 10,
         first_number,
         first_session: 0,
     };
-    let hub = Hub::start(alloc, view, inlet, upstream, setup)?;
+    let Started {
+        network,
+        inlet,
+        outlet,
+    } = Network::start(alloc, view, setup, items, 8)?;
     Ok(Stage {
-        network: Network::new(hub, pump),
-        end,
-        upward,
+        network,
+        end: inlet,
+        upward: outlet,
     })
 }
 
@@ -96,7 +97,7 @@ fn has_room(end: &mut InletEnd, line: Line<Global>) -> bool {
 }
 
 /// The line of this text.
-fn line(alloc: Global, text: &[u8]) -> Result<Line<Global>, Fail> {
+pub(crate) fn line(alloc: Global, text: &[u8]) -> Result<Line<Global>, Fail> {
     Ok(Line::<Global>::read(alloc, text)?.ok_or("the text is a line")?)
 }
 
@@ -165,7 +166,7 @@ pub(crate) fn attach<V: NetworkView + Drop, R: Wait>(
 ) -> Result<(SessionId, OutletEnd), Fail>
     requires { 0 < capacity }
 {
-    let (out, end) = outlet(alloc, capacity, network.pump_bell()?)?;
+    let (out, end) = network.outlet(alloc, capacity)?;
     let caps = read_request(Caps::none(), names).ok_or("taken")?;
     match network.lock(rt).attach(caps, None, out) {
         Ok(id) => Ok((id, end)),

@@ -9,7 +9,7 @@ use crate::streams::{Scribe, page};
 use bnc_config::Config;
 use client_caps::Moment;
 use hub_core::AttachError;
-use hub_threads::{FreeGate, InletEnd, Network};
+use hub_threads::{FreeGate, InletEnd, Network, Worker};
 use irc_line::Line;
 use net_view::Item;
 use quick_view::QuickView;
@@ -51,9 +51,13 @@ fn is_noted<R: AllocGlobal + Threads + Wait + Abort + Send + Copy + Drop + 'stat
     };
     let mut diary = Diary::new(alloc, answers);
     let mut input = said.as_bytes();
-    let served = serve_session(
-        rt, alloc, &mut input, out, &config, &networks, &FreeGate, &Still, &mut diary,
-    )?;
+    let worker = Worker {
+        rt,
+        alloc,
+        gate: &FreeGate,
+        clock: &Still,
+    };
+    let served = serve_session(&worker, &mut input, out, &config, &networks, &mut diary)?;
     assert!(rt; word(&served) == want.0, "{said}");
     assert!(rt; page.lock(&rt).as_slice() == want.1.as_bytes(), "{said}");
     assert!(rt;
@@ -190,19 +194,16 @@ fn a_session_that_its_network_cut_ends_at_its_next_line(rt: HostRuntime) -> Resu
         calls: 0,
     };
     let mut diary = Diary::new(alloc, Answers::Serve);
-    let served = serve_session(
+    let worker = Worker {
         rt,
         alloc,
-        &mut client,
-        Gone {
-            dropped: flag(alloc)?,
-        },
-        &config,
-        &networks,
-        &FreeGate,
-        &Still,
-        &mut diary,
-    )?;
+        gate: &FreeGate,
+        clock: &Still,
+    };
+    let out = Gone {
+        dropped: flag(alloc)?,
+    };
+    let served = serve_session(&worker, &mut client, out, &config, &networks, &mut diary)?;
     let noted = format!(in alloc; "{LENT}attached: 0\nended: Cut\n")?;
     assert!(&rt; word(&served) == "cut" && client.calls == 2);
     assert!(&rt; diary.is_whole && diary.text.as_slice() == noted.as_str().as_bytes());

@@ -3,6 +3,7 @@
 use super::{Client, show_member};
 use crate::lines::line;
 use crate::views::{quick_of, show_channel};
+use client_caps::Cap;
 use irc_line::Line;
 use irc_support::{Change, Ranks, Support, changes, names};
 use net_view::{Member, NetworkView};
@@ -167,7 +168,7 @@ fn known_ranks(
     member: &Member<'_>,
 ) -> Result<Ranks, Fail> {
     let mut ranks = member.ranks;
-    if client.caps.holds(0) {
+    if client.caps.holds(Cap::MultiPrefix) {
         return Ok(ranks);
     }
     for rank in 0..16 {

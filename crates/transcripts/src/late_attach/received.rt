@@ -5,7 +5,7 @@ ghost use Rattle.net_view.specs.View.{empty_view};
 
 use super::{Client, show_member};
 use crate::views::show_channel;
-use client_caps::{Caps, Moment};
+use client_caps::{Cap, Caps, Moment};
 use hub_core::Setup;
 use hub_ends::MemoryOutlet;
 use hub_runs::{Event, Run, run};
@@ -26,12 +26,12 @@ fn up(alloc: Global, text: &[u8]) -> Result<Event, AllocError> {
 /// The request by which a client with some capabilities comes to hold others.
 fn request(alloc: Global, old: Caps, new: Caps) -> Result<Event, Fail> {
     let mut text = Vec::from_slice(alloc, b"CAP REQ :")?;
-    for place in 0..6 {
-        if old.holds(place) != new.holds(place) {
-            if old.holds(place) {
+    for cap in Cap::ALL {
+        if old.holds(cap) != new.holds(cap) {
+            if old.holds(cap) {
                 text.push(b'-')?;
             }
-            text.extend_from_slice(Caps::name(place).ok_or("six names")?)?;
+            text.extend_from_slice(cap.name())?;
             text.push(b' ')?;
         }
     }

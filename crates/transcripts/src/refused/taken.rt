@@ -3,7 +3,7 @@
 use super::{Heap, MANY};
 use crate::views::{item, quick_of, shown, tape_of};
 use net_view::{Item, NetworkView};
-use quick_view::QuickView;
+use quick_view::TableView;
 use std::alloc::Global;
 use std::process::Abort;
 use std::test::Fail;
@@ -87,7 +87,7 @@ fn by_tape<R: AllocGlobal + Abort>(rt: &R, nth: u64, wanted: &[u8]) -> Result<bo
 /// The nth allocation of the view by tables is refused; whether one was.
 fn by_tables<R: AllocGlobal + Abort>(rt: &R, nth: u64, wanted: &[u8]) -> Result<bool, Fail> {
     let heap = Heap::none(rt.alloc());
-    let mut view = QuickView::new(&heap)?;
+    let mut view = TableView::new(&heap)?;
     heap.refuse(nth);
     take_all(rt, &mut view, wanted)?;
     Ok(heap.has_refused())

@@ -1,6 +1,7 @@
 //! What a hub is asked for between its steps.
 
 use crate::hub_rows::events::{WELCOME, events_of};
+use crate::hub_rows::model::check_run;
 use crate::hub_rows::replies::{push_count, push_line};
 use hub_core::{LostChannel, Setup};
 use hub_runs::{MemoryHub, run};
@@ -58,13 +59,19 @@ fn push_answers(text: &mut Vec<u8>, hub: &mut MemoryHub<QuickView>) -> Result<()
     push_channels(text, hub)
 }
 
+/// What a hub answers.
+fn answers_of(alloc: Global, hub: &mut MemoryHub<QuickView>) -> Result<Vec<u8>, Fail> {
+    let mut text = Vec::new(alloc);
+    push_answers(&mut text, hub)?;
+    Ok(text)
+}
+
 /// The answers after a script.
 fn asked_after(alloc: Global, script: &[&[u8]]) -> Result<Vec<u8>, Fail> {
     let events = events_of(alloc, &WELCOME, script)?;
     let mut run = run(alloc, QuickView::new(alloc)?, SETUP, UPSTREAM, &events)?;
-    let mut text = Vec::new(alloc);
-    push_answers(&mut text, &mut run.world.hub)?;
-    Ok(text)
+    check_run(alloc, &run, SETUP, UPSTREAM, &events)?;
+    answers_of(alloc, &mut run.world.hub)
 }
 
 /// The answers after a script are these.
@@ -121,13 +128,19 @@ fn lost(rt: HostRuntime) -> Result<(), Fail> {
     )
 }
 
+/// What a hub has to join again.
+fn channels_of(alloc: Global, hub: &MemoryHub<QuickView>) -> Result<Vec<u8>, Fail> {
+    let mut text = Vec::new(alloc);
+    push_channels(&mut text, hub)?;
+    Ok(text)
+}
+
 /// What is to be joined again after a script.
 fn lost_after(alloc: Global, script: &[&[u8]]) -> Result<Vec<u8>, Fail> {
     let events = events_of(alloc, &WELCOME, script)?;
     let run = run(alloc, QuickView::new(alloc)?, SETUP, UPSTREAM, &events)?;
-    let mut text = Vec::new(alloc);
-    push_channels(&mut text, &run.world.hub)?;
-    Ok(text)
+    check_run(alloc, &run, SETUP, UPSTREAM, &events)?;
+    channels_of(alloc, &run.world.hub)
 }
 
 /// A connection was lost while we were on #a and #c, and the network took us in again. Then come

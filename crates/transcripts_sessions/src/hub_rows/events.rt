@@ -66,6 +66,9 @@ fn event(alloc: Global, text: &[u8]) -> Result<Event, Fail> {
     if word == b"attach".as_slice() {
         return attach(alloc, rest);
     }
+    if word == b"sent".as_slice() {
+        return Ok(Event::Drained(None, number(rest)? as usize));
+    }
     let (id, behind) = cut(b' ', rest);
     let id = number(id)?;
     if word == b"detach".as_slice() {

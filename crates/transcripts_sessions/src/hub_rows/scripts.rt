@@ -4,6 +4,7 @@ ghost use Rattle.std.specs.Prelude.{◌≡◌, IfOk};
 ghost use Rattle.net_view.specs.View.{empty_view, view_back};
 
 use crate::hub_rows::events::{WELCOME, events_of};
+use crate::hub_rows::model::check_run;
 use crate::hub_rows::replies::{push_count, push_line, push_reply, stop_text};
 use hub_core::Setup;
 use hub_ends::MemoryOutlet;
@@ -88,7 +89,8 @@ pub(crate) fn told<V: NetworkView + Drop>(
     Ok(text)
 }
 
-/// What comes of a script behind a beginning over this view.
+/// What comes of a script behind a beginning over this view. It fails where that is not what the
+/// events say.
 fn story_text<V: NetworkView + Drop>(
     alloc: Global,
     view: V,
@@ -105,6 +107,7 @@ fn story_text<V: NetworkView + Drop>(
     };
     let events = events_of(alloc, before, script)?;
     let run = run(alloc, view, setup, story.upstream, &events)?;
+    check_run(alloc, &run, setup, story.upstream, &events)?;
     told(alloc, &run, story)
 }
 

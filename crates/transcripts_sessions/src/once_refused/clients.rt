@@ -8,7 +8,7 @@ use crate::stage::is_sent;
 use crate::streams::{Page, Pieces, Scribe, page};
 use bnc_config::{Config, Place};
 use hub_core::AttachError;
-use hub_threads::{FreeGate, Network, OutletEnd};
+use hub_threads::{FreeGate, Network, OutletEnd, Worker};
 use quick_view::QuickView;
 use sessions::{OutOfMemory, Served, Unwatched, serve_session};
 use std::alloc::Global;
@@ -44,17 +44,13 @@ fn serves<R: Threads + Wait + Send + Copy + Drop + 'static>(
         page: Arc::try_clone(page)?,
     };
     let mut said = Pieces::new(alloc, &SAID, None)?;
-    Ok(serve_session(
+    let worker = Worker {
         rt,
         alloc,
-        &mut said,
-        out,
-        config,
-        networks,
-        &FreeGate,
-        &Still,
-        &mut Unwatched,
-    ))
+        gate: &FreeGate,
+        clock: &Still,
+    };
+    Ok(serve_session(&worker, &mut said, out, config, networks, &mut Unwatched))
 }
 
 /// What was written to a client for which memory was refused: a beginning of what is written to it

@@ -23,6 +23,22 @@ pub(crate) const SETUP: Setup = Setup {
 /// How many packets may wait for the network.
 pub(crate) const UPSTREAM: usize = 8;
 
+/// Fails if a script was stopped.
+fn is_done(stopped_by: Option<Stop>) -> Result<(), Fail> {
+    match stopped_by {
+        None => Ok(()),
+        Some(Stop::Memory) => Err(OutOfMemory)?,
+        Some(_) => Err("the script was stopped")?,
+    }
+}
+
+/// The hub of a run.
+fn hub_of<V: NetworkView + Drop>(run: Run<V>) -> MemoryHub<V> {
+    let Run { world, .. } = run;
+    let World { hub, .. } = world;
+    hub
+}
+
 /// The hub after a welcome, a JOIN of ours and a script. It is the test's own: if memory is refused
 /// for it, the test ends.
 pub(crate) fn hub_after<V: NetworkView + Drop>(
@@ -33,18 +49,9 @@ pub(crate) fn hub_after<V: NetworkView + Drop>(
     requires { V.view view ≡ empty_view }
 {
     let events = events_of(alloc, &WELCOME, script)?;
-    let Run {
-        world,
-        stopped_by,
-        ..
-    } = run(alloc, view, SETUP, UPSTREAM, &events)?;
-    match stopped_by {
-        None => {}
-        Some(Stop::Memory) => return Err(OutOfMemory)?,
-        Some(_) => return Err("the script was stopped")?,
-    }
-    let World { hub, .. } = world;
-    Ok(hub)
+    let run = run(alloc, view, SETUP, UPSTREAM, &events)?;
+    is_done(run.stopped_by)?;
+    Ok(hub_of(run))
 }
 
 /// How many packets the first two sessions were sent, if they are there, and the network.

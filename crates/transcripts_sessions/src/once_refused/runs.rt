@@ -13,7 +13,7 @@ use crate::hub_rows::{
     STORY,
 };
 use hub_ends::MemoryOutlet;
-use hub_runs::{Run, StartError, Stop, run};
+use hub_runs::{Event, Run, StartError, Stop, run};
 use net_view::NetworkView;
 use quick_view::QuickView;
 use std::process::Abort;
@@ -89,6 +89,38 @@ fn is_stopped<V: NetworkView + Drop, R: AllocGlobal + Abort>(
     is_a_beginning(rt, run, row)
 }
 
+/// What came of a run is right; whether all events are done.
+fn is_whole<V: NetworkView + Drop, R: AllocGlobal + Abort>(
+    rt: &R,
+    run: &Run<V>,
+    row: Row<'_>,
+) -> Result<bool, Fail> {
+    if run.stopped_by.is_none() {
+        is_full(rt, run, row)?;
+        return Ok(true);
+    }
+    is_stopped(rt, run, row)?;
+    Ok(false)
+}
+
+/// A script is run over a view; whether all its events are done.
+fn runs_whole<V: NetworkView + Drop, R: AllocGlobal + Abort>(
+    rt: &R,
+    view: V,
+    events: &[Event],
+    row: Row<'_>,
+) -> Result<bool, Fail>
+    requires { V.view view ≡ empty_view }
+{
+    match run(rt.alloc(), view, SETUP, UPSTREAM, events) {
+        Ok(run) => is_whole(rt, &run, row),
+        Err(error) => {
+            assert!(rt; error == StartError::OutOfMemory);
+            Ok(false)
+        }
+    }
+}
+
 /// A script is run over a view; if memory was refused, it is run again over another one.
 fn runs_again<V: NetworkView + Drop, R: AllocGlobal + Abort>(
     rt: &R,
@@ -100,14 +132,8 @@ fn runs_again<V: NetworkView + Drop, R: AllocGlobal + Abort>(
     requires other { V.view other ≡ empty_view }
 {
     let events = events_of(rt.alloc(), &WELCOME, row.script)?;
-    match run(rt.alloc(), view, SETUP, UPSTREAM, &events) {
-        Ok(run) => {
-            if run.stopped_by.is_none() {
-                return is_full(rt, &run, row);
-            }
-            is_stopped(rt, &run, row)?;
-        }
-        Err(error) => assert!(rt; error == StartError::OutOfMemory),
+    if runs_whole(rt, view, &events, row)? {
+        return Ok(());
     }
     let run = again(run(rt.alloc(), other, SETUP, UPSTREAM, &events))?;
     is_full(rt, &run, row)

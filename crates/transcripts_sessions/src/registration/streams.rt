@@ -74,11 +74,10 @@ const IS_WELCOMED_COMMANDS: [&[u8]; 3] = [b"001", b"005", b"376"];
 /// How many lines the welcome came with, and the lines once the rest has come.
 fn is_welcomed<R: AllocGlobal + Abort>(
     rt: &R,
-    welcomed: Welcomed,
+    welcomed: &mut Welcomed,
     rest: &[u8],
     lines_of_welcome: usize,
 ) -> Result<(), Fail> {
-    let mut welcomed = welcomed;
     assert!(rt; welcomed.lines.len() == lines_of_welcome);
     welcomed.splitter.feed(rest, &mut welcomed.lines)?;
     welcomed
@@ -105,9 +104,9 @@ fn registers_by<R: AllocGlobal + Abort>(
         kind: ErrorKind::Other,
     };
     let mut sent = Vec::new(rt.alloc());
-    let welcomed = registers(rt.alloc(), &mut reader, &mut sent)??;
+    let mut welcomed = registers(rt.alloc(), &mut reader, &mut sent)??;
     assert!(rt; sent.as_slice() == SENT.as_bytes());
-    is_welcomed(rt, welcomed, reader.left, lines_of_welcome)
+    is_welcomed(rt, &mut welcomed, reader.left, lines_of_welcome)
 }
 
 #[test]

@@ -1,6 +1,6 @@
 //! The messages that are kept of each target.
 
-use crate::lines::line;
+use crate::stage::line;
 use history::{Entry, History};
 use std::alloc::Global;
 use std::process::Abort;

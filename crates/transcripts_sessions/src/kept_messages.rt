@@ -1,6 +1,6 @@
 //! The messages that are kept, and the marks of client names.
 
-use crate::lines::line;
+use crate::stage::line;
 use client_caps::{Moment, time_text};
 use history::{AdmitError, CapacityError, Entry, History, Marks, PushError, is_message};
 use std::alloc::Global;
