@@ -32,4 +32,6 @@ pub fn time(bnc: &str, file: &str) {
     assert!(listens, "it never listened");
     tell("listening_ms", began.elapsed().as_secs_f64() * 1e3);
     child.kill().unwrap();
+    // the next one listens at the same port
+    child.wait().unwrap();
 }
