@@ -1,14 +1,11 @@
 -- What a binary search has found so far.
 use Rattle.block_list.proofs.Words
-use Words.{◌≡◌, ◌⊎◌, ℕ, ◌+◌, ◌<◌, ◌≤◌, List, length, refl, sym, ap, subst, ◌∙◌, arith}
-use Words.{inl, inr, HoldsAt}
-use Rattle.std.specs.Prelude.{true, false}
-use Rattle.std.specs.declared.cmp.Ordering.{Ordering}
-use Rattle.std.specs.declared.cmp.Ordering.TheVariants.{Less, Greater}
-use Rattle.std.specs.Ordering.{is_gt, ordering_index}
-use Rattle.std.specs.List.{AllWithin}
-use Rattle.std.specs.List.Sorted.{IsBinarySearchResult, IsNonDecreasingBy}
-use Rattle.std.proofs.Common.{Err}
+use Words.{◌≡◌, ◌⊎◌, ℕ, ◌+◌, ◌<◌, ◌≤◌, List, length, refl, sym, ap, subst, ◌∙◌, arith, inl, inr}
+use Words.{HoldsAt}
+use Rattle.std.{proofs.Common.Err, specs.List.{AllWithin, Sorted.IsBinarySearchResult}}
+use Rattle.std.specs.{List.Sorted.IsNonDecreasingBy, Ordering.{is_gt, ordering_index}}
+use Rattle.std.specs.{Prelude.{false, true}, declared.cmp.Ordering.{Ordering, TheVariants.Greater}}
+use Rattle.std.specs.declared.cmp.Ordering.TheVariants.{Less}
 
 top : (o : Ordering) → 2 ≤ ordering_index o → o ≡ Greater
 top o h = grind arith

@@ -3,14 +3,12 @@ use Rattle.block_list.proofs.Words
 use Words.{◌≡◌, ◌∙◌, ℕ, suc, ◌+◌, ◌*◌, ◌-◌, ◌/◌, ◌%◌, ◌<◌, ◌≤◌, List, [], ◌∷◌, ◌++◌, length, refl}
 use Words.{sym, ap, arith, get_or, set, take, drop, insert, remove, length-append, VecDeque}
 use Words.{deque_len, Shelf, shelf, items_of, share, IsTiled}
-use Rattle.std.specs.VecDeque.{deque_with_item}
-use Rattle.std.proofs.Common.{length-set, min}
-use Rattle.std.proofs.lemmas.List.{get_or-append_right, get_or_append_left, set-append_left}
-use Rattle.std.proofs.lemmas.List.{set-append_right, set_split, set-get_or, length-take}
-use Rattle.std.proofs.lemmas.List.{get_or-take, get_or_read}
-use Rattle.std.proofs.lemmas.List.Concat.{flat_map-append}
+use Rattle.std.proofs.{Common.{length-set, min}, lemmas.List.Concat.flat_map-append}
 use Rattle.std.proofs.lemmas.List.Edits.{insert-append_left, insert-append_right}
 use Rattle.std.proofs.lemmas.List.Edits.{remove-append_left, remove-append_right}
+use Rattle.std.proofs.lemmas.List.{get_or-append_right, get_or-take, get_or_append_left}
+use Rattle.std.proofs.lemmas.List.{get_or_read, length-take, set-append_left, set-append_right}
+use Rattle.std.{proofs.lemmas.List.{set-get_or, set_split}, specs.VecDeque.deque_with_item}
 
 module _ {X Z : Type 0} where
   -- how many items blocks have that have their share

@@ -1,14 +1,11 @@
 -- Whether too many bytes stand without LF, found from the last LF within reach.
-use Rattle.std.proofs.Common.{◌≡◌, ℕ, suc, ◌+◌, ◌-◌, ◌<◌, ◌≤◌, Bool, true, false, List, [], ◌∷◌}
-use Rattle.std.proofs.Common.{◌++◌, length, take, drop, get_or, refl, ap, sym, ◌∙◌, arith}
-use Rattle.std.proofs.Common.{length-append, ◌==◌, inl, inr, zero-add, add-one, drop-cons}
-use Rattle.std.specs.Prelude.{nat_lt, ◌||◌}
-use Rattle.std.proofs.lemmas.Bool.{lt-ltb, le-ltb, ltb-false, eqb-true, false_from_ne_true}
-use Rattle.std.proofs.lemmas.List.{length-take-le, get_or-take, take-append-drop}
-use Rattle.std.specs.List.{list_any}
-use Rattle.irc_line.specs.Lines.{HasNoLf, segments_of, rest_of, the_last, line_limit, is_too_long}
-use Rattle.irc_line.proofs.ParamScan.{sure}
-use Rattle.irc_line.proofs.Segments.{segments-some, segments-behind}
+use Rattle.irc_line.{proofs.Segments.{segments-behind, segments-some}, specs.Lines.HasNoLf}
+use Rattle.irc_line.specs.Lines.{is_too_long, line_limit, rest_of, segments_of, the_last}
+use Rattle.std.proofs.Common.{Bool, List, [], add-one, arith, drop, drop-cons, false, get_or}
+use Rattle.std.proofs.Common.{length, length-append, suc, take, true, ℕ, ◌++◌, ◌+◌, ◌-◌, ◌<◌, ◌==◌}
+use Rattle.std.proofs.{Common.{◌∷◌, ◌≡◌, ◌≤◌}, lemmas.Bool.{Decides.nat_tests, false_from_ne_true}}
+use Rattle.std.proofs.lemmas.List.{get_or-take, length-take-le, take-append-drop}
+use Rattle.std.specs.{List.list_any, Prelude.{nat_lt, ◌||◌}}
 
 abbrev pub is_long : List ℕ → Bool
 is_long segment = nat_lt line_limit (length segment)
@@ -28,89 +25,56 @@ is_too_long-behind held bytes clean =
       segments-behind held bytes s.first s.others clean s.whole,
       s.whole,
       length-append held s.first,
-    ) refl
-
-any-some : (bytes : List ℕ) → list_any is_long (segments_of bytes) ≡ is_over 0 (segments_of bytes)
-any-some bytes = let s = segments-some bytes in rw (s.whole, zero-add (length s.first)) refl
+    )
 
 -- an LF within reach
 over-lf : (held : ℕ) (bytes : List ℕ) → held ≤ line_limit →
     is_over held ([] ∷ segments_of bytes) ≡ is_over 0 (segments_of bytes)
-over-lf held bytes h = let short : nat_lt line_limit (held + 0) ≡ false =
-    le-ltb _ _ (omega arith) in rw short (any-some bytes)
+over-lf held bytes h = let s = segments-some bytes in grind (arith, nat_tests)
 
 -- a byte that is no LF
 over-byte : (held b : ℕ) (segment : List ℕ) (others : List (List ℕ)) →
     is_over held ((b ∷ segment) ∷ others) ≡ is_over (held + 1) (segment ∷ others)
-over-byte held b segment others =
-    let same : held + suc (length segment) ≡ held + 1 + length segment = omega arith in rw same refl
+over-byte held b segment others = grind (arith, nat_tests)
 
 -- few bytes are not too many
 pub over-short : (held : ℕ) (bytes : List ℕ) → held + length bytes ≤ line_limit →
     is_over held (segments_of bytes) ≡ false
-over-short held [] h = let short : nat_lt line_limit (held + 0) ≡ false =
-    le-ltb _ _ (omega arith) in rw short refl
+over-short held [] h = grind (arith, nat_tests)
 over-short held (b ∷ bs) h =
-    elim (sure (b == 10)) [
-      | inl e ↦ rw e (over-lf held bs (omega arith) ∙ over-short 0 bs (omega arith))
-      | inr e ↦ let s = segments-some bs in
-          rw (e, s.whole)
-          (over-byte held b s.first s.others
-          ∙ rw s.whole at (over-short (held + 1) bs (omega arith)))
-    ]
+    let s = segments-some bs in
+    grind (arith, nat_tests, over-lf, over-byte, over-short 0 bs, over-short (held + 1) bs)
 
 -- many bytes without LF are too many
 pub over-long : (held : ℕ) (front after : List ℕ) → HasNoLf front →
     line_limit < held + length front → is_over held (segments_of (front ++ after)) ≡ true
 over-long held front after clean h =
     let s = segments-some after in
-    let long : nat_lt line_limit (held + length (front ++ s.first)) ≡ true =
-    lt-ltb _ _ (omega (arith, length-append front s.first)) in
-    rw (segments-behind front after s.first s.others clean s.whole, long) refl
+    let cut = segments-behind front after s.first s.others clean s.whole in
+    grind (arith, nat_tests, length-append)
 
 -- what stands before an LF within reach is passed over
 pub over-passed : (held : ℕ) (front after : List ℕ) → held + length front ≤ line_limit →
     is_over held (segments_of (front ++ 10 ∷ after)) ≡ is_over 0 (segments_of after)
 over-passed held [] after h = over-lf held after (omega arith)
 over-passed held (b ∷ bs) after h =
-    elim (sure (b == 10)) [
-      | inl e ↦
-          rw e (over-lf held (bs ++ 10 ∷ after) (omega arith)
-          ∙ over-passed 0 bs after (omega arith))
-      | inr e ↦
-          let s = segments-some (bs ++ 10 ∷ after) in
-          rw (e, s.whole)
-          (over-byte held b s.first s.others
-          ∙ rw s.whole at (over-passed (held + 1) bs after (omega arith)))
-    ]
+    let s = segments-some (bs ++ 10 ∷ after) in
+    grind (arith, nat_tests, over-lf, over-byte, over-passed 0 bs after, over-passed (held + 1) bs after)
 
 -- where nothing is too long, the rest is not
-either-false : (a b : Bool) → (a || b) ≡ false → (a ≡ false) × (b ≡ false)
-either-false true b e = cc
-either-false false b e = (refl, e)
-
 last-short : (first : List ℕ) (others : List (List ℕ)) → list_any is_long (first ∷ others) ≡ false →
-    is_long (the_last (first ∷ others)) ≡ false
-last-short first [] e = (either-false (is_long first) false e).0
-last-short first (next ∷ others) e =
-    last-short next others (either-false (is_long first) (list_any is_long (next ∷ others)) e).1
+    length (the_last (first ∷ others)) ≤ line_limit
+last-short first [] e = grind (arith, nat_tests)
+last-short first (next ∷ others) e = grind (arith, last-short next others)
 
 pub rest-short : (bytes : List ℕ) → is_too_long bytes ≡ false → length (rest_of bytes) ≤ line_limit
-rest-short bytes e =
-    let s = segments-some bytes in
-    let long : list_any is_long (s.first ∷ s.others) ≡ false = rw s.whole at e in
-    let short : is_long (rest_of bytes) ≡ false = rw s.whole (last-short s.first s.others long) in
-    ltb-false line_limit (length (rest_of bytes)) short
+rest-short bytes e = let s = segments-some bytes in grind (arith, last-short)
 
 -- bytes none of which is an LF, by their places
 pub no-lf : (bytes : List ℕ) → ((k : ℕ) → k < length bytes → (get_or bytes k 0 == 10) ≡ false) →
     HasNoLf bytes
 no-lf [] h = tt
-no-lf (b ∷ bs) h = (
-  h 0 (omega arith),
-  no-lf bs (λ k l. let at : get_or (b ∷ bs) (suc k) 0 ≡ get_or bs k 0 = refl in
-      rw (← at) (h (suc k) (omega arith))),
-)
+no-lf (b ∷ bs) h = (h 0 (omega arith), no-lf bs (λ k l. h (suc k) (omega arith)))
 
 -- no LF within reach, and more bytes than that
 pub over-none : (room : ℕ) (left : List ℕ) → room ≤ line_limit → room < length left →
@@ -130,19 +94,9 @@ pub over-last : (room last : ℕ) (left : List ℕ) → room ≤ line_limit → 
     room < length left → (get_or (take (room + 1) left) last 0 == 10) ≡ true →
     is_over 0 (segments_of (drop (last + 1) left)) ≡ is_over (line_limit - room) (segments_of left)
 over-last room last left reach near more lf =
-    let at : get_or left last 0 ≡ 10 = rw (get-take room last left near) at (eqb-true _ _ lf) in
+    let at : get_or left last 0 ≡ 10 = grind (arith, nat_tests, get_or-take) in
     let parts : take last left ++ 10 ∷ drop (last + 1) left ≡ left =
-    split-there left last (omega arith) at in
-    let size : length (take last left) ≡ last = length-take-le last left (omega arith) in
-    sym (ap (λ bytes. is_over (line_limit - room) (segments_of bytes)) (sym parts)
-    ∙ over-passed (line_limit - room) (take last left) (drop (last + 1) left) (omega arith))
-  where
-    get-take : (room last : ℕ) (left : List ℕ) → last ≤ room →
-        get_or (take (room + 1) left) last 0 ≡ get_or left last 0
-    get-take room last left near = get_or-take (room + 1) left last 0 (omega arith)
-
-    split-there : (bytes : List ℕ) (n : ℕ) → n < length bytes → get_or bytes n 0 ≡ 10 →
-        take n bytes ++ 10 ∷ drop (n + 1) bytes ≡ bytes
-    split-there bytes n l at =
-        rw (add-one n, ← at)
-        (ap (λ r. take n bytes ++ r) (sym (drop-cons bytes n 0 l)) ∙ take-append-drop n bytes)
+    rw (add-one last, ← at, ← drop-cons left last 0 (omega arith)) (take-append-drop last left) in
+    let size = length-take-le last left (omega arith) in
+    let passed = over-passed (line_limit - room) (take last left) (drop (last + 1) left) in
+    grind arith

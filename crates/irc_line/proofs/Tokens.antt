@@ -1,98 +1,60 @@
 -- Tokens and gaps at the front of a text.
-use Rattle.std.proofs.Common.{◌≡◌, ℕ, suc, ◌+◌, ◌-◌, ◌≤◌, Bool, true, false, List, [], ◌∷◌, ◌++◌}
-use Rattle.std.proofs.Common.{length, take, drop, refl, ap, sym, ◌∙◌, arith, cond, Some, None}
-use Rattle.std.proofs.Common.{append_assoc, length-append, ◌==◌}
-use Rattle.std.proofs.lemmas.Bool.{ltb-false}
-use Rattle.std.proofs.lemmas.List.{take_all, drop_all, drop_at}
-use Rattle.std.specs.Prelude.{not}
-use Rattle.std.specs.List.{position_or_len, position}
-use Rattle.irc_line.specs.Line.{is_space}
-use Rattle.irc_line.specs.Reading.{token, after_token, trimmed, unless_empty, after_marked}
-use Rattle.irc_line.specs.Reading.{untagged, body}
-
-one-add : (n : ℕ) → 1 + n ≡ suc n
-one-add n = omega arith
-
--- the first space ends the token
-pub token-is : (text : List ℕ) → take (position_or_len is_space text) text ≡ token text
-token-is [] = refl
-token-is (b ∷ bs) =
-    elim (is_space b) as
-    (λ s. take (cond (not s) (1 + position_or_len is_space bs) 0) (b ∷ bs)
-    ≡ cond s [] (b ∷ token bs)) [
-      | true ↦ refl
-      | false ↦ rw (one-add (position_or_len is_space bs)) (ap (λ r. b ∷ r) (token-is bs))
-    ]
-
-pub after_token-is : (text : List ℕ) → drop (position_or_len is_space text) text ≡ after_token text
-after_token-is [] = refl
-after_token-is (b ∷ bs) =
-    elim (is_space b) as
-    (λ s. drop (cond (not s) (1 + position_or_len is_space bs) 0) (b ∷ bs)
-    ≡ cond s (b ∷ bs) (after_token bs)) [
-      | true ↦ refl
-      | false ↦ rw (one-add (position_or_len is_space bs)) (after_token-is bs)
-    ]
+use Rattle.irc_line.{proofs.Logic.cases_Bool, specs.{Line.is_space, Reading.after_marked}}
+use Rattle.irc_line.specs.Reading.{after_token, body, token, trimmed, untagged}
+use Rattle.std.proofs.Common.{List, None, Some, [], ap, append_assoc, arith, drop, inl, inr, length}
+use Rattle.std.proofs.Common.{length-append, refl, suc, take, ℕ, ◌++◌, ◌+◌, ◌-◌, ◌∷◌, ◌≡◌, ◌≤◌}
+use Rattle.std.proofs.lemmas.{Bool.Decides.nat_tests, List.{drop_all, drop_at, take_all}}
+use Rattle.std.specs.List.{position, position_or_len}
 
 -- a token and what is behind it are the text
 pub token-append : (text : List ℕ) → token text ++ after_token text ≡ text
 token-append [] = refl
-token-append (b ∷ bs) =
-    elim (is_space b) as
-    (λ s. cond s [] (b ∷ token bs) ++ cond s (b ∷ bs) (after_token bs) ≡ b ∷ bs) [
-      | true ↦ refl
-      | false ↦ ap (λ r. b ∷ r) (token-append bs)
-    ]
+token-append (b ∷ bs) = grind (arith, token-append bs)
 
-pub none-at : (b : Bool) (n : ℕ) → cond b (Some n) None ≡ None → b ≡ false
-none-at true n e = cc
-none-at false n e = refl
+take-one : (n b : ℕ) (bs : List ℕ) → take (1 + n) (b ∷ bs) ≡ b ∷ take n bs
+take-one n b bs = let more : 1 + n ≡ suc n = omega arith in rw more
 
-pub some-at : (b : Bool) (m n : ℕ) → cond b (Some m) None ≡ Some n → m ≡ n
-some-at true m n e = cc
-some-at false m n e = cc
+drop-one : (n b : ℕ) (bs : List ℕ) → drop (1 + n) (b ∷ bs) ≡ drop n bs
+drop-one n b bs = let more : 1 + n ≡ suc n = omega arith in rw more
+
+-- the first space ends the token
+token-is : (text : List ℕ) → (take (position_or_len is_space text) text ≡ token text)
+    × (drop (position_or_len is_space text) text ≡ after_token text)
+token-is [] = (refl, refl)
+token-is (b ∷ bs) = grind (arith, take-one, drop-one, token-is bs)
 
 -- where there is no space, all of the text is a token
-pub token-whole : (text : List ℕ) → position is_space text ≡ None → text ≡ token text
-token-whole text e =
-    let long = ltb-false (position_or_len is_space text) (length text) (none-at _ _ e) in
-    sym (take_all (position_or_len is_space text) text long) ∙ token-is text
+pub token-whole : (text : List ℕ) → position is_space text ≡ None →
+    (text ≡ token text) × ([] ≡ after_token text)
+token-whole text e = let at = token-is text in grind (arith, nat_tests, take_all, drop_all)
 
-pub after_token-whole : (text : List ℕ) → position is_space text ≡ None → [] ≡ after_token text
-after_token-whole text e =
-    let long = ltb-false (position_or_len is_space text) (length text) (none-at _ _ e) in
-    sym (drop_all (position_or_len is_space text) text long) ∙ after_token-is text
-
-pub token-at : (text : List ℕ) (n : ℕ) → position is_space text ≡ Some n → take n text ≡ token text
-token-at text n e = rw (← some-at _ _ n e) (token-is text)
-
-pub after_token-at : (text : List ℕ) (n : ℕ) → position is_space text ≡ Some n →
-    drop n text ≡ after_token text
-after_token-at text n e = rw (← some-at _ _ n e) (after_token-is text)
+pub token-at : (text : List ℕ) (n : ℕ) → position is_space text ≡ Some n →
+    (take n text ≡ token text) × (drop n text ≡ after_token text)
+token-at text n e = let at = token-is text in grind (arith, nat_tests)
 
 -- one text stands at the end of the other
 pub record EndsIn (text end : List ℕ) : Type 0 where
   pub front : List ℕ
   pub whole : front ++ end ≡ text
 
-pub EndsIn-self : (text : List ℕ) → EndsIn text text
+EndsIn-self : (text : List ℕ) → EndsIn text text
 EndsIn-self text = record { front = []; whole = refl }
 
-pub EndsIn-cons : (b : ℕ) (text end : List ℕ) → EndsIn text end → EndsIn (b ∷ text) end
-EndsIn-cons b text end e = record { front = b ∷ e.front; whole = ap (λ r. b ∷ r) e.whole }
+EndsIn-cons : (b : ℕ) (text end : List ℕ) → EndsIn text end → EndsIn (b ∷ text) end
+EndsIn-cons b text end e = record { front = b ∷ e.front; whole = cc }
 
-pub EndsIn-trans : (text mid end : List ℕ) → EndsIn text mid → EndsIn mid end → EndsIn text end
+EndsIn-trans : (text mid end : List ℕ) → EndsIn text mid → EndsIn mid end → EndsIn text end
 EndsIn-trans text mid end e f = record {
   front = e.front ++ f.front;
-  whole = append_assoc e.front f.front end ∙ ap (λ r. e.front ++ r) f.whole ∙ e.whole;
+  whole = rw append_assoc (cc);
 }
 
 pub trimmed-ends : (text : List ℕ) → EndsIn text (trimmed text)
 trimmed-ends [] = EndsIn-self []
 trimmed-ends (b ∷ bs) =
-    elim (is_space b) as (λ s. EndsIn (b ∷ bs) (cond s (trimmed bs) (b ∷ bs))) [
-      | true ↦ EndsIn-cons b bs (trimmed bs) (trimmed-ends bs)
-      | false ↦ EndsIn-self (b ∷ bs)
+    elim (cases_Bool (is_space b)) [
+      | inl e ↦ rw e (EndsIn-cons b bs (trimmed bs) (trimmed-ends bs))
+      | inr e ↦ rw e (EndsIn-self (b ∷ bs))
     ]
 
 pub after_token-ends : (text : List ℕ) → EndsIn text (after_token text)
@@ -103,31 +65,25 @@ after_marked-ends mark [] = EndsIn-self []
 after_marked-ends mark (b ∷ bs) =
     let behind =
     EndsIn-cons b bs _
-    (EndsIn-trans bs (after_token bs) _ (after_token-ends bs) (trimmed-ends (after_token bs)))
-    in
-    elim (b == mark) as
-    (λ s. EndsIn (b ∷ bs)
-    (cond s (unless_empty (token bs) (trimmed (after_token bs)) (b ∷ bs)) (b ∷ bs))) [
-      | true ↦
-          elim (token bs) as
-          (λ t. EndsIn (b ∷ bs) (unless_empty t (trimmed (after_token bs)) (b ∷ bs))) [
-            | [] ↦ EndsIn-self (b ∷ bs)
-            | c ∷ cs ↦ behind
-          ]
-      | false ↦ EndsIn-self (b ∷ bs)
-    ]
+    (EndsIn-trans bs (after_token bs) _ (after_token-ends bs) (trimmed-ends (after_token bs))) in
+    let self = EndsIn-self (b ∷ bs) in
+    grind arith
 
-pub body-ends : (text : List ℕ) → EndsIn text (body text)
-body-ends text =
+EndsIn-body : (text : List ℕ) → EndsIn text (body text)
+EndsIn-body text =
     EndsIn-trans text (trimmed text) (body text) (trimmed-ends text)
     (EndsIn-trans (trimmed text) (untagged text) (body text) (after_marked-ends 64 (trimmed text))
     (after_marked-ends 58 (untagged text)))
 
 pub EndsIn-length : (text end : List ℕ) → EndsIn text end → length end ≤ length text
-EndsIn-length text end e = omega (arith, length-append e.front end, ap length e.whole)
+EndsIn-length text end e = grind (arith, length-append)
 
-pub EndsIn-drop : (text end : List ℕ) → EndsIn text end → drop (length text - length end) text ≡ end
-EndsIn-drop text end e =
-    let at : length text - length end ≡ length e.front =
-    omega (arith, length-append e.front end, ap length e.whole) in
-    rw (at, ← e.whole) (drop_at e.front end _ refl)
+pub body-length : (text : List ℕ) → length (body text) ≤ length text
+body-length text = EndsIn-length text (body text) (EndsIn-body text)
+
+pub body-drop : (text : List ℕ) → drop (length text - length (body text)) text ≡ body text
+body-drop text =
+    let e = EndsIn-body text in
+    let at : length text - length (body text) ≡ length e.front =
+    omega (arith, length-append e.front (body text), ap length e.whole) in
+    rw at (rw e.whole at (drop_at e.front (body text) _ refl))

@@ -1,6 +1,5 @@
-use Rattle.std.proofs.Common.{◌≡◌, length}
-use Rattle.block_list.specs.Blocks.{items_of, IsShort}
 use Rattle.block_list.proofs.moving.close_up.Given as goal
+use Rattle.{block_list.specs.Blocks.{IsShort, items_of}, std.proofs.Common.{length, ◌≡◌}}
 
 abbrev pub invariant-loop-hole : goal.invariant-loop-hole
 invariant-loop-hole g l = record {

@@ -1,4 +1,4 @@
-use Rattle.block_list.proofs.Words.{arith, ◌∙◌, ◌-◌, set, length-set, get_or-set_other}
+use Rattle.block_list.proofs.Words.{arith, ◌∙◌, ◌-◌, length-set, get_or-set_other}
 use Rattle.block_list.proofs.Gaps.{passed, short_moved}
 use Rattle.block_list.proofs.moving.make_room.Goals as goal
 
@@ -15,8 +15,7 @@ loop-hole-preserved g c =
       items = passed bs (h - 1) h _ _ n _ is there c.in-Some.item (omega arith) s.inside
           c.in-Some.ensures.items c.push_front_reserved.ensures.items
           ∙ c.loop-hole.invariant.items;
-      count = length-set (set bs (h - 1) n) h c.push_front_reserved.new.self
-          ∙ length-set bs (h - 1) n ∙ c.loop-hole.invariant.count;
+      count = simp length-set c.loop-hole.invariant.count;
       short = short_moved bs (h - 1) h _ _ n _ is there _ s (omega arith)
           (λ e. omega arith) c.in-Some.ensures.cases c.push_front_reserved.ensures.len
           c.in-Some.ensures.capacity c.push_front_reserved.ensures.capacity;

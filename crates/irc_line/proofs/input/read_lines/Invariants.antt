@@ -1,6 +1,5 @@
-use Rattle.std.proofs.Common.{◌≡◌, length}
-use Rattle.irc_line.proofs.InputRead.{IsReadSoFar}
 use Rattle.irc_line.proofs.input.read_lines.Given as goal
+use Rattle.{irc_line.proofs.InputRead.IsReadSoFar, std.proofs.Common.{length, ◌≡◌}}
 
 abbrev pub invariant-loop : goal.invariant-loop
 invariant-loop g l = record {

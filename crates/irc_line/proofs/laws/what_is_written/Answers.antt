@@ -1,7 +1,6 @@
-use Rattle.irc_line.proofs.Grammar.{line-spelled}
-use Rattle.irc_line.proofs.Making.{writable-again, spells-writable}
-use Rattle.irc_line.proofs.WrittenStream.{written-lines}
 use Rattle.irc_line.proofs.laws.what_is_written.Goals as goal
+use Rattle.irc_line.proofs.{Spelled.line-spelled, Making.{spells-writable, writable-again}}
+use Rattle.irc_line.proofs.WrittenStream.{written-lines}
 
 pub returns : goal.returns
 returns c =

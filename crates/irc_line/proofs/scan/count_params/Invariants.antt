@@ -1,6 +1,5 @@
-use Rattle.std.proofs.Common.{◌≡◌, ◌+◌, ◌≤◌, false, length}
-use Rattle.irc_line.specs.Reading.{params_at}
 use Rattle.irc_line.proofs.scan.count_params.Given as goal
+use Rattle.{irc_line.specs.Reading.params_at, std.proofs.Common.{false, length, ◌+◌, ◌≡◌, ◌≤◌}}
 
 abbrev pub invariant-loop-after : goal.invariant-loop-after
 invariant-loop-after l = record {

@@ -1,6 +1,5 @@
-use Rattle.std.specs.Prelude.{◌==◌}
-use Rattle.irc_line.proofs.First.{first-position}
 use Rattle.irc_line.proofs.scan.place_of.Goals as goal
+use Rattle.{irc_line.proofs.First.first-position, std.specs.Prelude.◌==◌}
 
 pub returns-clause-place : goal.returns-clause-place
 returns-clause-place c =

@@ -1,16 +1,8 @@
-use Rattle.std.proofs.Common.{◌≡◌, ◌+◌, ◌≤◌, ◌++◌, List, length}
-use Rattle.irc_line.specs.Line.{Parts}
-use Rattle.irc_line.specs.Lines.{lines_of, rest_of, skipped_of}
 use Rattle.irc_line.proofs.splitter.read_lines.Given as goal
+use Rattle.{irc_line.proofs.ReadOn.IsReadTo, std.proofs.Common.length}
 
 abbrev pub invariant-loop-segment : goal.invariant-loop-segment
-invariant-loop-segment g l = (done : List Parts) × record {
-  added : l.out.items ≡ l.fn.out.items ++ done;
-  read : done ++ lines_of l.rest ≡ lines_of l.fn.bytes;
-  left : rest_of l.rest ≡ rest_of l.fn.bytes;
-  skips : l.skipped + skipped_of l.rest ≡ skipped_of l.fn.bytes;
-  short : l.skipped + length l.rest ≤ length l.fn.bytes;
-}
+invariant-loop-segment g l = IsReadTo l.fn.out.items l.fn.bytes l.out.items l.rest l.skipped
 
 abbrev pub decreases-loop-segment : goal.decreases-loop-segment
 decreases-loop-segment g l = length l.rest

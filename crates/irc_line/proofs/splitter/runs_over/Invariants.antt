@@ -1,7 +1,6 @@
-use Rattle.std.proofs.Common.{◌≡◌, ◌-◌, ◌≤◌, ◌++◌, length}
-use Rattle.irc_line.specs.Lines.{segments_of, is_too_long, line_limit}
-use Rattle.irc_line.proofs.Limit.{is_over}
 use Rattle.irc_line.proofs.splitter.runs_over.Given as goal
+use Rattle.irc_line.{proofs.Limit.is_over, specs.Lines.{is_too_long, line_limit, segments_of}}
+use Rattle.std.proofs.Common.{length, ◌++◌, ◌-◌, ◌≡◌, ◌≤◌}
 
 abbrev pub invariant-loop-room : goal.invariant-loop-room
 invariant-loop-room l = record {

@@ -1,6 +1,5 @@
-use Rattle.std.proofs.Common.{◌≡◌, length}
-use Rattle.irc_line.specs.Tags.{has_form}
 use Rattle.irc_line.proofs.tags.is_of_form.Given as goal
+use Rattle.{irc_line.specs.Tags.has_form, std.proofs.Common.{length, ◌≡◌}}
 
 -- what is left decides
 abbrev pub invariant-loop-form : goal.invariant-loop-form

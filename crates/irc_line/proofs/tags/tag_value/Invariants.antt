@@ -1,6 +1,5 @@
-use Rattle.std.proofs.Common.{◌≡◌, length}
-use Rattle.irc_line.specs.Tags.{value_behind}
 use Rattle.irc_line.proofs.tags.tag_value.Given as goal
+use Rattle.{irc_line.specs.Tags.value_behind, std.proofs.Common.{length, ◌≡◌}}
 
 -- the tags that are left decide
 abbrev pub invariant-loop-tag : goal.invariant-loop-tag

@@ -1,8 +1,6 @@
-use Rattle.std.proofs.Common.{◌≡◌, ◌++◌, ℕ, List, length}
-use Rattle.std.specs.Prelude.{map}
-use Rattle.std.specs.List.{flat_map}
-use Rattle.irc_line.specs.Writing.{param_text}
 use Rattle.irc_line.proofs.writing.push_all.Given as goal
+use Rattle.{irc_line.specs.Writing.param_text, std.proofs.Common.{List, length, ℕ, ◌++◌, ◌≡◌}}
+use Rattle.std.specs.{List.flat_map, Prelude.map}
 
 abbrev pub invariant-loop-rest : goal.invariant-loop-rest
 invariant-loop-rest g l = (done : List ℕ) × record {

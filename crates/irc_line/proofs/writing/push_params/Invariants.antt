@@ -1,8 +1,6 @@
-use Rattle.std.proofs.Common.{◌≡◌, ◌++◌, ℕ, List, false, length}
-use Rattle.std.specs.List.{flat_map}
-use Rattle.irc_line.specs.Reading.{params_at}
-use Rattle.irc_line.specs.Writing.{param_text}
 use Rattle.irc_line.proofs.writing.push_params.Given as goal
+use Rattle.{irc_line.specs.{Reading.params_at, Writing.param_text}, std.proofs.Common.{List, false}}
+use Rattle.std.{proofs.Common.{length, ℕ, ◌++◌, ◌≡◌}, specs.List.flat_map}
 
 abbrev pub invariant-loop-param : goal.invariant-loop-param
 invariant-loop-param g l = (done : List ℕ) × record {

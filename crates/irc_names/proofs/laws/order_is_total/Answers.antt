@@ -1,11 +1,8 @@
-use Rattle.std.proofs.Common.{ap, ◌∙◌, sym}
-use Rattle.std.specs.Cmp.{on_total, tied_itself}
-use Rattle.std.specs.Cmp.Lexicographic.{slice_cmp}
-use Rattle.std.specs.Ordering.{nat_cmp}
-use Rattle.std.specs.FinMap.{slice_cmp-IsAntisymmetric, nat_cmp-IsAntisymmetric}
-use Rattle.std.proofs.lemmas.Cmp.{nat_list_cmp_total}
-use Rattle.irc_names.specs.CaseMapping.{key_of}
 use Rattle.irc_names.proofs.laws.order_is_total.Goals as goal
+use Rattle.{irc_names.specs.CaseMapping.key_of, std.proofs.Common.{ap, sym, ◌∙◌}}
+use Rattle.std.{proofs.lemmas.Cmp.nat_list_cmp_total, specs.Cmp.{Lexicographic.slice_cmp, on_total}}
+use Rattle.std.specs.{Cmp.tied_itself, FinMap.{nat_cmp-IsAntisymmetric, slice_cmp-IsAntisymmetric}}
+use Rattle.std.specs.Ordering.{nat_cmp}
 
 pub returns : goal.returns
 returns c = record {

@@ -1,10 +1,8 @@
-use Rattle.block_list.proofs.Words.{arith}
-use Rattle.block_list.proofs.Places.{inside, offset, item_at}
 use Rattle.block_list.proofs.blocks.Blocks.at.Goals as goal
+use Rattle.block_list.proofs.{Places.{inside, item_at, offset}, Words.arith}
 
 pub index-requires : goal.index-requires
-index-requires g c =
-    omega (arith, inside c.self.invariant c.self.view_is c.args.place c.requires)
+index-requires g c = omega (arith, inside c.self.invariant c.self.view_is c.args.place c.requires)
 
 pub index-requires-2 : goal.index-requires-2
 index-requires-2 g c =

@@ -1,6 +1,5 @@
-use Rattle.block_list.proofs.Words.{arith, refl}
-use Rattle.block_list.proofs.Places.{inside, offset, item_at, lent}
 use Rattle.block_list.proofs.blocks.Blocks.at_mut.Goals as goal
+use Rattle.block_list.proofs.{Places.{inside, item_at, lent, offset}, Words.{arith, refl}}
 
 pub index_mut-block-requires : goal.index_mut-block-requires
 index_mut-block-requires g c =

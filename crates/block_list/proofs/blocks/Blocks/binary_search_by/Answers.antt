@@ -1,9 +1,8 @@
 use Rattle.block_list.proofs.Words
 use Words.{ℕ, ◌+◌, ◌*◌, ◌/◌, ◌-◌, arith, refl, says_at}
-use Rattle.block_list.proofs.Places.{counted, share_of, read_in}
-use Rattle.std.specs.Fn.{FnReturnsAt}
-use Rattle.block_list.proofs.Narrowing.{all_ahead, answered, moved, lower, upper, ended, missed}
 use Rattle.block_list.proofs.blocks.Blocks.binary_search_by.Goals as goal
+use Rattle.block_list.proofs.Narrowing.{all_ahead, answered, ended, lower, missed, moved, upper}
+use Rattle.{block_list.proofs.Places.{counted, read_in, share_of}, std.specs.Fn.FnReturnsAt}
 
 pub returns-then-self-eq0-clause-position : goal.returns-then-self-eq0-clause-position
 returns-then-self-eq0-clause-position g c ord h up =

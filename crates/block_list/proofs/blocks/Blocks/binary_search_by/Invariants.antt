@@ -1,7 +1,6 @@
-use Rattle.std.proofs.Common.{◌-◌, length, ◌+◌, ◌*◌, ◌/◌, ◌<◌, ◌≤◌, ◌^◌}
-use Rattle.std.specs.Fn.{FnReturnsAt}
-use Rattle.block_list.proofs.Narrowing.{Found}
 use Rattle.block_list.proofs.blocks.Blocks.binary_search_by.Given as goal
+use Rattle.{block_list.proofs.Narrowing.Found, std.proofs.Common.{length, ◌*◌, ◌+◌, ◌-◌, ◌/◌, ◌<◌}}
+use Rattle.std.{proofs.Common.{◌^◌, ◌≤◌}, specs.Fn.FnReturnsAt}
 
 abbrev pub invariant-loop-count : goal.invariant-loop-count
 invariant-loop-count g l = record {

@@ -1,7 +1,6 @@
-use Rattle.block_list.proofs.Words.{arith, ap, ◌∙◌, ◌/◌, ◌≤◌, insert, length-set}
-use Rattle.block_list.proofs.{Places.counted}
-use Rattle.block_list.proofs.Gaps.{gap_offset, gap_room, inserted_at}
 use Rattle.block_list.proofs.blocks.Blocks.insert.Goals as goal
+use Rattle.block_list.proofs.{Gaps.{gap_offset, gap_room, inserted_at}, Places.counted, Words.ap}
+use Rattle.block_list.proofs.Words.{arith, insert, ◌∙◌, ◌≤◌}
 
 pub make_room-requires-clause-first : goal.make_room-requires-clause-first
 make_room-requires-clause-first g c =
@@ -23,9 +22,3 @@ returns-clause-items g c =
     (grind (arith, room, c.insert.ensures.items, c.insert.ensures.full))
     ∙ ap (λ l. insert l c.args.place c.args.item)
     (c.make_room.ensures.items ∙ ap (λ s. s.items) c.self.view_is)
-
-pub returns-clause-spare : goal.returns-clause-spare
-returns-clause-spare g c =
-    let whole = length-set c.make_room.new.blocks.items (c.args.place / 128) c.insert.new.self in
-    let spare = ap (λ s. s.spare) c.self.view_is in
-    omega arith

@@ -1,7 +1,6 @@
-use Rattle.block_list.proofs.Words.{arith, rules, ap, ◌∙◌, ◌/◌, length-set}
-use Rattle.block_list.proofs.Places.{counted, inside, offset, item_at, removed_at}
-use Rattle.block_list.proofs.Gaps.{tiled_gap}
 use Rattle.block_list.proofs.blocks.Blocks.remove.Goals as goal
+use Rattle.block_list.proofs.{Gaps.tiled_gap, Places.{counted, inside, item_at, offset, removed_at}}
+use Rattle.block_list.proofs.Words.{ap, arith, length-set, rules, ◌/◌, ◌∙◌}
 
 pub index_mut-requires : goal.index_mut-requires
 index_mut-requires g c =

@@ -1,6 +1,5 @@
-use Rattle.std.proofs.Common.{◌≡◌, ◌-◌, length}
-use Rattle.block_list.specs.Blocks.{items_of, IsTiled}
 use Rattle.block_list.proofs.blocks.Blocks.reserve.Given as goal
+use Rattle.{block_list.specs.Blocks.{IsTiled, items_of}, std.proofs.Common.{length, ◌-◌, ◌≡◌}}
 
 abbrev pub invariant-loop-self : goal.invariant-loop-self
 invariant-loop-self g l = record {

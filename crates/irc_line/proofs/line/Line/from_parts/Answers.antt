@@ -1,21 +1,14 @@
-use Rattle.std.proofs.Common.{◌≡◌, rules, append_assoc}
-use Rattle.std.specs.Prelude.{option_map, map}
-use Rattle.irc_line.specs.Writing.{text_of, line_of_parts}
-use Rattle.irc_line.proofs.Making.{made-is}
 use Rattle.irc_line.proofs.line.Line.from_parts.Goals as goal
+use Rattle.irc_line.{proofs.Making.made-is, specs.Writing.line_of_parts}
+use Rattle.std.{proofs.Common.{append_assoc, rules}, specs.Prelude.{map, option_map}}
 
 pub invariant_of-result : goal.invariant_of-result
 invariant_of-result g c =
     let line =
     line_of_parts (option_map (λ t. t.now) c.args.tags) (option_map (λ s. s.now) c.args.source)
     c.args.command.now (map (λ p. p.now) c.args.params.now) in
-    let text : c.push_all.new.out.items ≡ text_of line = search (rules, append_assoc) in
-    ((made-is c.push_all.new.out.items line c.requires text).is, search rules, search rules)
+    let made = made-is c.push_all.new.out.items line c.requires (search (rules, append_assoc)) in
+    (made.is, search rules, search rules)
 
 pub returns : goal.returns
-returns g c =
-    let line =
-    line_of_parts (option_map (λ t. t.now) c.args.tags) (option_map (λ s. s.now) c.args.source)
-    c.args.command.now (map (λ p. p.now) c.args.params.now) in
-    let text : c.push_all.new.out.items ≡ text_of line = search (rules, append_assoc) in
-    (made-is c.push_all.new.out.items line c.requires text).parts
+returns g c = (made-is c.push_all.new.out.items _ c.requires (search (rules, append_assoc))).parts

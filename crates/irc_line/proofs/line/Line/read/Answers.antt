@@ -1,4 +1,4 @@
-use Rattle.irc_line.proofs.Grammar.{found-of, none-of}
+use Rattle.irc_line.proofs.Spelled.{found-of, none-of}
 use Rattle.irc_line.proofs.line.Line.read.Goals as goal
 
 pub returns-clause-found : goal.returns-clause-found

@@ -1,4 +1,4 @@
-use Rattle.irc_line.proofs.Again.{value-again}
+use Rattle.irc_line.proofs.Making.{value-again}
 use Rattle.irc_line.proofs.line.Line.write.Goals as goal
 
 pub returns-in_err-reserve-clause-again : goal.returns-in_err-reserve-clause-again

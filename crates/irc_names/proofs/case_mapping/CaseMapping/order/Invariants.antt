@@ -1,8 +1,6 @@
-use Rattle.std.proofs.Common.{◌≡◌, length}
-use Rattle.std.specs.Ordering.{nat_cmp}
-use Rattle.std.specs.Cmp.Lexicographic.{slice_cmp}
-use Rattle.irc_names.specs.CaseMapping.{key_of}
 use Rattle.irc_names.proofs.case_mapping.CaseMapping.order.Given as goal
+use Rattle.{irc_names.specs.CaseMapping.key_of, std.proofs.Common.{length, ◌≡◌}}
+use Rattle.std.specs.{Cmp.Lexicographic.slice_cmp, Ordering.nat_cmp}
 
 -- what is left decides
 abbrev pub invariant-loop-a : goal.invariant-loop-a

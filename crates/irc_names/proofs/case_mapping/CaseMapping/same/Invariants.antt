@@ -1,6 +1,5 @@
-use Rattle.std.proofs.Common.{◌↔◌, length}
-use Rattle.irc_names.specs.CaseMapping.{AreOneName}
 use Rattle.irc_names.proofs.case_mapping.CaseMapping.same.Given as goal
+use Rattle.{irc_names.specs.CaseMapping.AreOneName, std.proofs.Common.{length, ◌↔◌}}
 
 -- what is left decides
 abbrev pub invariant-loop-a : goal.invariant-loop-a
