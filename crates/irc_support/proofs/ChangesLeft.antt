@@ -1,15 +1,10 @@
 -- The changes of a mode text, and the parameters that they take.
-use Rattle.std.proofs.Common.{◌≡◌, ℕ, ◌≤◌, true, List, [], ◌++◌, length, drop, map, Option, Some}
-use Rattle.std.proofs.Common.{None, unwrap_or, append-nil, ◌∙◌, refl}
-use Rattle.std.proofs.Math.Seq.{drop-append_seam}
-use Rattle.std.proofs.Math.ListN.{drop_of_length-le}
-use Rattle.std.proofs.lemmas.List.{length-map}
-use Rattle.std.proofs.lemmas.Map.Iter.{rest_so_far}
-use Rattle.std.specs.Borrow.{Bor}
-use Rattle.std.specs.Iterator.{YieldsFirstRef, SkipsThenYields}
-use Rattle.irc_support.specs.Text.{Text}
-use Rattle.irc_support.specs.Tokens.{Token}
-use Rattle.irc_support.specs.ModeChanges.{changes, signed, with_params}
+use Rattle.irc_support.specs.{ModeChanges.{changes, signed, with_params}, Text.Text, Tokens.Token}
+use Rattle.std.proofs.Common.{List, None, Option, Some, [], append-nil, drop, length, map, refl}
+use Rattle.std.proofs.Common.{true, unwrap_or, ℕ, ◌++◌, ◌∙◌, ◌≡◌, ◌≤◌}
+use Rattle.std.proofs.{Math.{ListN.drop_of_length-le, Seq.drop-append_seam}, lemmas.List.length-map}
+use Rattle.std.{proofs.lemmas.Map.Iter.rest_so_far, specs.{Borrow.Bor, Iterator.SkipsThenYields}}
+use Rattle.std.specs.Iterator.{YieldsFirstRef}
 
 -- `nth` gives the first of what stands from the place on, and leaves the rest
 nth-leaves : (params : List Text) (place : ℕ) (found : Option (Bor Text)) (left : List Text) →

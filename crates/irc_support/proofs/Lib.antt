@@ -6,7 +6,6 @@ pub mod SymbolRun
 pub mod Spelling
 pub mod TokenTable
 pub mod PreparedEdits
-pub mod Tests
 pub mod TokensRead
 pub mod KindTable
 pub mod Compacting

@@ -1,10 +1,7 @@
 -- The changes that are prepared for the tokens of a 005 line.
-use Rattle.std.proofs.Common.{◌≡◌, List, [], ◌∷◌, ◌++◌, fold, Some, None}
-use Rattle.std.proofs.lemmas.List.Sums.{fold-append}
-use Rattle.irc_support.specs.Text.{Text}
-use Rattle.irc_support.specs.Tokens.{Token, after_param}
-use Rattle.irc_support.specs.Edits.{edited, edited_if}
-use Rattle.irc_support.specs.declared.tokens.Edit.{Edit}
+use Rattle.irc_support.specs.{Edits.{edited, edited_if}, Text.Text, Tokens.{Token, after_param}}
+use Rattle.{irc_support.specs.declared.tokens.Edit.Edit, std.proofs.Common.{List, None, Some, []}}
+use Rattle.std.proofs.{Common.{fold, ◌++◌, ◌∷◌, ◌≡◌}, lemmas.List.Sums.fold-append}
 
 -- the edits do what the parameters do
 abbrev pub Prepares : {A : Type 0} → List (Edit A) → List Text → Type 0

@@ -1,8 +1,7 @@
-use Rattle.std.proofs.Common.{refl}
-use Rattle.std.proofs.lemmas.List.{get_or-replicate}
-use Rattle.irc_support.specs.declared.kind.Kind.TheVariants.{Prefix, Unknown}
-use Rattle.irc_support.proofs.KindTable.{kind_by_four}
 use Rattle.irc_support.proofs.chan_modes.kinds_by_lists.Goals as goal
+use Rattle.irc_support.{proofs.KindTable.kind_by_four, specs.declared.kind.Kind.TheVariants.Prefix}
+use Rattle.{irc_support.specs.declared.kind.Kind.TheVariants.Unknown, std.proofs.Common.refl}
+use Rattle.std.proofs.lemmas.List.{get_or-replicate}
 
 pub returns : goal.returns
 returns c letter fits =

@@ -1,7 +1,6 @@
-use Rattle.std.proofs.Common.{◌<◌, ◌∙◌, length}
-use Rattle.std.proofs.lemmas.List.{length-set}
-use Rattle.irc_support.proofs.KindTable.{set_next}
 use Rattle.irc_support.proofs.chan_modes.set_kind.Goals as goal
+use Rattle.{irc_support.proofs.KindTable.set_next, std.proofs.Common.{length, ◌<◌, ◌∙◌}}
+use Rattle.std.proofs.lemmas.List.{length-set}
 
 pub loop-letter-preserved : goal.loop-letter-preserved
 loop-letter-preserved c = (

@@ -1,7 +1,6 @@
-use Rattle.std.proofs.Common.{◌≡◌, ◌<◌, ℕ, if◌then◌else◌, drop, slice_index_or, length}
-use Rattle.irc_support.specs.Text.{has_byte}
-use Rattle.irc_support.specs.declared.kind.Kind.TheVariants.{Prefix}
 use Rattle.irc_support.proofs.chan_modes.set_kind.Given as goal
+use Rattle.irc_support.specs.{Text.has_byte, declared.kind.Kind.TheVariants.Prefix}
+use Rattle.std.proofs.Common.{drop, if◌then◌else◌, length, slice_index_or, ℕ, ◌<◌, ◌≡◌}
 
 abbrev pub invariant-loop-letter : goal.invariant-loop-letter
 invariant-loop-letter l =

@@ -1,10 +1,8 @@
-use Rattle.std.proofs.Common.{◌<◌, length, get_or, arith}
-use Rattle.std.proofs.lemmas.Option.{slice_get-get_or}
-use Rattle.std.proofs.lemmas.List.Quantifiers.{position-Some}
-use Rattle.irc_support.specs.Ranking.{ranking_of}
-use Rattle.irc_support.proofs.Spelling.{paired}
-use Rattle.irc_support.proofs.RankPlaces.{ranking_of-is, few, position-at, at-position}
 use Rattle.irc_support.proofs.laws.letters_and_symbols_go_together.Goals as goal
+use Rattle.irc_support.proofs.RankPlaces.{at-position, few, position-at, ranking_of-is}
+use Rattle.{irc_support.{proofs.Spelling.paired, specs.Ranking.ranking_of}, std.proofs.Common.arith}
+use Rattle.std.proofs.{Common.{get_or, length, ◌<◌}, lemmas.List.Quantifiers.position-Some}
+use Rattle.std.proofs.lemmas.Option.{slice_get-get_or}
 
 pub returns-clause-small : goal.returns-clause-small
 returns-clause-small c settings letter rank found =

@@ -1,9 +1,7 @@
-use Rattle.std.proofs.Common.{fold, List, [], ◌∷◌}
-use Rattle.irc_support.specs.Text.{Text}
-use Rattle.irc_support.specs.Tokens.{Token, set_tokens}
-use Rattle.irc_support.specs.Written.{AreTokens}
-use Rattle.irc_support.proofs.TokensRead.{tokens_set, tokens_read}
 use Rattle.irc_support.proofs.laws.tokens_are_read_back.Goals as goal
+use Rattle.irc_support.{proofs.TokensRead.{tokens_read, tokens_set}, specs.Text.Text}
+use Rattle.irc_support.specs.{Tokens.{Token, set_tokens}, Written.AreTokens}
+use Rattle.std.proofs.Common.{List, [], fold, ◌∷◌}
 
 after_lines : (lines : List (List Text)) (settings : List Token) → AreTokens settings →
     AreTokens (fold set_tokens settings lines)

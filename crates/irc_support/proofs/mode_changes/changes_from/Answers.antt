@@ -1,6 +1,5 @@
-use Rattle.std.proofs.Common.{◌∙◌, refl}
-use Rattle.irc_support.proofs.ChangesLeft.{changes-nth}
 use Rattle.irc_support.proofs.mode_changes.changes_from.Goals as goal
+use Rattle.{irc_support.proofs.ChangesLeft.changes-nth, std.proofs.Common.{refl, ◌∙◌}}
 
 pub returns : goal.returns
 returns g c =

@@ -1,10 +1,9 @@
-use Rattle.std.proofs.Common.{◌≡◌, sym, ◌∙◌, ap, arith, filter, refl, ◌≤◌, ◌<◌, length}
-use Rattle.std.proofs.lemmas.List.{take_all}
-use Rattle.irc_support.specs.Edits.{tokens_in}
-use Rattle.irc_support.proofs.Compacting.{compacts_next_yes, compacts_next_no}
-use Rattle.irc_support.proofs.PendingTokens.{kept-none, kept-entries}
-use Rattle.irc_support.proofs.pending.remove.Goals.{then-stays, else-stays}
 use Rattle.irc_support.proofs.pending.remove.Goals as goal
+use Rattle.irc_support.proofs.Compacting.{compacts_next_no, compacts_next_yes}
+use Rattle.irc_support.proofs.PendingTokens.{kept-entries, kept-none}
+use Rattle.irc_support.{proofs.pending.remove.Goals.{else-stays, then-stays}, specs.Edits.tokens_in}
+use Rattle.std.proofs.Common.{arith, length, refl, sym, ◌<◌, ◌≡◌, ◌≤◌}
+use Rattle.std.proofs.lemmas.List.Filters.{FiltersInPlace-all}
 
 pub returns-then-is_empty-clause-entries : goal.returns-then-is_empty-clause-entries
 returns-then-is_empty-clause-entries g c =
@@ -14,18 +13,15 @@ returns-then-is_empty-clause-entries g c =
 pub loop-place-preserved : goal.loop-place-preserved
 loop-place-preserved g c =
     let so = c.loop-place.invariant.1 in
-    let len = c.len-place-end.ensures.len in
     let within : c.loop-place.place < length c.loop-place.tokens.entries =
-    rw so.len (rw len at c.loop-place-test.true) in
+    rw (so.long, ← c.len-place-end.ensures.len) c.loop-place-test.true in
     elim c.if-stays.branch [
       | then-stays w ↦
           let says = rw w.if-stays.true at c.stays.ensures in
           let room = w.swap_indices.ensures.room.0 in
           let before = c.loop-place.invariant.0 in
-          rw (w.tokens-is, w.kept-is, w.swap_indices.ensures.entries) (
-            omega arith,
-            compacts_next_yes _ _ _ _ _ within so says,
-          )
+          rw (w.tokens-is, w.kept-is, w.swap_indices.ensures.entries)
+          (omega arith, compacts_next_yes _ _ _ _ _ within so says)
       | else-stays w ↦
           let says = rw w.if-stays.false at c.stays.ensures in
           rw (w.tokens-is, w.kept-is)
@@ -34,9 +30,7 @@ loop-place-preserved g c =
 
 pub returns-clause-entries : goal.returns-clause-entries
 returns-clause-entries g c =
-    let so = c.loop-place.invariant.1 in
     let past : length c.args.tokens.now.entries ≤ c.loop-place.place =
     rw c.len-place-end.ensures.len at c.loop-place-test.false in
-    ap tokens_in (c.truncate.ensures.entries ∙ so.front
-    ∙ ap (filter _) (take_all c.loop-place.place c.args.tokens.now.entries past))
-    ∙ kept-entries c.args.names.now.keys c.args.tokens.now.entries
+    rw (c.truncate.ensures.entries, FiltersInPlace-all c.loop-place.invariant.1 past)
+    (kept-entries c.args.names.now.keys c.args.tokens.now.entries)

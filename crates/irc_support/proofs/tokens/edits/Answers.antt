@@ -1,11 +1,9 @@
-use Rattle.std.proofs.Common.{◌-◌, length, map, subst}
-use Rattle.std.proofs.lemmas.List.{map_push}
-use Rattle.std.proofs.lemmas.Iterator.{YieldsList-from_take}
-use Rattle.std.proofs.lemmas.Iterator.Adapters.{YieldsList-from_skip}
-use Rattle.std.proofs.lemmas.Iterator.Consumers.{YieldsList-at, YieldsList-from_first}
-use Rattle.std.proofs.lemmas.Iterator.Consumers.{YieldsList-end}
-use Rattle.irc_support.proofs.PreparedEdits.{Prepares, Prepares-edit, Prepares-skip}
 use Rattle.irc_support.proofs.tokens.edits.Goals as goal
+use Rattle.irc_support.proofs.PreparedEdits.{Prepares, Prepares-edit, Prepares-skip}
+use Rattle.std.proofs.Common.{length, map, subst, ◌-◌}
+use Rattle.std.proofs.lemmas.Iterator.{Adapters.YieldsList-from_skip, Consumers.YieldsList-at}
+use Rattle.std.proofs.lemmas.Iterator.Consumers.{YieldsList-end, YieldsList-from_first}
+use Rattle.std.proofs.lemmas.{Iterator.YieldsList-from_take, List.map_push}
 
 pub loop-param-preserved-in-Continue-branch-3 : goal.loop-param-preserved-in-Continue-branch-3
 loop-param-preserved-in-Continue-branch-3 g c =

@@ -1,6 +1,5 @@
-use Rattle.std.proofs.Common.{◌≡◌, length}
-use Rattle.irc_support.specs.ModeChanges.{signed, with_params}
 use Rattle.irc_support.proofs.mode_changes.ModeChangesIterator.next.Given as goal
+use Rattle.{irc_support.specs.ModeChanges.{signed, with_params}, std.proofs.Common.{length, ◌≡◌}}
 
 abbrev pub invariant-loop-self : goal.invariant-loop-self
 invariant-loop-self g l =

@@ -1,7 +1,6 @@
-use Rattle.std.proofs.Common.{◌≡◌, ◌≤◌, vec_len}
-use Rattle.irc_support.specs.Edits.{tokens_in, left_to, with_all}
-use Rattle.indexmap.specs.IndexMap.{spare}
 use Rattle.irc_support.proofs.pending.Pending.make.Given as goal
+use Rattle.{indexmap.specs.IndexMap.spare, irc_support.specs.Edits.{left_to, tokens_in, with_all}}
+use Rattle.std.proofs.Common.{vec_len, ◌≡◌, ◌≤◌}
 
 abbrev pub invariant-loop-name : goal.invariant-loop-name
 invariant-loop-name g l =

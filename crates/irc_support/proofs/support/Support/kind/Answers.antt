@@ -1,7 +1,6 @@
-use Rattle.std.proofs.Common.{◌≡◌, ◌<◌, true, false, is_some, ap, ◌∙◌, refl}
-use Rattle.irc_support.specs.Ranking.{rank_of_letter}
-use Rattle.irc_support.specs.ChanModes.{kind_of, kind_in, mode_lists}
 use Rattle.irc_support.proofs.support.Support.kind.Goals as goal
+use Rattle.irc_support.specs.{ChanModes.{kind_in, kind_of, mode_lists}, Ranking.rank_of_letter}
+use Rattle.std.proofs.Common.{ap, false, is_some, refl, true, ◌<◌, ◌∙◌, ◌≡◌}
 
 pub returns-then-is_some : goal.returns-then-is_some
 unfolding kind_of

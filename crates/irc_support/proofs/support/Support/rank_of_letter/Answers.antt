@@ -1,13 +1,5 @@
-use Rattle.std.proofs.Common.{◌==◌, position, ap, ◌∙◌}
-use Rattle.irc_support.specs.Ranking.{ranking_of}
 use Rattle.irc_support.proofs.support.Support.rank_of_letter.Goals as goal
 
 pub returns-clause-value : goal.returns-clause-value
 returns-clause-value g c =
-    c.rank_of_letter.ensures.value
-    ∙ ap (λ ranking. position (λ b. b == c.args.letter) ranking.letters) c.self.invariant.0
-    ∙ ap (λ settings. position (λ b. b == c.args.letter) (ranking_of settings).letters)
-    c.self.view_is
-
-pub returns-clause-small : goal.returns-clause-small
-returns-clause-small g c = c.rank_of_letter.ensures.small
+    rw (c.rank_of_letter.ensures.value, c.self.invariant.0, c.self.view_is)

@@ -1,6 +1,5 @@
-use Rattle.std.proofs.Common.{get_or, sym}
-use Rattle.irc_support.proofs.SymbolRun.{uncons, reads_more}
 use Rattle.irc_support.proofs.support.Support.split_symbols.Goals as goal
+use Rattle.{irc_support.proofs.SymbolRun.{reads_more, uncons}, std.proofs.Common.{get_or, sym}}
 
 pub loop-rest-preserved : goal.loop-rest-preserved
 loop-rest-preserved g c =

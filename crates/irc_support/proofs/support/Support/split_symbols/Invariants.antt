@@ -1,6 +1,5 @@
-use Rattle.std.proofs.Common.{length}
-use Rattle.irc_support.proofs.SymbolRun.{ReadsSome}
 use Rattle.irc_support.proofs.support.Support.split_symbols.Given as goal
+use Rattle.{irc_support.proofs.SymbolRun.ReadsSome, std.proofs.Common.length}
 
 abbrev pub invariant-loop-rest : goal.invariant-loop-rest
 invariant-loop-rest g l = ReadsSome l.self l.word l.ranks l.rest
