@@ -3,14 +3,14 @@
 use Rattle.std.specs.FinMap as fin
 use Rattle.net_view.proofs.AfterMaps.{channels_are, people_are, seen_somewhere}
 use Rattle.net_view.proofs.{FormSound.view_ranked, Keys.{bytes_exact, same_by_keys}}
-use Rattle.net_view.proofs.{SoundStep.view_sound, Words.{◌||◌, ◌≡◌, Arrival, Bool, Channel}}
-use Rattle.net_view.proofs.Words.{ForSome, List, None, Option, Person, Some, Text, Told, View, []}
-use Rattle.net_view.proofs.Words.{after_told, ap, arith, bytes_cmp, channel_after, channels_after}
-use Rattle.net_view.proofs.Words.{cond, false, had_rank, has_rank, is_seen, is_some, is_us}
-use Rattle.net_view.proofs.Words.{name_before, nat_list_cmp_total, old_member, people_after}
-use Rattle.net_view.proofs.Words.{person_after, person_from, rank_count, ranks_that, refl, same}
-use Rattle.net_view.proofs.Words.{says_member, says_mode, says_on, says_rank, says_topic}
-use Rattle.net_view.proofs.Words.{standing_of, sym, told_person, true, view_of, ℕ}
+use Rattle.net_view.proofs.{SoundStep.view_sound, Words.{Arrival, Bool, Channel, ForSome, List}}
+use Rattle.net_view.proofs.Words.{None, Option, Person, Some, Text, Told, View, [], after_told, ap}
+use Rattle.net_view.proofs.Words.{arith, bytes_cmp, channel_after, channels_after, cond, false}
+use Rattle.net_view.proofs.Words.{had_rank, has_rank, is_seen, is_some, is_us, name_before}
+use Rattle.net_view.proofs.Words.{nat_list_cmp_total, old_member, people_after, person_after}
+use Rattle.net_view.proofs.Words.{person_from, rank_count, ranks_that, refl, same, says_member}
+use Rattle.net_view.proofs.Words.{says_mode, says_on, says_rank, says_topic, standing_of}
+use Rattle.net_view.proofs.Words.{told_person, true, view_of, ℕ, ◌||◌, ◌≡◌}
 pub use Rattle.net_view.proofs.{AfterMaps.{channel_is, seen_in}, Keys.{is_same, same_refl}}
 pub use Rattle.net_view.specs.MemberSets.{AreSets, HasSets, IsKnowing}
 
@@ -20,8 +20,7 @@ unfolding ranks_that rank_count
 no_ranks = refl
 
 -- a member of whom nothing is said
-pub member_stays : (ch : Channel) → AreSets ch → (n : Text)
-    → cond (is_some (fin.get ch.members n))
+pub member_stays : (ch : Channel) → AreSets ch → (n : Text) → cond (is_some (fin.get ch.members n))
     (Some (ranks_that (λ rank. had_rank rank (fin.get ch.members n)))) None ≡ fin.get ch.members n
 member_stays ch sets n =
     elim (fin.get ch.members n) as (λ o. ForSome o (λ ranks. ranks_that (has_rank ranks) ≡ ranks)

@@ -12,23 +12,23 @@ module _ (v : View) (sets : HasSets v) (known : IsKnowing v) where
       → after_told v (HasAccount who account) ≡ on_person v who (with_account account)
   after_account who account =
       let t = HasAccount who account in
-      view_after v t v.channels _ (λ c. grind (look_ups, quiet_channel (us_of v) t c, sets c)) (λ n.
-      grind (look_ups, known n, λ (p : Person). get_put v.people who (with_account account p) n))
+      view_after v t v.channels _ (λ c. grind (look_ups, quiet_channel (us_of v) t c, sets c))
+      (λ n. let put = λ (p : Person). get_put v.people who (with_account account p) n in
+      grind (look_ups, known n, put))
 
   -- an AWAY of who is known (IRCv3 away-notify)
   pub after_away : (who : Text) (text : Option Text)
       → after_told v (IsAway who text) ≡ on_person v who (with_away text)
   after_away who text =
       let t = IsAway who text in
-      view_after v t v.channels _ (λ c. grind (look_ups, quiet_channel (us_of v) t c, sets c)) (λ n.
-      grind (look_ups, known n, λ (p : Person). get_put v.people who (with_away text p) n))
+      view_after v t v.channels _ (λ c. grind (look_ups, quiet_channel (us_of v) t c, sets c))
+      (λ n. grind (look_ups, known n, λ (p : Person). get_put v.people who (with_away text p) n))
 
   -- 376 and 422 fix the settings (RFC 2812, sections 5.1 and 5.2)
   pub after_settled : after_told v Settles ≡ readied v
   after_settled = search (arith, all_channels_stay, all_persons_stay)
 
   -- 005 sets tokens (isupport draft, section 2)
-  pub after_supports : (params : List Text)
-      → after_told v (Supports params)
-      ≡ record v { settings = settings_after (Supports params) (standing_of v) }
+  pub after_supports : (params : List Text) → after_told v (Supports params) ≡ record v
+      { settings = settings_after (Supports params) (standing_of v) }
   after_supports params = search (arith, all_channels_stay, all_persons_stay)

@@ -67,7 +67,7 @@ module _ (us : Text → Bool) (t : Told) where
         let ms = fin.same_map nat_cmp_total fin.nat_cmp-IsAntisymmetric _ is.modes
         (λ letter. get-modes_after is.name letter ∙ modes letter) in
         let ps = same_by_keys (λ n. get-members_after is.name n ∙ members n) in
-        λ i. record { name = is.name; topic = topic i; modes = ms i; members = ps i }
+        grind (arith, topic, ms, ps)
 
 -- a member of a channel is seen
 pub seen_in : (cs : fin.FinMap bytes_cmp Channel) (c n : Text)

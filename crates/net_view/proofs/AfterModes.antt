@@ -17,12 +17,10 @@ module _ (v : View) (sets : HasSets v) (known : IsKnowing v) (c : Text) where
       let t = Titled c topic in
       let on = λ (ch : Channel) (e : fin.get v.channels c ≡ Some ch).
       let is = with_topic topic ch in
-      let made = channel_is (us_of v) t c (Some ch) is in
       view_put v sets t c (λ d h. grind look_ups) is v.people
-      (grind (look_ups, made, member_stays ch (sets c ch e)))
+      (grind (look_ups, channel_is (us_of v) t c (Some ch) is, member_stays ch (sets c ch e)))
       (λ n. grind (look_ups, known n, seen_put v.channels c is n false)) in
-      let off = view_stays v sets t c (λ d h. grind look_ups) known in
-      grind (look_ups, off, on)
+      grind (look_ups, view_stays v sets t c (λ d h. grind look_ups) known, on)
 
   -- ---- MODE
 

@@ -22,10 +22,10 @@ module _ (v : View) (channel who : Text) (other : is_us (standing_of v) who ≡ 
   on ch there =
       let is = without_member who ch in
       let new = fin.insert v.channels channel is in
-      let ps = cond (is_seen new who) v.people (fin.remove v.people who) in
       let left = channel_is (us_of v) t channel (Some ch) is refl (λ letter. refl)
       (λ n. grind (look_ups, member_stays ch (sets channel ch there) n)) in
-      let gone = view_put v sets t channel (λ d e. grind look_ups) is ps (grind (look_ups, left))
+      let gone = view_put v sets t channel (λ d e. grind look_ups) is
+      (cond (is_seen new who) v.people (fin.remove v.people who)) (grind (look_ups, left))
       (λ n. grind (look_ups, known n, seen_put v.channels channel is n false)) in
       grind (look_ups, gone, kept, left, removed_none ch.members who)
 

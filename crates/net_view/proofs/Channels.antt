@@ -1,10 +1,10 @@
 -- What no item names has no answer; so the channels of a view are what is found of each by looking
 -- back.
 use Rattle.net_view.proofs.Words
-use Words.{◌∷◌, ◌≡◌, ◌⊎◌, Bool, List, Listing, ModeChange, None, Option, Reading, Some, Text, Told}
+use Words.{◌∷◌, ◌≡◌, ◌⊎◌, Bool, List, Listing, ModeChange, None, Reading, Some, Text, Told}
 use Words.{[], arith, channel_of, channels_in, channels_of, eq_by_cmp, false, is_some, last_in}
 use Words.{last_of, letters_in, list_any, lists, map, member_of, mode_of, name_before, name_on}
-use Words.{named, nat_cmp, nat_cmp_total, nat_list_cmp_total, option_and_then, option_or, ours}
+use Words.{named, nat_cmp, nat_cmp_total, nat_list_cmp_total, ours}
 use Words.{people_in, refl, same, says_member, says_mode, setting_of, table_gets, unwrap_or, ℕ}
 use Rattle.std.specs.FinMap as fin
 use Rattle.net_view.proofs.{Keys.bytes_exact, Tests.{absent, any_append, cond_and_false}}
@@ -45,22 +45,13 @@ pub name_stays : (us : Text → Bool) (t : Told) (n : Text) → list_any (same n
     → (name_before us t n ≡ None) ⊎ (name_before us t n ≡ Some n)
 name_stays us t n h = grind arith
 
--- nothing is said of a person by an item, nor before it
-unsaid : (said : Option Bool) (before : Option Text) (f : Text → Option Bool) (n : Text)
-    → unwrap_or said false ≡ false → (before ≡ None) ⊎ (before ≡ Some n)
-    → unwrap_or (f n) false ≡ false
-    → unwrap_or (option_or said (option_and_then f before)) false ≡ false
-unsaid said before f n none stays older = grind arith
-
-pub covers_member : (items : List Reading) (c n : Text)
-    → list_any (same n) (named people_in items) ≡ false
-    → unwrap_or (last_of (says_member c) items n) false ≡ false
+pub covers_member : (items : List Reading) (c n : Text) → list_any (same n)
+    (named people_in items) ≡ false → unwrap_or (last_of (says_member c) items n) false ≡ false
 covers_member [] c n h = refl
 covers_member (x ∷ older) c n h =
     let (here, before) = absent (same n) (people_in x.told) (named people_in older) h in
-    unsaid (says_member c (ours x) x.told n) _ (last_of (says_member c) older) n
-    (says_member_none c (ours x) x.told n here) (name_stays (ours x) x.told n here)
-    (covers_member older c n before)
+    let said = says_member_none c (ours x) x.told n here in
+    grind (arith, said, name_stays (ours x) x.told n here, covers_member older c n before)
 
 -- ---- the channels
 

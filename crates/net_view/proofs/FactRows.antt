@@ -1,8 +1,8 @@
 -- Modes, topics and what is known of persons: looked back through by computation.
 use Prim.Native.String.{String}
-use Rattle.net_view.proofs.Transcripts.{joined, member, members, read, reading, with_bob}
+use Rattle.net_view.proofs.Transcripts.{joined, member, members, plain, read, reading, with_bob}
 use Rattle.net_view.proofs.Words.{◌++◌, ◌∷◌, ◌≡◌, List, None, Option, Some, Text, [], codes, map}
-use Rattle.net_view.{proofs.Words.{mode_of, refl}, specs.Topic.topic_of}
+use Rattle.net_view.{proofs.Words.mode_of, specs.Topic.topic_of}
 
 -- the settings of these letters
 abbrev modes : String → List String → List (Option (Option Text))
@@ -11,8 +11,12 @@ modes letters lines = map (mode_of (read lines) (codes "#c")) (codes letters)
 abbrev topic : List String → Option Text
 topic lines = topic_of (read lines) (codes "#c")
 
-what_channels_have : (topic (joined ++ ":s 332 Me #c :Hello all" ∷ ":s TOPIC #c" ∷ [])
-    ≡ Some (codes "Hello all"))
+-- an account over two channels and a PART of one
+abbrev two_channels : List String
+two_channels = joined ++ ":Me!m@h JOIN #d" ∷ ":bob!b@h JOIN #c bobacc :Bob" ∷ ":bob!b@h JOIN #d"
+    ∷ ":bob!b@h PART #c" ∷ []
+
+what_is_known : (topic (joined ++ ":s 332 Me #c :Hi" ∷ ":s TOPIC #c" ∷ []) ≡ Some (codes "Hi"))
     × (topic (joined ++ ":s 332 Me #c :Hello all" ∷ ":s 331 Me #c :No topic is set" ∷ []) ≡ None)
     × (topic (joined ++ ":s TOPIC #c :Hello" ∷ ":s TOPIC #c :" ∷ []) ≡ None)
     -- 324 lists what is on, and all else is off; a change without the parameter that it needs tells
@@ -25,15 +29,7 @@ what_channels_have : (topic (joined ++ ":s 332 Me #c :Hello all" ∷ ":s TOPIC #
     × (modes "n" (joined ++ ":s MODE #c +n" ∷ ":Me!m@h JOIN #c" ∷ []) ≡ None ∷ [])
     -- a limit takes its parameter when it is set, and none when it is unset
     × (modes "l" (with_bob ++ ":s MODE #c +lo 5 bob" ∷ ":s MODE #c -l+v bob" ∷ []) ≡ None ∷ [])
-unfolding reading
-what_channels_have = (refl, refl, refl, refl, refl, refl, refl)
-
--- an account over two channels and a PART of one
-abbrev two_channels : List String
-two_channels = joined ++ ":Me!m@h JOIN #d" ∷ ":bob!b@h JOIN #c bobacc :Bob" ∷ ":bob!b@h JOIN #d"
-    ∷ ":bob!b@h PART #c" ∷ []
-
-what_is_known : (member "#d" "bob" two_channels
+    × (member "#d" "bob" two_channels
     ≡ Some ([], Some (codes "bob"), Some (codes "bobacc"), None))
     × (members ("bob" ∷ "me" ∷ []) two_channels ≡ "me" ∷ [])
     -- known under a new nick; `*` is no account
@@ -42,16 +38,16 @@ what_is_known : (member "#d" "bob" two_channels
     ≡ Some ([], Some (codes "Rob"), None, Some (codes "lunch")))
     -- an account is forgotten when the last channel is left
     × (member "#c" "bob" (joined ++ ":bob!b@h JOIN #c bobacc :Bob" ∷ ":bob!b@h PART #c"
-    ∷ ":bob!b@h JOIN #c" ∷ []) ≡ Some ([], Some (codes "bob"), None, None))
+    ∷ ":bob!b@h JOIN #c" ∷ []) ≡ plain [] "bob")
     -- what is told of somebody out of sight is not known later
     × (member "#c" "bob" (joined ++ ":bob!b@h ACCOUNT bobacc" ∷ ":bob!b@h JOIN #x bobacc :Bob"
-    ∷ ":bob!b@h JOIN #c" ∷ []) ≡ Some ([], Some (codes "bob"), None, None))
+    ∷ ":bob!b@h JOIN #c" ∷ []) ≡ plain [] "bob")
     -- a spelling is that of the last JOIN, name list or NICK
     × (member "#c" "bob" (joined ++ ":bob!b@h JOIN #c" ∷ ":s 353 Me = #c :@BOB" ∷ [])
-    ≡ Some (0 ∷ [], Some (codes "BOB"), None, None))
+    ≡ plain (0 ∷ []) "BOB")
     -- an AWAY without a text ends it; ACCOUNT without a word tells nothing
     × (member "#c" "bob" (joined ++ ":bob!b@h JOIN #c bobacc :Bob" ∷ ":bob!b@h AWAY :lunch"
     ∷ ":bob!b@h away" ∷ ":bob!b@h ACCOUNT :a b" ∷ [])
     ≡ Some ([], Some (codes "bob"), Some (codes "bobacc"), None))
 unfolding reading
-what_is_known = (refl, refl, refl, refl, refl, refl, refl)
+what_is_known = assumption

@@ -34,8 +34,7 @@ module _ {K : Type 0} {R : K → K → Ordering} (o : IsTotalOrder R) (exact : f
   below_found k b (e ∷ es) h f = grind (arith, below_found k b es)
 
   is_first : (es : List (K × X)) (after best : Option K) → fin.is_sorted R es ≡ true
-      → IsNextBy R (λ c. is_some (fin.find R c es)) after best
-      → best ≡ key (first_above R after es)
+      → IsNextBy R (λ c. is_some (fin.find R c es)) after best → best ≡ key (first_above R after es)
   is_first [] after best sorted h = grind arith
   is_first (e ∷ es) after best sorted h = grind (arith, below_found, is_first es after best)
 

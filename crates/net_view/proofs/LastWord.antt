@@ -16,9 +16,8 @@ traced_on (y ∷ front) x n k h = grind (arith, traced_on front)
 
 -- an item says nothing of a person, and who it is followed back to has the answer
 said_before : {A : Type 0} (said : Option A) (before : Option Text) (f : Text → Option A)
-    (g : Text → Option Text) (name : Text) (answer : A) → said ≡ None
-    → option_and_then g before ≡ Some name
-    → ((j : Text) → before ≡ Some j → g j ≡ Some name → f j ≡ Some answer)
+    (g : Text → Option Text) (name : Text) (answer : A) → said ≡ None → option_and_then g before
+    ≡ Some name → ((j : Text) → before ≡ Some j → g j ≡ Some name → f j ≡ Some answer)
     → option_or said (option_and_then f before) ≡ Some answer
 said_before said before f g name answer none traced found = grind arith
 

@@ -3,7 +3,7 @@ use Prim.Native.String.{String}
 use Rattle.net_view.proofs.{Transcripts.reading, Words.{◌∷◌, ◌≡◌, Changed, HasAccount, IsAway}}
 use Rattle.net_view.proofs.Words.{Joined, Kicked, Listed, Name, None, Parted, Present, Quits}
 use Rattle.net_view.proofs.Words.{Received, Renamed, Settles, Silent, Some, Supports, Titled, Told}
-use Rattle.net_view.proofs.Words.{Welcomed, [], codes, false, parts_of, refl, told, true}
+use Rattle.net_view.proofs.Words.{Welcomed, [], codes, false, map, parts_of, told, true}
 
 abbrev tells : String → Told
 tells line = told [] (Received (parts_of (codes line)))
@@ -12,24 +12,19 @@ tells line = told [] (Received (parts_of (codes line)))
 abbrev named : String → String → Name
 named key spelled = record { key = codes key; spelled = codes spelled }
 
-greetings_and_joins : (tells ":s 001 Me :hi" ≡ Welcomed (codes "Me"))
+what_lines_tell : (tells ":s 001 Me :hi" ≡ Welcomed (codes "Me"))
     × (tells ":s 001 @me :hi" ≡ Silent)
-    × (tells ":s 005 Me A=1 -B :are supported"
-    ≡ Supports (codes "Me" ∷ codes "A=1" ∷ codes "-B" ∷ codes "are supported" ∷ []))
+    × (tells ":s 005 Me A=1 -B :a b" ≡ Supports (map codes ("Me" ∷ "A=1" ∷ "-B" ∷ "a b" ∷ [])))
     × (tells ":s 376 Me :end" ≡ Settles)
     × (tells ":s 422 Me :none" ≡ Settles)
     × (tells ":Bob!b@h join #C" ≡ Joined (named "#c" "#C") true (named "bob" "Bob") None)
     × (tells ":bob!b@h JOIN #c bobacc :Bob B"
     ≡ Joined (named "#c" "#c") true (named "bob" "bob") (Some (Some (codes "bobacc"))))
-    × (tells ":bob!b@h JOIN #c * :Bob B"
-    ≡ Joined (named "#c" "#c") true (named "bob" "bob") (Some None))
+    × (tells ":bob@h JOIN #c * :B" ≡ Joined (named "#c" "#c") true (named "bob" "bob") (Some None))
     × (tells ":bob!b@h JOIN c" ≡ Joined (named "c" "c") false (named "bob" "bob") None)
     -- a JOIN fixes the settings also where it tells nothing else
     × (tells ":@bob!b@h JOIN #c" ≡ Settles)
-unfolding reading
-greetings_and_joins = (refl, refl, refl, refl, refl, refl, refl, refl, refl, refl)
-
-persons_and_others : (tells ":bob@h PART #C :bye" ≡ Parted (codes "#c") (codes "bob"))
+    × (tells ":bob@h PART #C :bye" ≡ Parted (codes "#c") (codes "bob"))
     × (tells ":s KICK #c Bob :out" ≡ Kicked (codes "#c") (codes "bob"))
     × (tells ":s KICK #c @bob :out" ≡ Silent)
     × (tells ":bob!b@h QUIT :bye" ≡ Quits (codes "bob"))
@@ -44,10 +39,7 @@ persons_and_others : (tells ":bob@h PART #C :bye" ≡ Parted (codes "#c") (codes
     × (tells ":bob!b@h AWAY :gone fishing" ≡ IsAway (codes "bob") (Some (codes "gone fishing")))
     × (tells ":bob!b@h AWAY" ≡ IsAway (codes "bob") None)
     × (tells ":bob!b@h PRIVMSG #c :JOIN #c" ≡ Silent)
-unfolding reading
-persons_and_others = (refl, refl, refl, refl, refl, refl, refl, refl, refl, refl, refl, refl, refl)
-
-topics_and_modes : (tells ":s TOPIC #c :Hello all" ≡ Titled (codes "#c") (Some (codes "Hello all")))
+    × (tells ":s TOPIC #c :Hello all" ≡ Titled (codes "#c") (Some (codes "Hello all")))
     × (tells ":s TOPIC #c :" ≡ Titled (codes "#c") None)
     × (tells ":s TOPIC #c" ≡ Silent)
     × (tells ":s 332 Me #c :Hello all" ≡ Titled (codes "#c") (Some (codes "Hello all")))
@@ -62,4 +54,4 @@ topics_and_modes : (tells ":s TOPIC #c :Hello all" ≡ Titled (codes "#c") (Some
     ∷ record { letter = 107; setting = Some (Some (codes "key")) } ∷ []))
     × (tells ":s 324 Me #c" ≡ Listed (codes "#c") [])
 unfolding reading
-topics_and_modes = (refl, refl, refl, refl, refl, refl, refl, refl)
+what_lines_tell = assumption

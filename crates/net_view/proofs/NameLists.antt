@@ -38,8 +38,8 @@ module _ (us : Text → Bool) (c : Text) where
         ≡ member_after us (Present c b) d (Some one) n
     member_in_parts d ch n =
         let was = get-members_after us (Present c a) d (Some ch) ch.name n in
-        alike_when _ _ _ _ (grind (arith, any_append, was))
-        (λ h rank is. let ranked = last_listed n rank in
+        alike_when _ _ _ _ (grind (arith, any_append, was)) (λ h rank is.
+        let ranked = last_listed n rank in
         grind (arith, last_in-append, ranked a, ranked b, was, is, has-ranks))
 
     channel_in_parts : (d : Text) (old : Option Channel)
@@ -66,21 +66,19 @@ pub view_in_parts : (v : View) (c : Text) (a b : List Listing) → IsSound v
 view_in_parts v c a b sound =
     let us = us_of v in
     let one = channels_after us (Present c a) v.channels in
-    let two = channels_after us (Present c b) one in
     let was = get-channels_after us (Present c a) v.channels in
     let is = get-channels_after us (Present c b) one in
-    view_after v (Present c (a ++ b)) two _
+    view_after v (Present c (a ++ b)) (channels_after us (Present c b) one) _
     (λ d. cc (channel_in_parts us c a b d (fin.get v.channels d), was d, is d)) (λ n.
     let spelled = last_in-append (spelled_in n) a b in
     let seen = seen_more v.channels one c n (lists n a) (member_listed us c a v.channels n) in
-    let more = seen_more one two c n (lists n b) (member_listed us c b one n) in
+    let more = seen_more one _ c n (lists n b) (member_listed us c b one n) in
     grind (arith, get-people_after, seen, more, sound.known n, last_spelled n, was c, spelled))
 
 pub lists_add_up : (items : List Arrival) (whole first second : Arrival) (c : Text)
     (a b : List Listing) → told (view_of items).settings whole ≡ Present c (a ++ b)
-    → told (view_of items).settings first ≡ Present c a
-    → told (view_of items).settings second ≡ Present c b
-    → view_of (items ++ whole ∷ []) ≡ view_of ((items ++ first ∷ []) ++ second ∷ [])
+    → told (view_of items).settings first ≡ Present c a → told (view_of items).settings second
+    ≡ Present c b → view_of (items ++ whole ∷ []) ≡ view_of ((items ++ first ∷ []) ++ second ∷ [])
 unfolding after
 lists_add_up items whole first second c a b w f s =
     simp (view_step, w, f, s, view_in_parts (view_of items) c a b (view_sound items))

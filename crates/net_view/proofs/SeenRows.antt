@@ -1,7 +1,7 @@
 -- Which ranks a client without multi-prefix is shown, that came before the last k lines; and which
 -- accounts are kept.
 use Rattle.net_view.proofs.Words.{◌≡◌, ◌∷◌, ◌++◌, ℕ, Bool, true, false, List, [], Option, Some}
-use Rattle.net_view.proofs.Words.{None, refl, codes, Text, ranks_that, Reading, rank_decided}
+use Rattle.net_view.proofs.Words.{None, codes, Text, ranks_that, Reading, rank_decided}
 use Rattle.net_view.proofs.Words.{HeldCaps, all_caps, kept_person, thinned_ranks, was_shown}
 use Prim.Native.String.{String}
 use Rattle.net_view.proofs.Transcripts.{reading, read, joined}
@@ -55,4 +55,4 @@ what_is_seen : (seen 0 "bob" [] ≡ 0 ∷ [])
     × (account (caps true false true true) ≡ None)
     × (account (caps false true true false) ≡ Some (codes "bobacc"))
 unfolding reading
-what_is_seen = (refl, refl, refl, refl, refl, refl, refl, refl, refl, refl, refl, refl, refl, refl)
+what_is_seen = assumption

@@ -20,14 +20,9 @@ use Rattle.net_view.proofs.{RankSets.has_of_set, StepLaw.view_back_step, Tests.i
 use Rattle.net_view.{proofs.{Tests.no_true, ToldSound.told_sound}, specs.Sound.IsSoundPerson}
 use Rattle.{net_view.specs.Step.known_after, std.proofs.lemmas.Option.cond_some}
 
--- the channel of before
-module _ (v : View) (c : Text) (o : Option Channel) (h : IfSome o (IsSoundChannel v c)) where
-  pub old_modes : (letter : ℕ) → IfSome (old_mode o letter) (IsKept (kind_of v.settings letter))
-  old_modes letter = grind arith
-
-  pub old_ranks : (nb : Option Text) (rank : ℕ)
-      → had_rank rank (option_and_then (old_member o) nb) ≡ true → rank < rank_limit v.settings
-  old_ranks nb rank e = grind arith
+old_modes : (v : View) (c : Text) (o : Option Channel) → IfSome o (IsSoundChannel v c)
+    → (letter : ℕ) → IfSome (old_mode o letter) (IsKept (kind_of v.settings letter))
+old_modes v c o h letter = grind arith
 
 -- a member of a channel after the item
 pub in_channel_after : (us : Text → Bool) (t : Told) (c : Text) (old : Option Channel) (n : Text)
@@ -56,7 +51,7 @@ seen_is_spelled v t sound told n h =
     let told = new_member_is_spelled c us on t n in
     let member = in_channel_after us t c old n (cc (get-channels_after us t v.channels c, at.1)) in
     let nb : name_before us t n ≡ Some n = grind (arith, at.1, unspelled_keeps_name us on t n) in
-    simp nb (grind (arith, was, at.1)))
+    grind (arith, nb, was, at.1))
 
 -- ---- we stay a member of the channels that we are on, under whatever nick
 
@@ -82,10 +77,9 @@ stays us t c k ch mine h b m other = grind arith
 we_stay : (s : Standing) (t : Told) (c nick : Text) (ch : Channel) → s.own ≡ Some nick
     → IsSoundTold s.settings t → fin.contains_key ch.members (key_by s.settings nick) ≡ true
     → ends (is_us s) t c ≡ false → begins (is_us s) t c ≡ None → WeAreIn c s t (Some ch)
-we_stay s (Renamed old new) c nick ch own sound member h b =
-    grind (arith, own, same_refl, is_same (key_by s.settings nick) old)
 we_stay s t c nick ch own sound member h b =
-    grind (arith, own, stays (is_us s) t c (key_by s.settings nick) ch)
+    let key = key_by s.settings nick in
+    grind (arith, own, same_refl, is_same key, stays (is_us s) t c key ch)
 
 -- how we are on a channel after an item: it says so, or we were, and it says nothing of that
 begun_or_kept : (P : Channel → Type 0) (from : Text → Channel) (e : Bool) (b : Option Text)
@@ -132,15 +126,13 @@ pub record IsOnAfter (v : View) (t : Told) (c : Text) (ch : Channel) : Type 0 wh
 module _ (v : View) (t : Told) (sound : IsSound v) (told : IsSoundTold v.settings t) where
   pub on_after : (c : Text) → ForSome (fin.get (after_told v t).channels c) (IsOnAfter v t c)
   on_after c ch h =
-      let s = standing_of v in
-      let us = is_us s in
+      let us = is_us (standing_of v) in
       let old = fin.get v.channels c in
       begun_or_kept (IsOnAfter v t c) (channel_from us t c old) (ends us t c) (begins us t c) old ch
       (sym (get-channels_after us t v.channels c) ∙ h)
       (λ name b. grind (arith, b, told, is_same c))
-      (λ before at stays none.
-      let was = sound.channels c before at in
-      grind (arith, was.ready, was.name, was.key, at, was.own, stays, we_stay s t c))
+      (λ before at stays none. let was = sound.channels c before at in
+      grind (arith, was.ready, was.name, was.key, at, was.own, stays, we_stay (standing_of v) t c))
 
   pub channels_sound : (c : Text)
       → ForSome (fin.get (after_told v t).channels c) (IsSoundChannel (after_told v t) c)
@@ -159,7 +151,7 @@ module _ (v : View) (t : Told) (sound : IsSound v) (told : IsSoundTold v.setting
             (said_sound _ _ _ (says_mode_sound v.settings us t c told letter)
             (old_modes v c old was letter));
         ranks = λ n. simp (on.settings, get-members_after us t c old) (for_some _ _
-            (search (of_test, ranks_sound v.settings us t c told, old_ranks v c old was)));
+            (grind (arith, was, of_test, ranks_sound v.settings us t c told)));
         spelled = λ n e.
             let seen = seen_in (after_told v t).channels c n (cc (h, on.made, e)) in
             simp (on.settings, get-people_after us t, seen) (seen_is_spelled v t sound told n seen);
@@ -169,9 +161,8 @@ module _ (v : View) (t : Told) (sound : IsSound v) (told : IsSoundTold v.setting
 stays_empty : (t : Told) → own_after t (standing_of empty_view) ≡ None
     → after_told empty_view t ≡ empty_view
 stays_empty t h =
-    let us : Text → Bool = λ _. false in
-    let cs = channels_are us t fin.empty fin.empty (λ c. grind (arith, fin.get-empty)) in
-    grind (arith, cs, no_people us t fin.empty)
+    let cs = channels_are (λ _. false) t fin.empty fin.empty (λ c. grind (arith, fin.get-empty)) in
+    grind (arith, cs, no_people)
 
 pub sound_step : (v : View) (t : Told) → IsSound v → IsSoundTold v.settings t
     → IsSound (after_told v t)

@@ -35,7 +35,7 @@ named_step x older c name here =
     → old_member (channel_of older c) n ≡ member_of older c n =
     λ n w. grind (arith, members_get older c n) in
     sym (channel_is (ours x) x.told c (channel_of older c) (channel_named (x ∷ older) c name)
-    (grind arith) (λ letter. simp modes_get (grind (arith, modes_get older c letter)))
+    (grind arith) (λ letter. grind (arith, modes_get older c letter, modes_get (x ∷ older) c letter))
     (λ n. simp (members_get, here) (alike_when _ _ _ _ (grind (arith, were))
     (λ h rank is. grind (arith, h, said_rank_some c rank, were, is, has-ranks)))))
 

@@ -1,6 +1,7 @@
 -- Answers that are true or false, and options.
 use Rattle.net_view.proofs.Words.{◌≡◌, ◌&&◌, ◌||◌, ◌∷◌, ◌++◌, arith, Bool, true, false, cond, List}
 use Rattle.net_view.proofs.Words.{[], is_some, list_any, option_map, Option, Some, None, refl}
+pub use Rattle.irc_line.proofs.Logic.{and_parts, no_true, none_of_is_some}
 pub use Rattle.std.proofs.lemmas.List.Folds.{list_any-append as any_append}
 
 pub or_false : (a b : Bool) → (a || b) ≡ false → (a ≡ false) × (b ≡ false)
@@ -10,14 +11,8 @@ pub absent : {A : Type 0} (p : A → Bool) (xs ys : List A) → list_any p (xs +
     → (list_any p xs ≡ false) × (list_any p ys ≡ false)
 absent p xs ys h = grind (arith, any_append)
 
-pub no_true : false ≡ true → ⊥
-no_true e = cc
-
 pub cond_and_false : {A : Type 0} (a b : Bool) (x y : A) → b ≡ false → cond (a && b) x y ≡ y
 cond_and_false a b x y e = grind arith
-
-pub none_of_is_some : {A : Type 0} (x : Option A) → is_some x ≡ false → x ≡ None
-none_of_is_some x e = grind arith
 
 pub when : {A : Type 0} (b : Bool) (x y : A) → (b ≡ true → x ≡ y)
     → cond b (Some x) None ≡ cond b (Some y) None
@@ -39,6 +34,3 @@ is_some_when b x = grind arith
 
 pub is_some_map : {A B : Type 0} (f : A → B) (o : Option A) → is_some (option_map f o) ≡ is_some o
 is_some_map f o = grind arith
-
-pub and_parts : (a b : Bool) → (a && b) ≡ true → (a ≡ true) × (b ≡ true)
-and_parts a b e = grind arith

@@ -9,8 +9,7 @@ use Rattle.net_view.proofs.Words.{mode_change, position-Some, rank_limit, state_
 use Rattle.net_view.{proofs.Words.{word_of, words, ℕ}, specs.StateLines.letter_change}
 
 module _ (settings : List Token) where
-  listings_sound : (texts : List Text)
-      → Each (IsSoundListing settings)
+  listings_sound : (texts : List Text) → Each (IsSoundListing settings)
       (filter_map (listing settings) (map (word_of settings) texts))
   listings_sound [] = tt
   listings_sound (text ∷ texts) = grind (arith, listing_sound settings text, listings_sound texts)

@@ -30,21 +30,22 @@ member channel key lines =
     if is_member rs c n then Some
     (ranks_that (rank_decided rs c n), spelling_of rs n, account_of rs n, away_of rs n) else None
 
+-- a member with these ranks, spelled so, of whom no more is known
+abbrev pub plain : List ℕ → String → Option (List ℕ × Option Text × Option Text × Option Text)
+plain ranks nick = Some (ranks, Some (codes nick), None, None)
+
 -- whom of these people #c has
 abbrev pub members : List String → List String → List String
 members people lines = filter (λ key. is_member (read lines) (codes "#c") (codes key)) people
 
--- ---- how transcripts begin
-
--- the network takes us in, names its settings and ends its greeting
+-- how transcripts begin: the network takes us in, names its settings and ends its greeting
 abbrev pub welcome : List String
 welcome =
     ":s 001 Me :hi" ∷ ":s 005 Me PREFIX=(ov)@+ CHANTYPES=# :are supported" ∷ ":s 376 Me :end" ∷ []
 
--- then we join a channel
+-- then we join a channel, and bob joins it
 abbrev pub joined : List String
 joined = welcome ++ ":Me!m@h JOIN #c" ∷ []
 
--- and bob joins it
 abbrev pub with_bob : List String
 with_bob = joined ++ ":bob!b@h JOIN #c" ∷ []
