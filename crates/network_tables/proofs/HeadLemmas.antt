@@ -1,14 +1,11 @@
 -- Keys stand as their heads do where these differ.
-use Rattle.std.specs.Prelude.{◌≡◌, ℕ, zero, suc, ◌+◌, ◌*◌, ◌^◌, ◌<◌, ◌≤◌, [], ◌∷◌, length}
-use Rattle.std.specs.declared.cmp.Ordering.{Ordering}
-use Rattle.std.specs.declared.cmp.Ordering.TheVariants.{Less, Equal, Greater}
-use Rattle.std.specs.Ordering.{nat_cmp, ordering_then, MatchOrdering}
-use Rattle.std.specs.Cmp.{ranks}
-use Rattle.std.proofs.Common.{refl, sym, ap, subst, arith, get_or, drop}
-use Rattle.std.proofs.Math.Nat.{mul-le-mul_right, pow-succ'}
-use Rattle.irc_support.specs.Text.{Text}
-use Rattle.net_view.specs.Names.{bytes_cmp}
-use Rattle.network_tables.specs.Head.{head_at, head_of, AreBytesTo}
+use Rattle.{irc_support.specs.Text.Text, net_view.specs.Names.bytes_cmp}
+use Rattle.{network_tables.specs.Head.{AreBytesTo, head_at, head_of}, std.proofs.Common.arith}
+use Rattle.std.proofs.{Common.{drop, get_or, refl, sym}, Math.Nat.{mul-le-mul_right, pow-succ'}}
+use Rattle.std.specs.{Cmp.{Lexicographic.nat_list_cmp_total, ranks}, Ordering.MatchOrdering}
+use Rattle.std.specs.{Ordering.{nat_cmp, ordering_then}, Prelude.{[], length, suc, zero, ℕ, ◌*◌}}
+use Rattle.std.specs.{Prelude.{◌+◌, ◌<◌, ◌^◌, ◌∷◌, ◌≡◌, ◌≤◌}, declared.cmp.Ordering.Ordering}
+use Rattle.std.specs.declared.cmp.Ordering.TheVariants.{Equal, Greater, Less}
 
 -- a number of which the first digit is b
 small : (p b x : ℕ) → b < 256 → x < p → b * p + x < 256 * p
@@ -20,117 +17,66 @@ apart p a b x y m l = let e : suc b * p ≤ a * p = mul-le-mul_right p l in omeg
 head_small : (n : ℕ) (xs : Text) → AreBytesTo n xs → head_at n xs < 256 ^ n
 head_small zero xs h = omega arith
 head_small (suc n) [] h =
-    let e : 256 ^ suc n ≡ 256 * 256 ^ n = pow-succ' 256 n in
-    let l = head_small n [] (none n) in
-    omega (arith, e, l)
+    omega (arith, pow-succ' 256 n, head_small n [] (none n))
   where
     none : (n : ℕ) → AreBytesTo n []
     none zero = tt
     none (suc n) = tt
 head_small (suc n) (b ∷ xs) h =
-    let e : 256 ^ suc n ≡ 256 * 256 ^ n = pow-succ' 256 n in
-    subst (λ m. b * 256 ^ n + head_at n xs < m) (sym e)
-    (small (256 ^ n) b (head_at n xs) h.0 (head_small n xs h.1))
+    rw (pow-succ' 256 n) (small (256 ^ n) b (head_at n xs) h.0 (head_small n xs h.1))
 
-module _ (n x y : ℕ) (xs ys : Text) (h : AreBytesTo n xs) (k : AreBytesTo n ys) where
-  less_by : (head_at n xs < head_at n ys → bytes_cmp xs ys ≡ Less) → (r : Ordering) →
-      MatchOrdering r (x < y) (x ≡ y) (y < x) → x * 256 ^ n + head_at n xs < y * 256 ^ n + head_at n
-      ys → ordering_then r (bytes_cmp xs ys) ≡ Less
-  less_by next Less m l = refl
-  less_by next Equal m l = next (omega (arith, l, ap (λ z. z * 256 ^ n) m))
-  less_by next Greater m l =
-      absurd (omega (
-        arith,
-        l,
-        apart (256 ^ n) x y (head_at n ys) (head_at n xs) (head_small n ys
-            k) m,
-      ))
+-- numbers of two digits stand as their first digits do, and where these are one as the others do
+first_less : (p x y a b : ℕ) (r : Ordering) → b < p → (a < b → r ≡ Less) → x * p + a < y * p + b
+    → ordering_then (nat_cmp x y) r ≡ Less
+first_less p x y a b r m next l =
+    let above : y < x → y * p + b < x * p + a = apart p x y b a m in
+    grind arith
 
-  greater_by : (head_at n ys < head_at n xs → bytes_cmp xs ys ≡ Greater) → (r : Ordering) →
-      MatchOrdering r (x < y) (x ≡ y) (y < x) → y * 256 ^ n + head_at n ys < x * 256 ^ n + head_at n
-      xs → ordering_then r (bytes_cmp xs ys) ≡ Greater
-  greater_by next Greater m l = refl
-  greater_by next Equal m l = next (omega (arith, l, ap (λ z. z * 256 ^ n) m))
-  greater_by next Less m l =
-      absurd (omega (
-        arith,
-        l,
-        apart (256 ^ n) y x (head_at n xs) (head_at n ys) (head_small n xs
-            h) m,
-      ))
+first_equal : (p x y a b : ℕ) (r s : Ordering) → a < p → b < p → (a ≡ b → r ≡ s)
+    → x * p + a ≡ y * p + b → r ≡ ordering_then (nat_cmp x y) s
+first_equal p x y a b r s k m next e =
+    let below : x < y → x * p + a < y * p + b = apart p y x a b k in
+    let above : y < x → y * p + b < x * p + a = apart p x y b a m in
+    grind arith
 
-less : (n : ℕ) (xs ys : Text) → AreBytesTo n xs → AreBytesTo n ys → head_at n xs < head_at n ys →
-    bytes_cmp xs ys ≡ Less
-less zero xs ys h k l = absurd (omega (arith, l))
-less (suc n) [] [] h k l = absurd (omega (arith, l))
-less (suc n) [] (y ∷ ys) h k l = refl
-less (suc n) (x ∷ xs) [] h k l = absurd (omega (arith, l))
-less (suc n) (x ∷ xs) (y ∷ ys) h k l =
-    less_by n x y xs ys h.1 k.1 (less n xs ys h.1 k.1) (nat_cmp x y) (ranks x y) l
-
-greater : (n : ℕ) (xs ys : Text) → AreBytesTo n xs → AreBytesTo n ys → head_at n ys < head_at n xs
-    → bytes_cmp xs ys ≡ Greater
-greater zero xs ys h k l = absurd (omega (arith, l))
-greater (suc n) [] [] h k l = absurd (omega (arith, l))
-greater (suc n) (x ∷ xs) [] h k l = refl
-greater (suc n) [] (y ∷ ys) h k l = absurd (omega (arith, l))
-greater (suc n) (x ∷ xs) (y ∷ ys) h k l =
-    greater_by n x y xs ys h.1 k.1 (greater n xs ys h.1 k.1) (nat_cmp x y) (ranks x y) l
+less : (n : ℕ) (xs ys : Text) → AreBytesTo n ys → head_at n xs < head_at n ys
+    → bytes_cmp xs ys ≡ Less
+less zero xs ys k l = absurd (omega arith)
+less (suc n) [] [] k l = absurd (omega arith)
+less (suc n) [] (y ∷ ys) k l = refl
+less (suc n) (x ∷ xs) [] k l = absurd (omega arith)
+less (suc n) (x ∷ xs) (y ∷ ys) k l =
+    first_less (256 ^ n) x y _ _ _ (head_small n ys k.1) (less n xs ys k.1) l
 
 -- keys whose heads differ
-pub by_heads : (a b : Text) → AreBytesTo 8 a → AreBytesTo 8 b → (r : Ordering) → r ≡ nat_cmp
-    (head_of a) (head_of b) → (r ≡ Equal → ⊥) → r ≡ bytes_cmp a b
-by_heads a b h k r e differ = by r (subst (λ s. MatchOrdering s (head_of a < head_of b) (head_of a ≡
-    head_of b) (head_of b < head_of a)) (sym e) (ranks (head_of a) (head_of b))) differ
+pub by_heads : (a b : Text) → AreBytesTo 8 a → AreBytesTo 8 b → (r : Ordering)
+    → r ≡ nat_cmp (head_of a) (head_of b) → (r ≡ Equal → ⊥) → r ≡ bytes_cmp a b
+by_heads a b h k r e differ = by r (rw e (ranks (head_of a) (head_of b))) differ
   where
-    by : (r : Ordering) → MatchOrdering r (head_of a < head_of b) (head_of a ≡ head_of b) (head_of b
-        < head_of a) → (r ≡ Equal → ⊥) → r ≡ bytes_cmp a b
-    by Less m differ = sym (less 8 a b h k m)
+    by : (r : Ordering)
+        → MatchOrdering r (head_of a < head_of b) (head_of a ≡ head_of b) (head_of b < head_of a)
+        → (r ≡ Equal → ⊥) → r ≡ bytes_cmp a b
+    by Less m differ = sym (less 8 a b k m)
     by Equal m differ = absurd (differ refl)
-    by Greater m differ = sym (greater 8 a b h k m)
+    by Greater m differ = rw (nat_list_cmp_total.antisymm a b, less 8 b a h m)
 
 -- bytes by their places
 pub are_bytes : (n : ℕ) (xs : Text) → ((i : ℕ) → i < n → get_or xs i 0 < 256) → AreBytesTo n xs
 are_bytes zero xs h = tt
 are_bytes (suc n) [] h = tt
-are_bytes (suc n) (b ∷ xs) h = (
-  h 0 (omega arith),
-  are_bytes n xs (λ i l. h (suc i) (omega (
-    arith,
-    l,
-  ))),
-)
+are_bytes (suc n) (b ∷ xs) h =
+    (h 0 (omega arith), are_bytes n xs (λ i l. h (suc i) (omega arith)))
 
 -- keys of one head, by what stands behind it
-module _ (n x y : ℕ) (xs ys : Text) (h : AreBytesTo n xs) (k : AreBytesTo n ys) where
-  behind_by : (head_at n xs ≡ head_at n ys → bytes_cmp (drop n xs) (drop n ys) ≡ bytes_cmp xs ys) →
-      (r : Ordering) → MatchOrdering r (x < y) (x ≡ y) (y < x) → x * 256 ^ n + head_at n xs ≡ y *
-      256 ^ n + head_at n ys → bytes_cmp (drop n xs) (drop n ys) ≡ ordering_then r (bytes_cmp xs ys)
-  behind_by next Less m e =
-      absurd (omega (
-        arith,
-        e,
-        apart (256 ^ n) y x (head_at n xs) (head_at n ys) (head_small n xs
-            h) m,
-      ))
-  behind_by next Equal m e = next (omega (arith, e, ap (λ z. z * 256 ^ n) m))
-  behind_by next Greater m e =
-      absurd (omega (
-        arith,
-        e,
-        apart (256 ^ n) x y (head_at n ys) (head_at n xs) (head_small n ys
-            k) m,
-      ))
-
-pub behind : (n : ℕ) (a b : Text) → n ≤ length a → n ≤ length b → AreBytesTo n a → AreBytesTo n b →
-    head_at n a ≡ head_at n b → bytes_cmp (drop n a) (drop n b) ≡ bytes_cmp a b
+pub behind : (n : ℕ) (a b : Text) → n ≤ length a → n ≤ length b → AreBytesTo n a → AreBytesTo n b
+    → head_at n a ≡ head_at n b → bytes_cmp (drop n a) (drop n b) ≡ bytes_cmp a b
 behind zero a b l m h k e = refl
-behind (suc n) [] b l m h k e = absurd (omega (arith, l))
-behind (suc n) (x ∷ xs) [] l m h k e = absurd (omega (arith, m))
+behind (suc n) [] b l m h k e = absurd (omega arith)
+behind (suc n) (x ∷ xs) [] l m h k e = absurd (omega arith)
 behind (suc n) (x ∷ xs) (y ∷ ys) l m h k e =
-    behind_by n x y xs ys h.1 k.1
-    (behind n xs ys (omega (arith, l)) (omega (arith, m)) h.1 k.1) (nat_cmp x y) (ranks x y) e
+    let next = behind n xs ys (omega arith) (omega arith) h.1 k.1 in
+    first_equal (256 ^ n) x y _ _ _ _ (head_small n xs h.1) (head_small n ys k.1) next e
 
 -- numbers that are found equal
 pub level : (x y : ℕ) → Equal ≡ nat_cmp x y → x ≡ y
-level x y e = subst (λ r. MatchOrdering r (x < y) (x ≡ y) (y < x)) (sym e) (ranks x y)
+level x y e = rw (← e) at (ranks x y)

@@ -2,15 +2,12 @@
 use Rattle.net_view.proofs.Words
 use Words.{◌≡◌, ◌+◌, ◌<◌, ◌∷◌, ℕ, suc, Bool, true, false, List, [], map, is_some, length, None}
 use Words.{refl, arith, Text, bytes_cmp}
-use Rattle.std.specs.Prelude.{T, zero}
 use Rattle.std.specs.FinMap as fin
-use Rattle.std.proofs.Common.{get_or, set}
-use Rattle.std.proofs.lemmas.{Bool.cases_eq, List.get_or_default}
-use Rattle.net_view.proofs.AfterAlike.{look_ups, is_same}
-use Rattle.network_tables.specs.Head.{head_of}
-use Rattle.network_tables.specs.Marks.{AreMarked, is_marked, mark_of}
-use Rattle.network_tables.specs.{Shown.shown}
-use Rattle.network_tables.proofs.ShownLemmas.{contains-shown}
+use Rattle.net_view.proofs.AfterAlike.{is_same, look_ups}
+use Rattle.network_tables.{proofs.ShownLemmas.contains-shown, specs.{Head.head_of, Marks.AreMarked}}
+use Rattle.network_tables.specs.{Marks.{is_marked, mark_of}, Shown.shown}
+use Rattle.std.proofs.{Common.{get_or, set}, lemmas.{Bool.cases_eq, List.get_or_default}}
+use Rattle.std.specs.Prelude.{T, zero}
 
 -- a mark that is put up is up, and the others are as they were
 up_there : (marks : List Bool) (i : ℕ) → get_or (set marks i true) i true ≡ true
@@ -26,21 +23,13 @@ up_still (m ∷ marks) zero (suc j) up = up
 up_still (m ∷ marks) (suc i) zero up = up
 up_still (m ∷ marks) (suc i) (suc j) up = up_still marks i j up
 
-pub marked_there : (marks : List Bool) (head : ℕ)
-    → is_marked (set marks (mark_of head) true) head ≡ true
-marked_there marks head = up_there marks (mark_of head)
-
-pub marked_still : (marks : List Bool) (i head : ℕ) → is_marked marks head ≡ true
-    → is_marked (set marks i true) head ≡ true
-marked_still marks i head up = up_still marks i (mark_of head) up
-
 module _ {X : Type 0} (marks : List Bool) (m : fin.FinMap bytes_cmp X)
     (marked : AreMarked marks m) where
   pub marked_inserted : (k : Text) (v : X)
       → AreMarked (set marks (mark_of (head_of k)) true) (fin.insert m k v)
   marked_inserted k v q has =
-      let still = marked_still marks (mark_of (head_of k)) (head_of q) in
-      grind (look_ups, is_same q k, marked_there marks (head_of k), marked q)
+      let still = up_still marks (mark_of (head_of k)) (mark_of (head_of q)) in
+      grind (look_ups, is_same q k, up_there marks (mark_of (head_of k)), marked q)
 
   pub marked_removed : (k : Text) → AreMarked marks (fin.remove m k)
   marked_removed k q has = grind (look_ups, marked q)
@@ -57,11 +46,11 @@ module _ {X : Type 0} (marks : List Bool) (m : fin.FinMap bytes_cmp X)
   pub not_there : (k : Text) → is_marked marks (head_of k) ≡ false → None ≡ fin.get m k
   not_there k down = grind (arith, marked k)
 
--- the same, by what the table and its marks became
-pub put_marked : {X : Type 0} (old new : List Bool) (m n : fin.FinMap bytes_cmp X) (k : Text)
-    (v : X) (head : ℕ) → AreMarked old m → n ≡ fin.insert m k v
-    → new ≡ set old (mark_of head) true → head ≡ head_of k → AreMarked new n
-put_marked old new m n k v head marked is marks_are head_is q has =
+-- the same, by what the marks became
+pub put_marked : {X : Type 0} (old new : List Bool) (m : fin.FinMap bytes_cmp X) (k : Text) (v : X)
+    (head : ℕ) → AreMarked old m → new ≡ set old (mark_of head) true → head ≡ head_of k
+    → AreMarked new (fin.insert m k v)
+put_marked old new m k v head marked is head_is q has =
     grind (arith, marked_inserted old m marked k v q)
 
 -- values that are shown otherwise leave the keys
@@ -102,5 +91,5 @@ module _ {E X : Type 0} (f : E → Text × X) (marks : List Bool) where
       → (j : ℕ) (d : E) → j < i + 1 → is_marked new (head_of (f (get_or xs j d)).0) ≡ true
   marked_next xs new i x head l is head_is new_is marked j d m =
       let here = get_or_default xs i d x l in
-      let still = marked_still marks (mark_of head) (head_of (f (get_or xs j d)).0) in
-      grind (arith, cases_eq j i, marked_there marks head, marked j d)
+      let still = up_still marks (mark_of head) (mark_of (head_of (f (get_or xs j d)).0)) in
+      grind (arith, cases_eq j i, up_there marks (mark_of head), marked j d)

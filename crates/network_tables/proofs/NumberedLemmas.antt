@@ -1,20 +1,15 @@
 -- Values in numbered cells, by their keys.
 use Rattle.net_view.proofs.Words
 use Words.{◌≡◌, ◌∷◌, ◌∙◌, ℕ, Bool, true, false, cond, List, [], is_some, filter_map, option_map}
-use Words.{option_and_then, Option, Some, None, refl, ap, arith, Text, bytes_cmp, same}
-use Rattle.std.specs.Prelude.{◌≢◌, not, T}
-use Rattle.std.specs.Borrow.{Bor}
-use Rattle.std.specs.Option.{option_map_or}
+use Words.{sym, option_and_then, Option, Some, None, refl, ap, arith, Text, bytes_cmp, same}
 use Rattle.std.specs.FinMap as fin
-use Rattle.std.specs.FinMap.Entries.{below_all}
-use Rattle.std.proofs.lemmas.Bool.{cases_eq}
-use Rattle.slab.specs.Slab.{Slab, get, Updates, ContainsKey}
-use Rattle.net_view.proofs.{Keys.is_same, Keys.same_refl, Keys.same_by_keys, Holds.mapped}
-use Rattle.net_view.proofs.AfterAlike.{look_ups, get_put, get_out, get_kept}
-use Rattle.network_tables.specs.Table.{swapped_in, swapped_out}
-use Rattle.network_tables.specs.Numbered.{value_at, joined, AreTied, with_value_in, value_out}
-use Rattle.network_tables.specs.Numbered.{seen_in}
-use Rattle.network_tables.specs.declared.numbered.Keyed.{Keyed}
+use Rattle.net_view.proofs.{AfterAlike.{get_kept, get_out, get_put, look_ups}, Holds.mapped}
+use Rattle.net_view.proofs.Keys.{is_same, same_by_keys, same_refl}
+use Rattle.network_tables.specs.Numbered.{AreTied, joined, seen_in, value_at, value_out}
+use Rattle.network_tables.specs.{Numbered.with_value_in, Table.{swapped_in, swapped_out}}
+use Rattle.{network_tables.specs.declared.numbered.Keyed.Keyed, slab.specs.Slab.{ContainsKey, Slab}}
+use Rattle.{slab.specs.Slab.{Updates, get}, std.{proofs.lemmas.Bool.cases_eq}}
+use Rattle.std.specs.{FinMap.Entries.below_all, Prelude.{T, ◌≢◌}}
 
 -- a key below all others is none of them
 gone : {X : Type 0} (k : Text) (es : List (Text × X)) → T (below_all bytes_cmp k es)
@@ -79,30 +74,24 @@ module _ {X A : Type 0} where
     pub kept_joined : joined index2 cells2 ≡ joined index cells
     kept_joined = same_by_keys (λ q. grind (arith, get-joined, alike))
 
-    pub kept_tied : AreTied index cells → AreTied index2 cells2
-    kept_tied tied = record {
-      held = λ key n e. grind (arith, alike n, tied.held key n);
-      known = λ n known e. grind (arith, alike n, tied.known n known);
-    }
-
   -- ---- by the number of a key
-  module _ (index : fin.FinMap bytes_cmp ℕ) (cells : Slab (Keyed X A))
+  module _ {index : fin.FinMap bytes_cmp ℕ} {cells : Slab (Keyed X A)}
       (tied : AreTied index cells) where
     pub there : (k : Text) (n : ℕ) → fin.get index k ≡ Some n
         → (known : Keyed X A) × (get cells n ≡ Some known) × (known.key.items ≡ k)
     there k n e = mapped (λ (x : Keyed X A). x.key.items) (get cells n) k (tied.held k n e)
 
-    pub got : (k : Text) (n : ℕ) (known : Keyed X A) → fin.get index k ≡ Some n
-        → get cells n ≡ Some known → fin.get (joined index cells) k ≡ Some known.value
+    pub got : (k : Text) (n : ℕ) (known : Keyed X A) → Some n ≡ fin.get index k
+        → Some known ≡ get cells n → Some known.value ≡ fin.get (joined index cells) k
     got k n known e is = grind (arith, get-joined)
 
-    pub holds : (k : Text) (n : ℕ) → fin.get index k ≡ Some n → ContainsKey cells n
-    holds k n e = ap is_some (there k n e).1
+    pub holds : (k : Text) (n : ℕ) → Some n ≡ fin.get index k → ContainsKey cells n
+    holds k n e = ap is_some (there k n (sym e)).1
 
-    pub none_got : (k : Text) → fin.get index k ≡ None → fin.get (joined index cells) k ≡ None
+    pub none_got : (k : Text) → None ≡ fin.get index k → None ≡ fin.get (joined index cells) k
     none_got k e = grind (arith, get-joined)
 
-    pub none_there : (k : Text) → fin.get (joined index cells) k ≡ None → fin.get index k ≡ None
+    pub none_there : (k : Text) → fin.get (joined index cells) k ≡ None → None ≡ fin.get index k
     none_there k none = grind (arith, got k, there k)
 
     -- two keys have two numbers
@@ -111,10 +100,14 @@ module _ {X A : Type 0} where
     apart q k m n eq ek s is = grind (arith, tied.held q m, tied.held k n, same_refl q)
 
     -- ---- a value comes
-    module _ (index2 : fin.FinMap bytes_cmp ℕ) (cells2 : Slab (Keyed X A)) (k : Text) (n : ℕ)
-        (known : Keyed X A) (none : fin.get index k ≡ None) (free : get cells n ≡ None)
-        (is : known.key.items ≡ k) (index_is : index2 ≡ fin.insert index k n)
+    module _ {index2 : fin.FinMap bytes_cmp ℕ} {cells2 : Slab (Keyed X A)} {n : ℕ}
+        {known : Keyed X A} (none : None ≡ fin.get index known.key.items)
+        (free : get cells n ≡ None)
+        (index_is : index2 ≡ fin.insert index known.key.items n)
         (updates : Updates cells cells2 n (Some known)) where
+      abbrev k : Text
+      k = known.key.items
+
       at_put : (q : Text) → fin.get index2 q ≡ cond (same q k) (Some n) (fin.get index q)
       at_put q = ap (λ m. fin.get m q) index_is ∙ get_put index k n q
 
@@ -129,32 +122,20 @@ module _ {X A : Type 0} where
       pub put_tied : AreTied index2 cells2
       put_tied = record {
         held = λ q m e.
-            grind (
-              arith,
-              at_put q,
-              is_same q k,
-              tied.held q m,
-              not_there q m,
-              updates.changed,
-              updates.others m,
-            );
+            let at = at_put q in
+            let old = tied.held q m in
+            grind (arith, is_same q k, not_there q m, updates.changed, updates.others m);
         known = λ m e at.
             let old = at_put e.key.items in
-            grind (
-              arith,
-              cases_eq m n,
-              at_put k,
-              same_refl k,
-              is_same e.key.items k,
-              updates.changed,
-              updates.others m,
-              tied.known m e,
-            );
+            let new = at_put k in
+            let same = is_same e.key.items k in
+            let before = tied.known m e in
+            grind (arith, cases_eq m n, same_refl k, updates.changed, updates.others m);
       }
 
     -- ---- a value goes
-    module _ (index2 : fin.FinMap bytes_cmp ℕ) (cells2 : Slab (Keyed X A)) (k : Text) (n : ℕ)
-        (number : fin.get index k ≡ Some n) (index_is : index2 ≡ fin.remove index k)
+    module _ {index2 : fin.FinMap bytes_cmp ℕ} {cells2 : Slab (Keyed X A)} {n : ℕ} (k : Text)
+        (number : Some n ≡ fin.get index k) (index_is : index2 ≡ fin.remove index k)
         (updates : Updates cells cells2 n None) where
       at_taken : (q : Text) → fin.get index2 q ≡ cond (same q k) None (fin.get index q)
       at_taken q = ap (λ m. fin.get m q) index_is ∙ get_out index k q
@@ -168,42 +149,28 @@ module _ {X A : Type 0} where
         held = λ q m e. grind (arith, at_taken q, apart q k m n, tied.held q m, updates.others m);
         known = λ m e at.
             let old = at_taken e.key.items in
-            grind (
-              arith,
-              cases_eq m n,
-              is_same e.key.items k,
-              updates.changed,
-              updates.others m,
-              tied.known m e,
-            );
+            let same = is_same e.key.items k in
+            let before = tied.known m e in
+            grind (arith, cases_eq m n, updates.changed, updates.others m);
       }
 
     -- ---- a value is changed
-    module _ (cells2 : Slab (Keyed X A)) (k : Text) (n : ℕ) (value : X)
-        (number : fin.get index k ≡ Some n)
+    module _ {cells2 : Slab (Keyed X A)} {n : ℕ} (k : Text) (value : X)
+        (number : Some n ≡ fin.get index k)
         (updates : Updates cells cells2 n (with_value_in value (get cells n))) where
-      pub changed_to : get cells2 n ≡ with_value_in value (get cells n)
-      changed_to = updates.changed
-
       pub swapped_there : fin.contains_key (joined index cells) k ≡ true
-      swapped_there = let is = there k n number in grind (arith, get-joined)
+      swapped_there = let is = there k n (sym number) in grind (arith, get-joined)
 
       pub swapped_joined : joined index cells2 ≡ swapped_in (joined index cells) k value
       swapped_joined =
-          let is = there k n number in
+          let is = there k n (sym number) in
           let put : joined index cells2 ≡ fin.insert (joined index cells) k value =
-          same_by_keys (λ q. grind (
-            look_ups,
-            get-joined,
-            is_same q k,
-            apart q k,
-            updates.changed,
-            updates.others,
-          )) in
+          same_by_keys (λ q.
+          grind (look_ups, get-joined, apart q k, updates.changed, updates.others)) in
           grind (arith, put, swapped_there)
 
       pub swapped_value : value_out (get cells n) value ≡ swapped_out (joined index cells) k value
-      swapped_value = let is = there k n number in grind (arith, get-joined)
+      swapped_value = let is = there k n (sym number) in grind (arith, get-joined)
 
       pub swapped_tied : AreTied index cells2
       swapped_tied = record {
@@ -214,7 +181,7 @@ module _ {X A : Type 0} where
       }
 
     -- ---- some are kept
-    module _ (index2 : fin.FinMap bytes_cmp ℕ) (cells2 : Slab (Keyed X A)) (p : Text → Bool)
+    module _ {index2 : fin.FinMap bytes_cmp ℕ} (cells2 : Slab (Keyed X A)) (p : Text → Bool)
         (index_is : index2 ≡ fin.retain_keys index p)
         (seen : (n : ℕ) → get cells2 n ≡ seen_in p (get cells n)) where
       at_retained : (q : Text) → fin.get index2 q ≡ cond (p q) (fin.get index q) None
@@ -235,23 +202,3 @@ module _ {X A : Type 0} where
             let old = at_retained e.key.items in
             grind (arith, seen m, tied.known m);
       }
-
-  -- ---- whether a cell holds one that goes
-  abbrev pub unseen : (Text → Bool) → Option (Keyed X A) → Bool
-  unseen p o = option_map_or {T = Keyed X A} (λ known. not (p known.key.items)) o false
-
-  pub unseen_lent : (p : Text → Bool) (r : Option (Bor (Keyed X A)))
-      → option_map_or {T = Bor (Keyed X A)} (λ known. not (p known.now.key.items)) r false
-      ≡ unseen p (option_map (λ known. known.now) r)
-  unseen_lent p r = grind arith
-
-  pub unseen_there : (p : Text → Bool) (o : Option (Keyed X A)) → unseen p o ≡ true
-      → is_some o ≡ true
-  unseen_there p o e = grind arith
-
-  pub unseen_gone : (p : Text → Bool) (o : Option (Keyed X A)) → unseen p o ≡ true
-      → seen_in p o ≡ None
-  unseen_gone p o e = grind arith
-
-  pub seen_stays : (p : Text → Bool) (o : Option (Keyed X A)) → unseen p o ≡ false → seen_in p o ≡ o
-  seen_stays p o e = grind arith

@@ -1,6 +1,5 @@
 -- What holds of a result, from what else holds of it.
-use Rattle.std.specs.Prelude.{OnOk, OnErr}
-use Rattle.std.proofs.Common.{Result, Ok, Err}
+use Rattle.std.{proofs.Common.{Err, Ok, Result}, specs.Prelude.{OnErr, OnOk}}
 
 pub on_ok : {A E : Type 0} {P Q : Type 0} (r : Result A E) → OnOk r P → (P → Q) → OnOk r Q
 on_ok (Ok a) h f = f h

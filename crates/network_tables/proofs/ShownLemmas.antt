@@ -2,14 +2,10 @@
 use Rattle.net_view.proofs.Words
 use Words.{◌≡◌, ◌&&◌, ◌∷◌, ◌∙◌, Bool, true, false, List, [], map, length, is_some, option_map}
 use Words.{Option, refl, sym, ap, arith, Ordering}
-use Rattle.std.specs.Prelude.{T}
-use Rattle.std.specs.declared.cmp.Ordering.TheVariants.{Equal}
-use Rattle.std.specs.Cmp.{IsTotalOrder}
 use Rattle.std.specs.FinMap as fin
-use Rattle.std.specs.FinMap.Entries.{below_all}
-use Rattle.std.proofs.Common.{subst}
-use Rattle.std.proofs.lemmas.List.{length-map}
-use Rattle.network_tables.specs.Shown.{shown}
+use Rattle.{network_tables.specs.Shown.shown, std.proofs.{Common.subst, lemmas.List.length-map}}
+use Rattle.std.specs.{Cmp.IsTotalOrder, FinMap.Entries.below_all, Prelude.T}
+use Rattle.std.specs.declared.cmp.Ordering.TheVariants.{Equal}
 
 pub both : (a b : Bool) → T a → T b → T (a && b)
 both true b p q = q
@@ -34,7 +30,7 @@ module _ {K X Y : Type 0} (R : K → K → Ordering) (f : X → Y) where
   below_shown k [] = refl
   below_shown k (e ∷ es) = grind (arith, below_shown k es)
 
-  sorted_shown : (es : List (K × X)) → fin.is_sorted R es ≡ fin.is_sorted R (map as_shown es)
+  pub sorted_shown : (es : List (K × X)) → fin.is_sorted R es ≡ fin.is_sorted R (map as_shown es)
   sorted_shown [] = refl
   sorted_shown (e ∷ es) = grind (arith, below_shown e.0 es, sorted_shown es)
 

@@ -1,18 +1,14 @@
 -- Entries in the order of their keys, by places: what an insertion, a write and a removal at a
 -- place make of a finite map.
 use Rattle.net_view.proofs.Words
-use Words.{◌≡◌, ◌<◌, ◌∷◌, ℕ, suc, Bool, true, false, cond, List, [], length, Option, Some, None}
-use Words.{refl, sym, ap, arith, Ordering, eq_by_cmp}
-use Rattle.std.specs.Prelude.{◌≤◌, zero, not, T}
-use Rattle.std.specs.declared.cmp.Ordering.TheVariants.{Less, Greater}
-use Rattle.std.specs.Ordering.{is_lt, ordering_reverse}
-use Rattle.std.specs.Cmp.{IsTotalOrder, tied_itself, eq_by_cmp_equiv}
-use Rattle.std.specs.List.{insert, remove}
+use Words.{◌≡◌, ◌<◌, ◌∷◌, ℕ, suc, Bool, false, cond, List, [], length, Option, Some, None, refl}
+use Words.{sym, ap, arith, Ordering, eq_by_cmp}
 use Rattle.std.specs.FinMap as fin
-use Rattle.std.specs.FinMap.Entries.{below_all, where_key, is_sorted-put, is_sorted-where_key}
-use Rattle.std.specs.FinMap.Entries.{find-where_key}
-use Rattle.std.proofs.Common.{◌∙◌, subst, get_or, set}
-use Rattle.network_tables.proofs.ShownLemmas.{first, second}
+use Rattle.{network_tables.proofs.ShownLemmas.{first, second}, std.proofs.Common.{get_or, set, ◌∙◌}}
+use Rattle.std.specs.{Cmp.{IsTotalOrder, eq_by_cmp_equiv, tied_itself}, FinMap.Entries.below_all}
+use Rattle.std.specs.{FinMap.Entries.{find-where_key, is_sorted-where_key, where_key}, List.insert}
+use Rattle.std.specs.{List.remove, Ordering.{is_lt, ordering_reverse}, Prelude.{T, not, zero, ◌≤◌}}
+use Rattle.std.specs.declared.cmp.Ordering.TheVariants.{Equal, Greater, Less}
 
 less : (r : Ordering) → T (is_lt r) → r ≡ Less
 less r p = grind arith
@@ -43,6 +39,12 @@ pub record IsPlace {K X : Type 0} (R : K → K → Ordering) (es : List (K × X)
   pub within : i ≤ length es
   pub below : (j : ℕ) (d : K × X) → j < i → R (get_or es j d).0 k ≡ Less
   pub above : (j : ℕ) (d : K × X) → i ≤ j → j < length es → R (get_or es j d).0 k ≡ Greater
+
+-- entries in the order of their keys, and the map that they make
+pub record AreOf {K X : Type 0} {R : K → K → Ordering} (es : List (K × X)) (m : fin.FinMap R X) :
+    Type 0 where
+  pub sorted : T (fin.is_sorted R es)
+  pub is : fin.from_sorted es ≡ m
 
 module _ {K X : Type 0} {R : K → K → Ordering} (o : IsTotalOrder R) where
   place_tail : (e : K × X) (es : List (K × X)) (k : K) (i : ℕ) → IsPlace R (e ∷ es) k (suc i)
@@ -122,66 +124,50 @@ module _ {K X : Type 0} {R : K → K → Ordering} (o : IsTotalOrder R) where
       let later = without_at es (second _ _ h) i d (omega arith) in
       grind (arith, above_first e es h i d (omega arith))
 
+  mirrored : (b : Bool) (x : Option X) → cond (not b) x None ≡ cond b None x
+  mirrored b x = grind arith
+
   -- ---- the same of maps
 
+  of_entries : (m : fin.FinMap R X) (es : List (K × X)) → fin.entries m ≡ es → AreOf es m
+  of_entries m es e =
+      let sorted = rw e at (fin.entries_sorted m) in
+      record {
+        sorted = sorted;
+        is = fin.same_entries_map _ m (fin.entries-from_sorted R es sorted ∙ sym e);
+      }
+
   module _ (es : List (K × X)) (h : T (fin.is_sorted R es)) where
-    pub is_sorted_inserted : (k : K) (v : X) (i : ℕ) → IsPlace R es k i
-        → T (fin.is_sorted R (insert es i (k, v)))
-    is_sorted_inserted k v i p =
-        subst (λ l. T (fin.is_sorted R l)) (put_between es k v i p) (is_sorted-put R o k v es h)
-
     pub inserted : (k : K) (v : X) (i : ℕ) → IsPlace R es k i
-        → fin.from_sorted {R = R} (insert es i (k, v)) ≡ fin.insert (fin.from_sorted es) k v
+        → AreOf (insert es i (k, v)) (fin.insert (fin.from_sorted {R = R} es) k v)
     inserted k v i p =
-        fin.same_entries_map _ _ (cc (
-          fin.entries-from_sorted R _ (is_sorted_inserted k v i p),
-          put_between es k v i p,
-          fin.entries-from_sorted R es h,
-          fin.entries-insert o (fin.from_sorted es) k v,
-        ))
-
-    pub is_sorted_written : (i : ℕ) (d : K × X) (v : X) → i < length es
-        → T (fin.is_sorted R (set es i ((get_or es i d).0, v)))
-    is_sorted_written i d v l =
-        subst (λ l. T (fin.is_sorted R l)) (put_at es h i d v l)
-        (is_sorted-put R o (get_or es i d).0 v es h)
+        of_entries _ _ (rw (fin.entries-insert o, fin.entries-from_sorted R es h)
+        (put_between es k v i p))
 
     pub written : (i : ℕ) (d : K × X) (v : X) → i < length es
-        → fin.from_sorted {R = R} (set es i ((get_or es i d).0, v))
-        ≡ fin.insert (fin.from_sorted es) (get_or es i d).0 v
+        → AreOf (set es i ((get_or es i d).0, v))
+        (fin.insert (fin.from_sorted {R = R} es) (get_or es i d).0 v)
     written i d v l =
-        fin.same_entries_map _ _ (cc (
-          fin.entries-from_sorted R _ (is_sorted_written i d v l),
-          put_at es h i d v l,
-          fin.entries-from_sorted R es h,
-          fin.entries-insert o (fin.from_sorted es) (get_or es i d).0 v,
-        ))
+        of_entries _ _ (rw (fin.entries-insert o, fin.entries-from_sorted R es h)
+        (put_at es h i d v l))
 
-    pub is_sorted_removed : (i : ℕ) (d : K × X) → i < length es
-        → T (fin.is_sorted R (remove es i))
-    is_sorted_removed i d l =
-        subst (λ l. T (fin.is_sorted R l)) (without_at es h i d l)
-        (is_sorted-where_key R (λ x. not (eq_by_cmp R (get_or es i d).0 x)) es h)
-
-  mirrored : (b : Bool) (x : Option X) → cond (not b) x None ≡ cond b None x
-  mirrored true x = refl
-  mirrored false x = refl
-
-  pub removed : fin.IsAntisymmetric R → (es : List (K × X)) → T (fin.is_sorted R es) → (i : ℕ)
-      (d : K × X) → i < length es → fin.from_sorted {R = R} (remove es i)
-      ≡ fin.remove (fin.from_sorted es) (get_or es i d).0
-  removed exact es h i d l =
-      let k = (get_or es i d).0 in
-      fin.same_map o exact _ _ (λ q.
-      let found = find-where_key R (λ x. not (eq_by_cmp R k x)) q
-      (λ x t. ap (λ y. not (eq_by_cmp R k y)) (sym (exact q x t))) es in
-      let there = fin.get-from_sorted R (remove es i) q (is_sorted_removed es h i d l) in
-      cc (
-        there,
-        without_at es h i d l,
-        found,
-        mirrored (eq_by_cmp R k q) (fin.find R q es),
-        (eq_by_cmp_equiv o).symm k q,
-        fin.get-from_sorted R es q h,
-        fin.get-remove o (fin.from_sorted es) k q,
-      ))
+    pub removed : fin.IsAntisymmetric R → (i : ℕ) (d : K × X) → i < length es
+        → AreOf (remove es i) (fin.remove (fin.from_sorted {R = R} es) (get_or es i d).0)
+    removed exact i d l =
+        let k = (get_or es i d).0 in
+        let keeps : K → Bool = λ x. not (eq_by_cmp R k x) in
+        let sorted = rw (without_at es h i d l) at (is_sorted-where_key R keeps es h) in
+        record {
+          sorted = sorted;
+          is = fin.same_map o exact _ _ (λ q.
+              let alike = λ (x : K) (t : R q x ≡ Equal). ap keeps (sym (exact q x t)) in
+              cc (
+                fin.get-from_sorted R (remove es i) q sorted,
+                find-where_key R keeps q alike es,
+                without_at es h i d l,
+                mirrored (eq_by_cmp R k q) (fin.find R q es),
+                (eq_by_cmp_equiv o).symm k q,
+                fin.get-from_sorted R es q h,
+                fin.get-remove o (fin.from_sorted es) k q,
+              ));
+        }

@@ -5,15 +5,12 @@ use Words.{ap, refl, option_and_then, option_map, unwrap_or, Option, Some, None,
 use Words.{is_nameable, ChangeParts, Text, Token, bytes_cmp, ranks_that, has_rank, last_in}
 use Words.{rank_in_change, setting_of, LetterChange}
 use Rattle.std.specs.FinMap as fin
-use Rattle.std.specs.Prelude.{not}
-use Rattle.irc_names.specs.CaseMapping.{key_of}
-use Rattle.irc_names.specs.declared.case_mapping.CaseMapping.{CaseMapping}
-use Rattle.irc_support.specs.{Settings.mapping_of, Ranking.rank_of_letter}
-use Rattle.net_view.specs.{StateLines.letter_change, MemberSets.ranks_changed}
-use Rattle.net_view.proofs.AfterAlike.{look_ups, is_same}
-use Rattle.net_view.proofs.RankSets.{is_rank, ranks_alike, has-ranks}
-use Rattle.quick_view.specs.Moding.{rank_after}
-use Rattle.network_tables.specs.Table.{swapped_in}
+use Rattle.irc_names.specs.{CaseMapping.key_of, declared.case_mapping.CaseMapping.CaseMapping}
+use Rattle.irc_support.specs.{Ranking.rank_of_letter, Settings.mapping_of}
+use Rattle.net_view.proofs.{AfterAlike.{is_same, look_ups}, RankSets.{has-ranks, is_rank}}
+use Rattle.net_view.{proofs.RankSets.ranks_alike, specs.MemberSets.ranks_changed}
+use Rattle.{net_view.specs.StateLines.letter_change, network_tables.specs.Table.swapped_in}
+use Rattle.{quick_view.specs.Moding.rank_after, std.specs.Prelude.not}
 
 -- one more is made
 pub last_more : {X Y A : Type 0} (says : X → Option A) (find : Y → Option X) (x : Y)

@@ -3,17 +3,13 @@ use Rattle.net_view.proofs.Words
 use Words.{◌≡◌, ◌∷◌, ◌∙◌, ℕ, List, [], Option, Some, None, refl, sym, ap, arith, ForSome, Text}
 use Words.{ranks_that, has_rank, bytes_cmp, Listing, Present, IsSound, Channel, View, after_told}
 use Rattle.std.specs.FinMap as fin
-use Rattle.std.proofs.Common.{subst}
-use Rattle.net_view.specs.Changes.{with_ranks}
-use Rattle.net_view.specs.MemberSets.{AreSets, HasSets, IsKnowing}
-use Rattle.net_view.proofs.AfterAlike.{us_of, look_ups, all_channels_stay, all_persons_stay}
-use Rattle.net_view.proofs.AfterAlike.{put_again}
-use Rattle.net_view.proofs.AfterPresent.{after_word, after_word_elsewhere}
-use Rattle.net_view.proofs.{NameLists.view_in_parts, SoundStep.sound_step}
-use Rattle.net_view.proofs.PartsSound.{IsSoundListing, Each}
-use Rattle.quick_view.specs.Listing.{listed_view}
-use Rattle.quick_view.proofs.LastLemmas.{IsSet, set_of}
-use Rattle.network_tables.proofs.SwapLemmas.{twice_in}
+use Rattle.net_view.proofs.AfterAlike.{all_channels_stay, all_persons_stay, look_ups, put_again}
+use Rattle.net_view.proofs.{AfterAlike.us_of, AfterPresent.{after_word, after_word_elsewhere}}
+use Rattle.net_view.proofs.{NameLists.view_in_parts, PartsSound.{Each, IsSoundListing}}
+use Rattle.net_view.{proofs.SoundStep.sound_step, specs.{Changes.with_ranks, MemberSets.AreSets}}
+use Rattle.net_view.specs.MemberSets.{HasSets, IsKnowing}
+use Rattle.{network_tables.proofs.SwapLemmas.twice_in, quick_view.proofs.LastLemmas.{IsSet, set_of}}
+use Rattle.{quick_view.specs.Listing.listed_view, std.proofs.Common.subst}
 
 no_words : (v : View) (c : Text) → HasSets v → IsKnowing v → after_told v (Present c []) ≡ v
 no_words v c sets known =

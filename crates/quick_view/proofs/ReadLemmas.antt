@@ -3,18 +3,15 @@ use Rattle.net_view.proofs.Words
 use Words.{◌≡◌, ℕ, true, List, length, slice_get, option_map, option_and_then, Option, Some, None}
 use Words.{sym, arith, is_nameable, Text, key_by, known_at, Channel, Person as Known}
 use Rattle.std.specs.FinMap as fin
-use Rattle.std.specs.Cmp.Lexicographic.{nat_list_cmp_total}
+use Rattle.net_view.proofs.{AfterAlike.view_knowing, AfterMaps.seen_in, KeyPlaces.entry_at}
+use Rattle.net_view.{proofs.Keys.bytes_exact, specs.{Names.bytes_cmp, Readers.account_shown}}
+use Rattle.net_view.specs.Readers.{channel_shown, channels_shown, member_shown}
+use Rattle.network_tables.{proofs.ShownLemmas.{entries-shown, get-shown}, specs.People.known_of}
+use Rattle.network_tables.specs.{Rooms.{channel_of, rooms_of}, declared.person.Person.Person}
+use Rattle.{network_tables.specs.declared.room.Room.Room, quick_view.specs.FromLines.ComesFromLines}
+use Rattle.quick_view.specs.{Kept.view_kept, declared.state.State.State}
 use Rattle.std.proofs.lemmas.{List.length-map, Option.slice_get-map}
-use Rattle.net_view.specs.Names.{bytes_cmp}
-use Rattle.net_view.specs.Readers.{channels_shown, channel_shown, member_shown, account_shown}
-use Rattle.net_view.proofs.{AfterAlike.view_knowing, AfterMaps.seen_in, Keys.bytes_exact}
-use Rattle.net_view.proofs.{KeyPlaces.entry_at}
-use Rattle.quick_view.specs.{FromLines.ComesFromLines, Kept.view_kept}
-use Rattle.quick_view.specs.declared.state.State.{State}
-use Rattle.network_tables.specs.{Rooms.channel_of, Rooms.rooms_of, People.known_of}
-use Rattle.network_tables.specs.declared.room.Room.{Room}
-use Rattle.network_tables.specs.declared.person.Person.{Person}
-use Rattle.network_tables.proofs.ShownLemmas.{entries-shown, get-shown}
+use Rattle.std.specs.Cmp.Lexicographic.{nat_list_cmp_total}
 
 module _ {A : Type 0} (s : State A) where
   pub count_is : length (fin.entries s.rooms.all) ≡ channels_shown (view_kept s)

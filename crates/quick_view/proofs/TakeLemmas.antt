@@ -5,17 +5,13 @@ use Words.{Option, Some, sym, ap, arith, Parts, Text, Token, word_of, words, Lis
 use Words.{Silent, told, Arrival, Received, Lost, IsWrittenItem, IsSound, View, Channel, view_of}
 use Words.{empty_view, standing_of, is_us, after, after_told}
 use Rattle.std.specs.FinMap as fin
-use Rattle.std.specs.Prelude.{OnOk, OnErr}
-use Rattle.std.specs.declared.vec.Vec.{Vec}
-use Rattle.std.proofs.Common.{Result, Ok, Err, subst}
-use Rattle.net_view.specs.{View.lost_view, Written.AreWritten}
-use Rattle.net_view.specs.MemberSets.{HasSets, IsKnowing}
-use Rattle.net_view.proofs.AfterAlike.{all_channels_stay, all_persons_stay, view_sets, is_same}
-use Rattle.net_view.proofs.{SoundStep.view_sound, StepLaw.view_step, StepLaw.view_start}
-use Rattle.net_view.proofs.{Emptied.view_lost, PartsSound.IsSoundListing, PartsSound.Each}
-use Rattle.net_view.proofs.{PartsSound.listing_sound}
-use Rattle.quick_view.specs.{FromLines.ComesFromLines, Listing.listings_in}
-use Rattle.quick_view.proofs.LastLemmas.{IsSet, set_of}
+use Rattle.net_view.proofs.AfterAlike.{all_channels_stay, all_persons_stay, is_same, view_sets}
+use Rattle.net_view.proofs.{Emptied.view_lost, PartsSound.{Each, IsSoundListing, listing_sound}}
+use Rattle.net_view.proofs.{SoundStep.view_sound, StepLaw.{view_start, view_step}}
+use Rattle.net_view.specs.{MemberSets.{HasSets, IsKnowing}, View.lost_view, Written.AreWritten}
+use Rattle.quick_view.{proofs.LastLemmas.{IsSet, set_of}, specs.FromLines.ComesFromLines}
+use Rattle.{quick_view.specs.Listing.listings_in, std.proofs.Common.{Err, Ok, Result, subst}}
+use Rattle.std.specs.{Prelude.{OnErr, OnOk}, declared.vec.Vec.Vec}
 
 pub view_none : {A : Type 0} (o : Option (Vec ℕ A))
     → is_some (option_map (λ t. t.items) o) ≡ is_some o

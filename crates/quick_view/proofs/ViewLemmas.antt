@@ -1,18 +1,28 @@
 -- Views, by what a line changes of their maps.
 use Rattle.net_view.proofs.Words
-use Words.{◌≡◌, ℕ, Bool, true, false, cond, List, [], is_some, unwrap_or, Option, Some, None, arith}
-use Words.{sym, Text, bytes_cmp, nat_cmp, same, View, Channel, Person, is_seen, old_member}
-use Words.{after_told, told_person, without_member, Listing, ModeChange, Listed, last_in}
-use Words.{setting_of}
+use Words.{Bool, Channel, List, Listed, Listing, ModeChange, None, Option, Person, Some, Text, View}
+use Words.{[], after_told, arith, bytes_cmp, cond, false, is_seen, is_some, last_in, nat_cmp}
+use Words.{old_member, same, setting_of, told_person, true, unwrap_or, without_member, ℕ, ◌≡◌}
+use Words.{nat_list_cmp_total}
 use Rattle.std.specs.FinMap as fin
-use Rattle.net_view.specs.Changes.{fresh_channel, with_ranks, joined_view, parted_view}
-use Rattle.net_view.specs.MemberSets.{HasSets, IsKnowing}
-use Rattle.net_view.proofs.{Keys.is_same, Keys.same_by_keys, AfterMaps.seen_in}
-use Rattle.net_view.proofs.{AfterMaps.seen_somewhere}
-use Rattle.net_view.proofs.AfterAlike.{look_ups, removed_none, put_again}
-use Rattle.net_view.proofs.AfterModes.{after_modes, after_modes_elsewhere}
+use Rattle.net_view.proofs.{AfterAlike.{look_ups, put_again, removed_none}, AfterMaps.seen_in}
+use Rattle.net_view.proofs.{AfterMaps.seen_somewhere, AfterModes.after_modes}
+use Rattle.net_view.proofs.{AfterModes.after_modes_elsewhere, Keys.{bytes_exact, is_same}}
+use Rattle.net_view.{proofs.Keys.same_by_keys, specs.Changes.{fresh_channel, joined_view}}
+use Rattle.net_view.specs.{Changes.{parted_view, with_ranks}, MemberSets.{HasSets, IsKnowing}}
+use Rattle.network_tables.{proofs.ShownLemmas.{insert-shown, remove-shown}, specs.People.changed_at}
+use Rattle.network_tables.specs.{Rooms.with_modes, Shown.shown}
 use Rattle.quick_view.specs.Listing.{listed_view, members_listed, people_listed}
-use Rattle.network_tables.specs.{Rooms.with_modes, People.changed_at}
+
+-- ---- what is shown of a table
+
+pub inserted_shown : {X Y : Type 0} (f : X → Y) (m : fin.FinMap bytes_cmp X) (k : Text) (x : X)
+    → shown f (fin.insert m k x) ≡ fin.insert (shown f m) k (f x)
+inserted_shown f = insert-shown bytes_cmp f nat_list_cmp_total bytes_exact
+
+pub removed_shown : {X Y : Type 0} (f : X → Y) (m : fin.FinMap bytes_cmp X) (k : Text)
+    → shown f (fin.remove m k) ≡ fin.remove (shown f m) k
+removed_shown f = remove-shown bytes_cmp f nat_list_cmp_total bytes_exact
 
 -- ---- another's JOIN
 
@@ -45,12 +55,16 @@ module _ (v : View) (c n : Text) (cs : fin.FinMap bytes_cmp Channel)
       let gone = λ (ch : Channel). removed_none ch.members n in
       grind (arith, gone, put_again v.channels c)
 
--- ---- who is seen once we joined a channel anew
+-- ---- who is still seen once we left a channel that we were not on, or joined one anew
 
-pub all_still_seen : (cs : fin.FinMap bytes_cmp Channel) (ps qs : fin.FinMap bytes_cmp Person)
-    (seen : Text → Bool) → qs ≡ ps
-    → ((q : Text) → fin.contains_key ps q ≡ true → seen q ≡ true) → qs ≡ fin.retain_keys ps seen
-all_still_seen cs ps qs seen e all = sym (same_by_keys (λ q. grind (look_ups, all q)))
+all_seen : (ps : fin.FinMap bytes_cmp Person) (seen : Text → Bool)
+    → ((q : Text) → fin.contains_key ps q ≡ true → seen q ≡ true) → fin.retain_keys ps seen ≡ ps
+all_seen ps seen all = same_by_keys (λ q. grind (look_ups, all q))
+
+pub left_stays : (v : View) (c : Text) → IsKnowing v → fin.get v.channels c ≡ None
+    → fin.retain_keys v.people (is_seen (fin.remove v.channels c)) ≡ v.people
+left_stays v c known none =
+    rw (removed_none v.channels c none) (all_seen v.people _ (λ q h. grind (arith, known q)))
 
 module _ (v : View) (c name n : Text) (joiner : Person) (known : IsKnowing v)
     (none : fin.get v.channels c ≡ None) where
@@ -65,9 +79,9 @@ module _ (v : View) (c name n : Text) (joiner : Person) (known : IsKnowing v)
       let at = seen_somewhere v.channels q (grind (arith, known q)) in
       seen_in new (at.0) q (grind (look_ups, is_same (at.0) c, at.1))
 
-  pub entered_seen : (q : Text) → fin.contains_key (fin.insert v.people n joiner) q ≡ true
-      → is_seen new q ≡ true
-  entered_seen q h = grind (look_ups, joiner_seen q, other_seen q)
+  pub entered_stays : fin.retain_keys (fin.insert v.people n joiner) (is_seen new)
+      ≡ fin.insert v.people n joiner
+  entered_stays = all_seen _ _ (λ q h. grind (look_ups, joiner_seen q, other_seen q))
 
 -- ---- 324
 

@@ -1,20 +1,18 @@
-use Rattle.std.proofs.Common.{arith, subst, ◌<◌, ◌≤◌}
-use Rattle.network_tables.specs.Table.{entry_of}
-use Rattle.network_tables.proofs.MarkLemmas.{all_marked, marked_next}
 use Rattle.network_tables.proofs.marks.marks_of.Goals as goal
+use Rattle.network_tables.{proofs.MarkLemmas.{all_marked, marked_next}, specs.Table.entry_of}
+use Rattle.std.proofs.Common.{arith}
 
 pub loop-place-init : goal.loop-place-init
 loop-place-init g c = λ j d l. absurd (omega (arith, l))
 
 pub loop-place-preserved : goal.loop-place-preserved
 loop-place-preserved g c =
-    marked_next entry_of c.loop-place.marks.items c.args.slots.now.items c.put_up.new.marks.items
-    c.loop-place.place c.at.result.now c.at.result.now.head
-    (subst (λ n. c.loop-place.place < n) c.len-place-end.ensures c.loop-place-test.true)
+    marked_next entry_of c.loop-place.marks.items c.args.slots.now.items _ c.loop-place.place
+    c.at.result.now _ (rw c.len-place-end.ensures at c.loop-place-test.true)
     c.at.ensures c.at.result.now.same c.put_up.ensures c.loop-place.invariant
 
 pub returns : goal.returns
 returns g c =
-    let n = subst (λ n. n ≤ c.loop-place.place) c.len-place-end.ensures c.loop-place-test.false in
+    let n = rw c.len-place-end.ensures at c.loop-place-test.false in
     all_marked entry_of c.loop-place.marks.items c.args.slots.now.items c.requires
     (λ j d l. c.loop-place.invariant j d (omega (arith, l, n)))

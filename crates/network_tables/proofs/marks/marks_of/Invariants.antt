@@ -1,8 +1,6 @@
-use Rattle.std.proofs.Common.{◌≡◌, ℕ, ◌<◌, true, get_or}
-use Rattle.network_tables.specs.Head.{head_of}
-use Rattle.network_tables.specs.Marks.{is_marked}
-use Rattle.network_tables.specs.Table.{entry_of}
 use Rattle.network_tables.proofs.marks.marks_of.Given as goal
+use Rattle.network_tables.specs.{Head.head_of, Marks.is_marked, Table.entry_of}
+use Rattle.std.proofs.Common.{get_or, true, ℕ, ◌<◌, ◌≡◌}
 
 abbrev pub invariant-loop-place : goal.invariant-loop-place
 invariant-loop-place g l =

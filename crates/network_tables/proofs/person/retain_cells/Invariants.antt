@@ -1,9 +1,6 @@
-use Rattle.std.proofs.Common.{◌≡◌, ℕ, ◌<◌, ◌≤◌}
-use Rattle.slab.specs.Slab.{get, HasRoomFor}
-use Rattle.net_view.specs.Step.{is_seen}
-use Rattle.network_tables.specs.Rooms.{rooms_of}
-use Rattle.network_tables.specs.Numbered.{seen_in}
 use Rattle.network_tables.proofs.person.retain_cells.Given as goal
+use Rattle.{net_view.specs.Step.is_seen, network_tables.specs.{Numbered.seen_in, Rooms.rooms_of}}
+use Rattle.{slab.specs.Slab.{HasRoomFor, get}, std.proofs.Common.{ℕ, ◌<◌, ◌≡◌, ◌≤◌}}
 
 abbrev pub invariant-loop-number : goal.invariant-loop-number
 invariant-loop-number g l = record {

@@ -1,32 +1,21 @@
-use Rattle.std.proofs.lemmas.Grind.{common_steps}
-use Rattle.std.proofs.Common.{arith, ap, sym, subst, ◌∙◌, ◌-◌, ◌≡◌, suc, get_or}
-use Rattle.std.specs.List.{remove}
-use Rattle.net_view.specs.Step.{is_seen}
-use Rattle.network_tables.specs.Rooms.{rooms_of}
-use Rattle.network_tables.proofs.Retaining.{left, taken_out}
 use Rattle.network_tables.proofs.person.retain_in.Goals as goal
+use Rattle.{net_view.specs.Step.is_seen, network_tables.proofs.Retaining.{taken_out}}
+use Rattle.{network_tables.specs.Rooms.rooms_of, std.proofs.Common.{arith}}
+use Rattle.std.{proofs.{Common.{◌-◌}, lemmas.Grind.common_steps}}
 
 pub loop-place-preserved-then-not-is_seen : goal.loop-place-preserved-then-not-is_seen
 loop-place-preserved-then-not-is_seen g c =
-    let cs = rooms_of c.args.rooms.now.all in
-    let xs = c.args.slots.now.items in
     let n = c.loop-place.place in
     let some = c.loop-place-test.true in
-    let within = c.loop-place.invariant.within in
-    let looked =
-    subst (λ m. c.loop-place.slots.items
-    ≡ left (λ slot. is_seen cs slot.entry.value.key.items) m xs)
-    {x = n} {y = suc (n - 1)} (omega (arith, some)) c.loop-place.invariant.looked in
-    let x = c.at.result.now in
+    let before = c.loop-place.invariant in
     record {
-      looked = c.remove.ensures.items ∙ ap (λ l. remove l (n - 1)) looked
-          ∙ taken_out (λ slot. is_seen cs slot.entry.value.key.items) xs (n - 1) x
-          (omega (arith, some, within))
-          (c.at.ensures ∙ ap (λ l. get_or l (n - 1) x) looked)
-          (ap (λ e. is_seen cs e.key.items) (sym c.deref.ensures)
-          ∙ ap (is_seen cs) (sym c.deref-in-loop-place.ensures.value)
-          ∙ sym c.is_seen.ensures ∙ c.if-not-is_seen.true);
-      within = omega (arith, within);
+      looked = rw c.remove.ensures.items
+          (taken_out (λ slot. is_seen (rooms_of c.args.rooms.now.all) slot.entry.value.key.items)
+          _ _ n (n - 1) _
+          (omega (arith, some)) before.within before.looked c.at.ensures
+          (rw (c.is_seen.ensures, c.deref-in-loop-place.ensures.value, c.deref.ensures)
+          at c.if-not-is_seen.true));
+      within = omega (arith, before.within);
     }
 
 pub loop-place-init : goal.loop-place-init

@@ -1,8 +1,6 @@
-use Rattle.std.proofs.Common.{◌≡◌, ◌≤◌, length}
-use Rattle.net_view.specs.Step.{is_seen}
-use Rattle.network_tables.specs.Rooms.{rooms_of}
-use Rattle.network_tables.proofs.Retaining.{left}
 use Rattle.network_tables.proofs.person.retain_in.Given as goal
+use Rattle.{net_view.specs.Step.is_seen, network_tables.proofs.Retaining.left}
+use Rattle.{network_tables.specs.Rooms.rooms_of, std.proofs.Common.{length, ◌≡◌, ◌≤◌}}
 
 abbrev pub invariant-loop-place : goal.invariant-loop-place
 invariant-loop-place g l = record {

@@ -1,22 +1,8 @@
-use Rattle.std.proofs.Common.{sym, refl}
-use Rattle.std.specs.Option.{option_map}
-use Rattle.net_view.specs.Changes.{with_away}
-use Rattle.network_tables.specs.People.{known_of}
-use Rattle.network_tables.specs.Sought.{sought_key}
-use Rattle.network_tables.proofs.SwapLemmas.{changed_back, unchanged_at}
 use Rattle.network_tables.proofs.person.set_away.Goals as goal
+use Rattle.network_tables.proofs.SwapLemmas.{changed_back, unchanged_at}
 
 pub returns-then-swap : goal.returns-then-swap
-returns-then-swap g c =
-    changed_back known_of c.args.people.now.all c.swap.new.self.all c.swap-then-swap.new.self.all
-    (sought_key c.args.who)
-    c.nobody-person.result c.swap.new.value (record c.swap.new.value { away = c.args.away })
-    (with_away (option_map (λ t. t.items) c.args.away))
-    (sym c.if-swap.ensures.found) c.if-swap.ensures.all c.if-swap.ensures.value
-    c.swap-then-swap.ensures.all refl
+returns-then-swap g c = search (changed_back, c.if-swap.ensures, c.swap-then-swap.ensures)
 
 pub returns-else-swap : goal.returns-else-swap
-returns-else-swap g c =
-    unchanged_at known_of c.args.people.now.all c.swap.new.self.all (sought_key c.args.who)
-    c.nobody-person.result (with_away (option_map (λ t. t.items) c.args.away))
-    (sym c.if-swap.ensures.found) c.if-swap.ensures.all
+returns-else-swap g c = search (unchanged_at, c.if-swap.ensures)

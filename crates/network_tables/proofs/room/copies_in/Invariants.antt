@@ -1,8 +1,6 @@
-use Rattle.std.proofs.Common.{◌≡◌, map, take}
-use Rattle.std.specs.Option.{option_map}
-use Rattle.network_tables.specs.Sought.{sought_key}
-use Rattle.network_tables.specs.Rooms.{room_entry, copies_of}
 use Rattle.network_tables.proofs.room.copies_in.Given as goal
+use Rattle.network_tables.specs.{Rooms.{copies_of, room_entry}, Sought.sought_key}
+use Rattle.std.{proofs.Common.{map, take, ◌≡◌}, specs.Option.option_map}
 
 abbrev pub invariant-loop-place : goal.invariant-loop-place
 invariant-loop-place g l = map (option_map (λ k. k.items)) l.copies.items

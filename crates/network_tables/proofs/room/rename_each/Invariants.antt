@@ -1,8 +1,7 @@
-use Rattle.std.proofs.Common.{◌≡◌, ◌++◌, map, take, drop, length}
-use Rattle.std.specs.Option.{option_map}
-use Rattle.network_tables.specs.Sought.{sought_key}
-use Rattle.network_tables.specs.Rooms.{room_entry, each_changed, moved_channel, copies_of}
 use Rattle.network_tables.proofs.room.rename_each.Given as goal
+use Rattle.network_tables.specs.Rooms.{copies_of, each_changed, moved_channel, room_entry}
+use Rattle.{network_tables.specs.Sought.sought_key, std.proofs.Common.{drop, length, map, take}}
+use Rattle.std.{proofs.Common.{◌++◌, ◌≡◌}, specs.Option.option_map}
 
 abbrev pub invariant-loop-place : goal.invariant-loop-place
 invariant-loop-place g l = record {

@@ -1,8 +1,7 @@
-use Rattle.std.proofs.Common.{◌≡◌, ◌++◌, map, take, drop, length}
-use Rattle.net_view.specs.Changes.{without_member}
-use Rattle.network_tables.specs.Sought.{sought_key}
-use Rattle.network_tables.specs.Rooms.{room_entry, each_changed}
 use Rattle.network_tables.proofs.room.unseat_each.Given as goal
+use Rattle.{net_view.specs.Changes.without_member, network_tables.specs.Rooms.each_changed}
+use Rattle.{network_tables.specs.{Rooms.room_entry, Sought.sought_key}, std.proofs.Common.drop}
+use Rattle.std.proofs.Common.{length, map, take, ◌++◌, ◌≡◌}
 
 abbrev pub invariant-loop-place : goal.invariant-loop-place
 invariant-loop-place g l = record {

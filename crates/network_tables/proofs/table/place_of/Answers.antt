@@ -1,11 +1,8 @@
-use Rattle.std.proofs.Common.{ap, ◌∙◌}
-use Rattle.net_view.specs.Names.{bytes_cmp}
-use Rattle.network_tables.specs.Sought.{sought_key}
 use Rattle.network_tables.proofs.table.place_of.Goals as goal
+use Rattle.{net_view.specs.Names.bytes_cmp, network_tables.specs.Sought.sought_key}
 
 pub returns-clause-place : goal.returns-clause-place
 returns-clause-place g c =
     c.binary_search_by.ensures.position
     (λ slot. bytes_cmp slot.entry.value.key.items (sought_key c.args.sought))
-    (λ slot r k. k.says.met c.requires.head c.requires.bytes
-    ∙ ap (λ slot. bytes_cmp slot.entry.value.key.items (sought_key c.args.sought)) k.shows)
+    (λ slot r k. rw k.shows at (k.says.met c.requires.head c.requires.bytes))

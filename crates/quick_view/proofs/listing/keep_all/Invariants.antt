@@ -1,8 +1,7 @@
-use Rattle.std.proofs.Common.{◌≡◌, ◌≤◌, map, length}
-use Rattle.std.specs.Vec.Iter.{into_iter_items}
-use Rattle.network_tables.specs.People.{people_of}
-use Rattle.quick_view.specs.Listing.{listing_of, members_listed, people_listed}
 use Rattle.quick_view.proofs.listing.keep_all.Given as goal
+use Rattle.{network_tables.specs.People.people_of, quick_view.specs.Listing.listing_of}
+use Rattle.{quick_view.specs.Listing.{members_listed, people_listed}, std.proofs.Common.length}
+use Rattle.std.{proofs.Common.{map, ◌≡◌, ◌≤◌}, specs.Vec.Iter.into_iter_items}
 
 abbrev pub invariant-loop-one : goal.invariant-loop-one
 invariant-loop-one g l =

@@ -1,13 +1,8 @@
-use Rattle.std.proofs.Common.{◌≡◌, option_map}
-use Rattle.std.specs.List.{filter_map}
-use Rattle.std.specs.Option.{ForSome}
 use Rattle.std.specs.FinMap as fin
-use Rattle.irc_support.specs.Line.{changes_in}
-use Rattle.irc_support.specs.Text.{Text}
-use Rattle.net_view.specs.StateLines.{letter_change}
-use Rattle.net_view.specs.MemberSets.{ranks_changed}
-use Rattle.quick_view.proofs.LastLemmas.{IsSet}
 use Rattle.quick_view.proofs.moding.change_ranks.Given as goal
+use Rattle.{irc_support.specs.{Line.changes_in, Text.Text}, net_view.specs.MemberSets.ranks_changed}
+use Rattle.{net_view.specs.StateLines.letter_change, quick_view.proofs.LastLemmas.IsSet}
+use Rattle.std.{proofs.Common.{option_map, ◌≡◌}, specs.{List.filter_map, Option.ForSome}}
 
 abbrev pub invariant-loop-change : goal.invariant-loop-change
 invariant-loop-change g l = ((n : Text) → ForSome (fin.get l.fn.members.all n) IsSet) → (n : Text) →

@@ -1,26 +1,13 @@
-use Rattle.std.proofs.Common.{Some, sym, ap, ◌∙◌, option_map}
-use Rattle.net_view.specs.View.{Channel}
-use Rattle.net_view.specs.Readers.{channel_shown}
-use Rattle.network_tables.specs.Table.{entry_now}
-use Rattle.quick_view.proofs.ReadLemmas.{room_shown}
 use Rattle.quick_view.proofs.table_view.TableViewNetworkView.channel_at.Goals as goal
+use Rattle.{quick_view.proofs.ReadLemmas.room_shown, std.proofs.Common.refl}
 
 pub returns-in-Some : goal.returns-in-Some
 returns-in-Some g c =
-    let shown = room_shown c.self.inside.state c.args.i _ (ap (option_map entry_now) (sym
-    c.in-Some.is) ∙ c.at.ensures)
-    ∙ ap (λ v. channel_shown v c.args.i) c.self.view_is in
-    record {
-      name = ap Some c.as_slice.ensures.value ∙ ap (option_map (λ (ch : Channel). ch.name)) shown;
-      topic = ap Some c.bytes.ensures ∙ ap (option_map (λ (ch : Channel). ch.topic)) shown;
-    }
+    let room = room_shown c.self.inside.state c.args.i _ (rw c.in-Some.is at c.at.ensures) in
+    rw (← c.self.view_is, ← room, c.as_slice.ensures.value, c.bytes.ensures)
+    (record { name = refl; topic = refl })
 
 pub returns-in-None : goal.returns-in-None
 returns-in-None g c =
-    let shown = room_shown c.self.inside.state c.args.i _ (ap (option_map entry_now) (sym
-    c.in-None.is) ∙ c.at.ensures)
-    ∙ ap (λ v. channel_shown v c.args.i) c.self.view_is in
-    record {
-      name = ap (option_map (λ (ch : Channel). ch.name)) shown;
-      topic = ap (option_map (λ (ch : Channel). ch.topic)) shown;
-    }
+    let none = room_shown c.self.inside.state c.args.i _ (rw c.in-None.is at c.at.ensures) in
+    rw (← c.self.view_is, ← none) (record { name = refl; topic = refl })

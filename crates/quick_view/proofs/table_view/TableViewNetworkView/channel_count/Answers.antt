@@ -1,7 +1,5 @@
-use Rattle.std.proofs.Common.{ap, ◌∙◌}
-use Rattle.net_view.specs.Readers.{channels_shown}
-use Rattle.quick_view.proofs.ReadLemmas.{count_is}
 use Rattle.quick_view.proofs.table_view.TableViewNetworkView.channel_count.Goals as goal
+use Rattle.quick_view.proofs.ReadLemmas.{count_is}
 
 pub returns : goal.returns
-returns g c = c.len.ensures ∙ count_is c.self.inside.state ∙ ap channels_shown c.self.view_is
+returns g c = rw (← c.self.view_is, c.len.ensures) (count_is c.self.inside.state)

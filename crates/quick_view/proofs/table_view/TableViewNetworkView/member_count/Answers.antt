@@ -1,23 +1,12 @@
-use Rattle.std.proofs.Common.{sym, ap, ◌∙◌, option_map, length}
-use Rattle.std.specs.Option.{option_map_or}
-use Rattle.std.specs.FinMap as fin
-use Rattle.net_view.specs.View.{Channel}
-use Rattle.net_view.specs.Readers.{channel_shown}
-use Rattle.network_tables.specs.Table.{entry_now}
-use Rattle.quick_view.proofs.ReadLemmas.{room_shown}
 use Rattle.quick_view.proofs.table_view.TableViewNetworkView.member_count.Goals as goal
+use Rattle.quick_view.proofs.ReadLemmas.{room_shown}
 
 pub returns-in-Some : goal.returns-in-Some
 returns-in-Some g c =
-    let shown = room_shown c.self.inside.state c.args.i _ (ap (option_map entry_now) (sym
-    c.in-Some.is) ∙ c.at.ensures)
-    ∙ ap (λ v. channel_shown v c.args.i) c.self.view_is in
-    c.len.ensures ∙ ap (λ o. option_map_or (λ (ch : Channel). length (fin.entries ch.members)) o 0)
-    shown
+    let room = room_shown c.self.inside.state c.args.i _ (rw c.in-Some.is at c.at.ensures) in
+    rw (← c.self.view_is, ← room, c.len.ensures)
 
 pub returns-in-None : goal.returns-in-None
 returns-in-None g c =
-    let shown = room_shown c.self.inside.state c.args.i _ (ap (option_map entry_now) (sym
-    c.in-None.is) ∙ c.at.ensures)
-    ∙ ap (λ v. channel_shown v c.args.i) c.self.view_is in
-    ap (λ o. option_map_or (λ (ch : Channel). length (fin.entries ch.members)) o 0) shown
+    let none = room_shown c.self.inside.state c.args.i _ (rw c.in-None.is at c.at.ensures) in
+    rw (← c.self.view_is, ← none)

@@ -1,14 +1,8 @@
-use Rattle.std.proofs.Common.{◌∷◌, ◌++◌, [], is_some, sym, ap, ◌∙◌}
-use Rattle.net_view.specs.Arrival.{Received, Lost, arrival_of}
-use Rattle.net_view.specs.StateLines.{is_state_line, may_need_memory}
-use Rattle.net_view.specs.View.{view_of}
-use Rattle.net_view.proofs.StepLaw.{view_unchanged}
-use Rattle.net_view.proofs.Tests.{false_true}
-use Rattle.net_view.proofs.Commands.{is_read}
-use Rattle.quick_view.specs.Kept.{view_kept}
-use Rattle.network_tables.proofs.Outcomes.{on_ok}
-use Rattle.quick_view.proofs.TakeLemmas.{after_line, line_taken, loss_taken, still_from_lines}
 use Rattle.quick_view.proofs.table_view.TableViewNetworkView.take.Goals as goal
+use Rattle.net_view.{proofs.{Commands.is_read, StepLaw.view_unchanged}, specs.Arrival.Lost}
+use Rattle.{net_view.specs.Arrival.Received, network_tables.proofs.Outcomes.on_ok}
+use Rattle.quick_view.proofs.TakeLemmas.{after_line, line_taken, loss_taken, still_from_lines}
+use Rattle.{quick_view.specs.Kept.view_kept, std.proofs.Common.{ap, is_some, sym, ◌∙◌}}
 
 pub invariant_of-self : goal.invariant_of-self
 invariant_of-self g c =
@@ -20,32 +14,27 @@ pub invariant_of-self-in-Lost : goal.invariant_of-self-in-Lost
 invariant_of-self-in-Lost g c =
     let from = c.self.invariant in
     still_from_lines (view_kept c.lose.new.self) (from.0) Lost (from.1) tt
-    (loss_taken (view_kept c.self.inside.state) (view_kept c.lose.new.self) (from.0) (from.2)
-    c.lose.ensures)
+    (loss_taken _ _ (from.0) (from.2) c.lose.ensures)
 
 pub returns-in-Some-clause-taken : goal.returns-in-Some-clause-taken
 returns-in-Some-clause-taken g c items e =
     on_ok c.take_line.result c.take_line.ensures.taken (λ taken.
-    line_taken (view_kept c.self.inside.state) (view_kept c.take_line.new.self) items
-    c.in-Line.line (c.self.view_is ∙ e) taken
-    ∙ ap (λ x. view_of (items ++ arrival_of x ∷ [])) (sym c.in-Line.is))
+    rw c.in-Line.is (line_taken (view_kept c.self.inside.state) (view_kept c.take_line.new.self)
+    items c.in-Line.line (c.self.view_is ∙ e) taken))
 
 pub returns-in-Some-clause-free : goal.returns-in-Some-clause-free
 returns-in-Some-clause-free g c e =
-    let line = c.in-Line.line in
-    absurd (false_true (is_state_line line)
-    (ap (λ x. may_need_memory (arrival_of x)) (sym c.in-Line.is) ∙ e) (sym (is_read line)
-    ∙ ap is_some (sym c.in-Some.ensures.value)))
+    let read = rw (is_read c.in-Line.line) at (ap is_some c.in-Some.ensures.value) in
+    let free = rw c.in-Line.is at e in
+    absurd (cc (read, free))
 
 pub returns-in-None-clause-taken : goal.returns-in-None-clause-taken
 returns-in-None-clause-taken g c items e =
     let line = c.in-Line.line in
-    e ∙ sym (view_unchanged items (Received line) (sym (is_read line)
-    ∙ ap is_some (sym c.in-None.ensures.value)))
-    ∙ ap (λ x. view_of (items ++ arrival_of x ∷ [])) (sym c.in-Line.is)
+    rw c.in-Line.is (e ∙ sym (view_unchanged items (Received line) (sym (is_read line)
+    ∙ ap is_some (sym c.in-None.ensures.value))))
 
 pub returns-in-Lost-clause-taken : goal.returns-in-Lost-clause-taken
 returns-in-Lost-clause-taken g c items e =
-    loss_taken (view_kept c.self.inside.state) (view_kept c.lose.new.self) items (c.self.view_is ∙
-    e) c.lose.ensures
-    ∙ ap (λ x. view_of (items ++ arrival_of x ∷ [])) (sym c.in-Lost.is)
+    rw c.in-Lost.is (loss_taken (view_kept c.self.inside.state) (view_kept c.lose.new.self) items
+    (c.self.view_is ∙ e) c.lose.ensures)
