@@ -1,10 +1,8 @@
 -- The set of the ranks that pass a test, gathered rank by rank.
-use Rattle.tape_view.proofs.Words.{◌≡◌, ◌+◌, ◌<◌, ◌&&◌, ◌||◌, ◌==◌, List, ℕ, Bool, true, false}
-use Rattle.tape_view.proofs.Words.{[], refl, arith, nat_tests, Text, Heard, key, rank_decided}
-use Rattle.tape_view.proofs.Words.{rank_count, ranks_that, has_rank}
-use Rattle.std.proofs.Common.{nat_lt}
-use Rattle.std.proofs.lemmas.Bool.{eqb-true}
-use Rattle.net_view.proofs.RankSets.{is_rank, ranks_alike, has-ranks}
+use Rattle.{net_view.proofs.RankSets.{has-ranks, is_rank, ranks_alike}, std.proofs.Common.nat_lt}
+use Rattle.{std.proofs.lemmas.Bool.eqb-true, tape_view.proofs.Words.{Bool, Heard, List, Text, []}}
+use Rattle.tape_view.proofs.Words.{arith, false, has_rank, key, nat_tests, rank_count, rank_decided}
+use Rattle.tape_view.proofs.Words.{ranks_that, refl, true, ℕ, ◌&&◌, ◌+◌, ◌<◌, ◌==◌, ◌||◌, ◌≡◌}
 
 -- the ranks that a member holds
 abbrev pub held : Heard → Text → Text → ℕ → Bool
@@ -27,8 +25,7 @@ all_below test = grind (arith, ranks_alike, small_rank, nat_tests)
 
 -- one more rank, which passes
 pub rank_put : (test : ℕ → Bool) (k : ℕ) (ranks : List ℕ) → ranks ≡ ranks_that (below test k)
-    → test k ≡ true
-    → ranks_that (λ r. r == k || has_rank ranks r) ≡ ranks_that (below test (k + 1))
+    → test k ≡ true → ranks_that (λ r. r == k || has_rank ranks r) ≡ ranks_that (below test (k + 1))
 rank_put test k ranks so_far held = grind (arith, ranks_alike, has-ranks, eqb-true)
 
 -- and one that does not

@@ -54,8 +54,7 @@ module _ {A : Type 0} {tape older : Heard} {said : Said A} (line : IsLast tape s
     -- where the line says nothing of a matter that our own JOIN begins anew
     pub unsaid : (none : X) (c : Text) {whole : X}
         → ((us : Text → Bool) (t : Told) → says tape.settings us t ≡ None
-        → begins us t (key tape c) ≡ None)
-        → IsRead said (meaning said) None (says said.support.now)
+        → begins us t (key tape c) ≡ None) → IsRead said (meaning said) None (says said.support.now)
         → IsLeft tape c whole (unwrap_or (last (says tape.settings) tape.readings) none)
         → IsLeft older c whole (unwrap_or (last (says older.settings) older.readings) none)
     unsaid none c begun read left = grind arith
@@ -69,11 +68,9 @@ module _ {A : Type 0} {tape older : Heard} {said : Said A} (line : IsLast tape s
     -- the last word on a person is that of the line, else that of the older tape under the name of
     -- before
     pub asked_of : (answer : Option X) (name : Option (Bor Text))
-        → IsRead said (meaning said) answer of_nick
-        → IsNamed said nick name
+        → IsRead said (meaning said) answer of_nick → IsNamed said nick name
         → unwrap_or (last_of (says tape.settings) tape.readings (key tape nick)) none
-        ≡ unwrap_or answer
-        (unwrap_or
+        ≡ unwrap_or answer (unwrap_or
         (option_and_then (λ n. last_of (says older.settings) older.readings (key older n.now))
         name) none)
     asked_of answer name read named = grind arith

@@ -1,13 +1,12 @@
 -- What the words and the changes of a line say of one person or letter, and the last of them.
-use Rattle.tape_view.proofs.Words.{◌≡◌, ◌∷◌, arith, List, [], filter_map, option_and_then}
-use Rattle.tape_view.proofs.Words.{option_map, Option, None, refl, last_in, ℕ, nat_cmp_total, Text}
-use Rattle.tape_view.proofs.Words.{Token, kind_of, ChangeParts, mode_change, setting_of, ◌&&◌, Bool}
-use Rattle.tape_view.proofs.Words.{cond, length, is_some, list_any, Some, is_nameable, key_by, same}
-use Rattle.tape_view.proofs.Words.{Listing, lists, rank_in_change, listing}
 use Rattle.std.specs.FinMap as fin
-use Rattle.net_view.specs.StateLines.{setting_by}
-use Rattle.irc_support.specs.NamesReply.{Word}
-use Rattle.net_view.specs.{Names.name_of, StateLines.letter_change}
+use Rattle.{irc_support.specs.NamesReply.Word, net_view.specs.Names.name_of}
+use Rattle.{net_view.specs.StateLines.{letter_change, setting_by}, tape_view.proofs.Words.Bool}
+use Rattle.tape_view.proofs.Words.{ChangeParts, List, Listing, None, Option, Some, Text, Token, []}
+use Rattle.tape_view.proofs.Words.{arith, cond, filter_map, is_nameable, is_some, key_by, kind_of}
+use Rattle.tape_view.proofs.Words.{last_in, length, list_any, listing, lists, mode_change}
+use Rattle.tape_view.proofs.Words.{nat_cmp_total, option_and_then, option_map, rank_in_change, refl}
+use Rattle.tape_view.proofs.Words.{same, setting_of, ℕ, ◌&&◌, ◌∷◌, ◌≡◌}
 
 -- parts that are found in others
 pub last_found : {A X Y : Type 0} (says : X → Option A) (find : Y → Option X) (ys : List Y)

@@ -32,8 +32,7 @@ module _ {K : Type 0} {R : K → K → Ordering} (o : IsTotalOrder R)
   next_considered there seen after best c old = grind arith
 
   next_keys : (there seen : K → Bool) (names : List K) (after best : Option K)
-      → IsNextOf R there seen after best
-      → IsNextOf R there (λ c. list_any (eq_by_cmp R c) names
+      → IsNextOf R there seen after best → IsNextOf R there (λ c. list_any (eq_by_cmp R c) names
       || seen c) after (considered_by R there after best names)
   next_keys there seen [] after best old = old
   next_keys there seen (k ∷ names) after best old =
@@ -43,8 +42,7 @@ module _ {K : Type 0} {R : K → K → Ordering} (o : IsTotalOrder R)
   -- before one more line, which names what it brings up
   pub next_line : {A : Type 0} {tape left older : Heard} {said : Said A}
       (line : IsLast left said older) (has : Heard → K → Bool) (names : List Token → List K)
-      (after best new : Option K)
-      → ((c : K) → has left c ≡ true → has older c ≡ false
+      (after best new : Option K) → ((c : K) → has left c ≡ true → has older c ≡ false
       → list_any (eq_by_cmp R c) (names left.settings) ≡ true)
       → new ≡ considered_by R (has tape) after best (names tape.settings)
       → IsNextSoFar R has tape left after best → IsNextSoFar R has tape older after new

@@ -6,14 +6,11 @@ use Words.{names_in, is_set, letter_shown, is_there, key, key_at, table_len, Hea
 use Words.{list_any, same, Reading, is_on, is_member, people_in, Said, IsLast, meaning_in, map}
 use Words.{filter_map, eq_by_cmp, Token, says_on, key_there, meaning, ChangeParts, mode_change}
 use Rattle.std.specs.FinMap as fin
+use Rattle.net_view.proofs.Channels.{channels_get, members_get, modes_get, name_stays}
+use Rattle.net_view.proofs.{Channels.{says_member_none, says_mode_none}, KeyPlaces.ArePlaces}
+use Rattle.net_view.{proofs.{KeyPlaces.places, Keys.bytes_exact}, specs.Table.put_some}
+use Rattle.tape_view.{proofs.{LastLine.IsRead, SightLine.stays_member}, specs.Letters.letters_told}
 use Rattle.tape_view.specs.declared.places.Table.TheVariants.{Channels, Members}
-use Rattle.net_view.specs.Table.{put_some}
-use Rattle.net_view.proofs.Channels.{channels_get, members_get, modes_get}
-use Rattle.net_view.proofs.KeyPlaces.{ArePlaces, places}
-use Rattle.net_view.proofs.Keys.{bytes_exact}
-use Rattle.net_view.proofs.Channels.{says_member_none, name_stays, says_mode_none}
-use Rattle.tape_view.specs.Letters.{letters_told}
-use Rattle.tape_view.proofs.{LastLine.IsRead, SightLine.stays_member}
 
 pub table_places : (tape : Heard) (table : Table)
     → ArePlaces bytes_cmp (is_there tape table) (key_at tape table) (table_len tape table)

@@ -1,18 +1,16 @@
 -- What a view shows at a place, by the key that stands there on the tape.
-use Rattle.tape_view.proofs.Words.{◌≡◌, arith, ℕ, true, List, slice_get, option_map, unwrap_or, []}
-use Rattle.tape_view.proofs.Words.{Ordering, IsTotalOrder, nat_cmp_total, nat_list_cmp_total}
-use Rattle.tape_view.proofs.Words.{Option, Some, None, ranks_that, Text, Arrival, Reading, is_on}
-use Rattle.tape_view.proofs.Words.{name_on, rank_decided, mode_of, channel_named, channels_of, sym}
-use Rattle.tape_view.proofs.Words.{members_of, modes_of, view_back, letter_shown, key_at, Heard}
 use Rattle.std.specs.FinMap as fin
-use Rattle.net_view.specs.Facts.{spelling_of, account_of, away_of}
-use Rattle.net_view.specs.Readers.{channel_shown, member_shown, mode_shown}
-use Rattle.net_view.proofs.{Keys.bytes_exact, Holds.mapped, KeyPlaces.entry_at}
-use Rattle.net_view.proofs.{Channels.channels_get, Channels.members_get, Channels.modes_get}
-use Rattle.net_view.proofs.{People.people_get, People.spelling_field, People.account_field}
-use Rattle.net_view.proofs.{People.away_field, SoundStep.sound_back}
-use Rattle.tape_view.specs.declared.places.Table.TheVariants.{Channels}
-use Rattle.tape_view.specs.Tape.{heard}
+use Rattle.net_view.proofs.{Channels.{channels_get, members_get, modes_get}, Holds.mapped}
+use Rattle.net_view.proofs.{KeyPlaces.entry_at, Keys.bytes_exact, People.account_field}
+use Rattle.net_view.proofs.{People.{away_field, people_get, spelling_field}, SoundStep.sound_back}
+use Rattle.net_view.specs.{Facts.{account_of, away_of, spelling_of}, Readers.channel_shown}
+use Rattle.{net_view.specs.Readers.{member_shown, mode_shown}, tape_view.proofs.Words.Arrival}
+use Rattle.tape_view.proofs.Words.{Heard, IsTotalOrder, List, None, Option, Ordering, Reading, Some}
+use Rattle.tape_view.proofs.Words.{Text, [], arith, channel_named, channels_of, is_on, key_at}
+use Rattle.tape_view.proofs.Words.{letter_shown, members_of, mode_of, modes_of, name_on}
+use Rattle.tape_view.proofs.Words.{nat_cmp_total, nat_list_cmp_total, option_map, rank_decided}
+use Rattle.tape_view.proofs.Words.{ranks_that, slice_get, sym, true, unwrap_or, view_back, ℕ, ◌≡◌}
+use Rattle.tape_view.specs.{Tape.heard, declared.places.Table.TheVariants.Channels}
 
 -- the key at a place of a channel's members
 abbrev pub member_key : List Reading → Text → ℕ → Option Text

@@ -22,8 +22,7 @@ sees items c n m = grind (arith, met_at, in_named)
 
 module _ (x : Reading) (older : List Reading) where
   -- a member whom an item neither makes one nor names anew was one before it
-  pub stays_member : (c n : Text)
-      → (unwrap_or (says_member c (ours x) x.told n) false ≡ true → ⊥)
+  pub stays_member : (c n : Text) → (unwrap_or (says_member c (ours x) x.told n) false ≡ true → ⊥)
       → ((m : Text) → name_before (ours x) x.told n ≡ Some m → m ≡ n)
       → is_member (x ∷ older) c n ≡ true → is_member older c n ≡ true
   stays_member c n new keeps h =
@@ -80,19 +79,15 @@ module _ {A : Type 0} {tape older : Heard} {said : Said A} (line : IsLast tape s
     -- of before
     pub known_line : (says : Says) (answer : Option (Option Text)) (name : Option (Bor Text))
         → IsRead said (meaning_in tape said) answer
-        (λ us t. says us (is_on tape.readings) t (key tape nick))
-        → IsNamed said nick name
-        → known says tape.readings (key tape nick)
-        ≡ unwrap_or answer
+        (λ us t. says us (is_on tape.readings) t (key tape nick)) → IsNamed said nick name
+        → known says tape.readings (key tape nick) ≡ unwrap_or answer
         (option_and_then (λ n. known says older.readings (key older n.now)) name)
     known_line says answer name read named = grind arith
 
     -- whom the line does not spell was in sight before it
-    pub seen_before : (name : Bor Text)
-        → IsRead said (meaning_in tape said) None
+    pub seen_before : (name : Bor Text) → IsRead said (meaning_in tape said) None
         (λ us t. says_spelling us (is_on tape.readings) t (key tape nick))
-        → IsNamed said nick (Some name)
-        → in_sight older.readings (key older name.now) ≡ true
+        → IsNamed said nick (Some name) → in_sight older.readings (key older name.now) ≡ true
     seen_before name unspelled named =
         let x = line.reading in
         let silent = said_in line (λ us t. says_spelling us (is_on tape.readings) t (key tape nick))

@@ -5,11 +5,10 @@ use Words.{suc, set, Option, Some, Bor, refl, arith, reverse-append, Parts, Text
 use Words.{Telling, Arrival, Received, state_command, told, standing, standing_after, settings_of}
 use Words.{own_nick, readings_of, name_on, is_on, meant, channel_named, option_or, IsMarked}
 use Words.{with_lost, tape_of, IsMarkedLine, IsMarkedTape, Heard, IsLast}
-use Rattle.std.proofs.lemmas.List.{take_more, take_all, set_split}
-use Rattle.std.proofs.Math.ListN.{drop_of_length-le}
-use Rattle.net_view.specs.Transcript.{is_ready}
 use Rattle.net_view.proofs.{Channels.channels_get, SoundStep.sound_back}
-use Rattle.tape_view.specs.{Marks.own_said, Kept.IsReadable, Tape.read_by}
+use Rattle.{net_view.specs.Transcript.is_ready, std.proofs.Math.ListN.drop_of_length-le}
+use Rattle.std.proofs.lemmas.List.{set_split, take_all, take_more}
+use Rattle.tape_view.specs.{Kept.IsReadable, Marks.own_said, Tape.read_by}
 
 -- the line is told as this
 abbrev pub IsTold : {A : Type 0} → Telling A → Parts → Type 0

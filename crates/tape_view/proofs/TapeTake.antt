@@ -1,20 +1,18 @@
 -- A tape after one more item.
 use Rattle.tape_view.proofs.Words
-use Words.{◌≡◌, ◌+◌, ◌^◌, ◌<◌, ◌≤◌, ◌∷◌, ◌++◌, ℕ, List, [], length, arith, Table, Kept}
-use Words.{Told, Received, told, settings_of, tape_of, names_in, name_count, IsCounted, Token}
-use Words.{is_some, suc, Bool, true, false, set, get_or, reverse, take, Bor, reverse-append, Parts}
-use Words.{Arrival, Lost, view_back, view_of, after, Telling, Standing, standing, settings_after}
-use Words.{meant, with_lost, IsMarkedLine, IsMarkedTape, table}
-use Rattle.std.proofs.Common.{length-append}
-use Rattle.std.proofs.lemmas.List.{length-map, reverse-reverse}
+use Words.{◌≡◌, ◌+◌, ◌^◌, ◌<◌, ◌≤◌, ◌∷◌, ◌++◌, ℕ, List, [], length, arith, Table, Kept, Told}
+use Words.{Received, told, settings_of, tape_of, names_in, name_count, IsCounted, Token, is_some}
+use Words.{suc, Bool, true, false, set, get_or, reverse, take, Bor, reverse-append, Parts, Arrival}
+use Words.{Lost, view_back, view_of, after, Telling, Standing, standing, settings_after, meant}
+use Words.{with_lost, IsMarkedLine, IsMarkedTape, table}
+use TapeLast.{IsTold, no_lines, set_last, ends_with, tape_push, marked_split}
 use Rattle.net_view.specs.declared.state_line.Telling.TheVariants as telling
 use Rattle.irc_support.specs.Line as line
-use Rattle.irc_line.specs.Writing.{is_writable}
-use Rattle.net_view.specs.{Written.AreWritten, View.lost_view}
-use Rattle.net_view.proofs.{Commands.told_of_isupport, ToldSound.supports_said}
-use Rattle.net_view.proofs.{StepLaw.view_back_step, Emptied.view_lost, Emptied.emptied}
 use Rattle.tape_view.proofs.TapeLast
-use TapeLast.{IsTold, no_lines, set_last, ends_with, tape_push, marked_split}
+use Rattle.{irc_line.specs.Writing.is_writable, net_view.proofs.Commands.told_of_isupport}
+use Rattle.net_view.proofs.{Emptied.{emptied, view_lost}, StepLaw.view_back_step}
+use Rattle.net_view.{proofs.ToldSound.supports_said, specs.{View.lost_view, Written.AreWritten}}
+use Rattle.std.proofs.{Common.length-append, lemmas.List.{length-map, reverse-reverse}}
 use Rattle.tape_view.specs.Whole.{IsWhole}
 
 -- ---- how many names kept lines bring up

@@ -46,6 +46,7 @@ impl<'a, A: Allocator> Tape<'a, A> {
 
     /// Whether the person is a member of some channel that we are on. The channels that are asked
     /// are those of our own JOINs.
+    #[tactic(auto, using(crate::proofs::SightLine::left_on, crate::proofs::SightLine::sees))]
     fn is_in_sight(&self, nick: &[u8]) -> bool
         ensures { result ≡ in_sight self.now.readings (key self.now nick.now) }
     {
@@ -151,6 +152,7 @@ impl<'a, A: Allocator> Tape<'a, A> {
     /// What is known of a person: what was said last, where the person has been in sight ever
     /// since. The person is followed back under earlier names. Whoever is in sight after a line
     /// that does not spell the nick was in sight before it.
+    #[tactic(auto, using(net_view::proofs::People::unseen_none))]
     pub(crate) fn fact(&self, nick: &[u8], fact: Fact) -> Option<&'a [u8]>
         ensures { option_map (λ text. text.now) result
             ≡ known (says_of fact) self.now.readings (key self.now nick.now) }

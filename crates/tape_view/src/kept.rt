@@ -38,6 +38,7 @@ pub(crate) struct Kept<A: Allocator> {
 }
 
 /// Whether the two are one name.
+#[tactic(auto, using(net_view::proofs::Keys::is_same, net_view::proofs::Keys::same_refl, net_view::proofs::Tests::both_or_neither))]
 pub(crate) fn is_same<S: Allocator>(support: &Support<S>, a: &[u8], b: &[u8]) -> bool
     ensures { result ≡ same (key_by support.now a.now) (key_by support.now b.now) }
 {
@@ -129,6 +130,7 @@ fn own_told<'a, A: Allocator>(telling: &Telling<'a, A>, marks: Marks) -> Option<
 }
 
 /// Our nick after these lines.
+#[tactic(auto, using(crate::proofs::TapeLast::command_last, crate::proofs::TapeLast::no_lines, crate::proofs::TapeLast::tape_none))]
 pub(crate) fn own_in<A: Allocator>(kept: &[Kept<A>]) -> Option<&[u8]>
     requires { IsMarkedTape kept.now }
     ensures { option_map (λ nick. nick.now) result ≡ own_nick (tape_of kept.now) }
@@ -144,6 +146,7 @@ pub(crate) fn own_in<A: Allocator>(kept: &[Kept<A>]) -> Option<&[u8]>
 }
 
 /// Whether the settings are fixed after these lines.
+#[tactic(auto, using(crate::proofs::TapeLast::no_lines, crate::proofs::TapeLast::ready_last, crate::proofs::TapeLast::tape_none))]
 pub(crate) fn ready_in<A: Allocator>(kept: &[Kept<A>]) -> bool
     requires { IsMarkedTape kept.now }
     ensures { result ≡ is_ready (tape_of kept.now) }

@@ -42,6 +42,7 @@ fn setting_by<'a>(kind: Kind, plus: bool, param: Option<&'a [u8]>) -> Option<Set
 }
 
 /// What the last change of this letter in a MODE or a 324 line sets.
+#[tactic(auto, using(crate::proofs::LineParts::last_found, crate::proofs::LineParts::sets_it, crate::proofs::LineParts::sets_none))]
 fn last_setting<'a, A: Allocator, B: Allocator>(
     support: &'a Support<A>,
     line: &'a Line<B>,

@@ -14,6 +14,7 @@ use net_view::Telling;
 use std::alloc::Allocator;
 
 /// The number of names with those of a 353; `None` where a `usize` can't hold it.
+#[tactic(auto, using(crate::proofs::LineParts::listed_count))]
 fn with_listed<S: Allocator, A: Allocator>(
     support: &Support<S>,
     line: &Line<A>,

@@ -165,6 +165,7 @@ impl<'a, A: Allocator> Tape<'a, A> {
     }
 
     /// How many there are.
+    #[tactic(auto, using(crate::proofs::PlacedKeys::len_few, crate::proofs::PlacedKeys::table_places))]
     pub(crate) fn count(&self, table: Table<'_>) -> usize
         requires { length (named (names_in table) self.now.readings) < 2 ^ 64 }
         ensures { result ≡ table_len self.now table.entry }

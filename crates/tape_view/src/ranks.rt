@@ -133,6 +133,7 @@ impl<'a, A: Allocator> Tape<'a, A> {
     }
 
     /// The ranks that the person holds on the channel, on which we are.
+    #[tactic(auto, using(crate::proofs::GatheredRanks::none_below))]
     pub(crate) fn ranks(&self, channel: &[u8], nick: &[u8]) -> Ranks
         requires { is_on self.now.readings (key self.now channel.now) ≡ true }
         ensures { result

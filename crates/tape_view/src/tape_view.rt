@@ -105,6 +105,7 @@ impl<A: Allocator + Copy> TapeView<A> {
     }
 
     /// Keeps a line of this command, which can be written.
+    #[tactic(auto, using(crate::proofs::TapeLast::tape_push))]
     fn keep<B: Allocator>(
         &mut self,
         command: StateCommand,
@@ -134,6 +135,7 @@ impl<A: Allocator + Copy> NetworkView for TapeView<A> {
 
     type Memory = A;
 
+    #[tactic(auto, using(crate::proofs::TapeTake::loss_of_nothing, crate::proofs::TapeTake::loss_taken, net_view::proofs::StepLaw::view_back_step, net_view::proofs::StepLaw::view_step))]
     fn take<B: Allocator>(&mut self, item: &Item<B>) -> Result<(), OutOfMemory> {
         match item {
             Item::Line(line) => {
@@ -151,6 +153,7 @@ impl<A: Allocator + Copy> NetworkView for TapeView<A> {
         Ok(())
     }
 
+    #[tactic(auto, using(crate::proofs::TapeTake::from_lines))]
     fn comes_from_lines(&self) {
         let _kept = &self.kept;
     }
@@ -175,6 +178,7 @@ impl<A: Allocator + Copy> NetworkView for TapeView<A> {
         self.tape().count(Table::Channels)
     }
 
+    #[tactic(auto, using(crate::proofs::Readers::shown_on))]
     fn channel_at(&self, i: usize) -> Option<Channel<'_>> {
         let tape = self.tape();
         let channel = tape.at(Table::Channels, i)?;
@@ -183,6 +187,7 @@ impl<A: Allocator + Copy> NetworkView for TapeView<A> {
         Some(Channel { name, topic })
     }
 
+    #[tactic(auto, using(crate::proofs::Readers::shown_on))]
     fn mode_at(&self, i: usize, j: usize) -> Option<(u8, Option<&[u8]>)> {
         let tape = self.tape();
         let channel = tape.at(Table::Channels, i)?;
@@ -199,6 +204,7 @@ impl<A: Allocator + Copy> NetworkView for TapeView<A> {
         }
     }
 
+    #[tactic(auto, using(crate::proofs::Readers::shown_on))]
     fn member_at(&self, i: usize, j: usize) -> Option<Member<'_>> {
         let tape = self.tape();
         let channel = tape.at(Table::Channels, i)?;
@@ -215,6 +221,7 @@ impl<A: Allocator + Copy> NetworkView for TapeView<A> {
         })
     }
 
+    #[tactic(auto, using(net_view::proofs::Accounts::account_named, net_view::proofs::People::people_get, net_view::proofs::People::account_field))]
     fn account_of(&self, nick: &[u8]) -> Option<&[u8]> {
         if !is_nameable(nick) {
             return None;

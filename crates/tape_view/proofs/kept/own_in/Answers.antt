@@ -1,9 +1,5 @@
-use Rattle.tape_view.proofs.Words.{arith}
 use Rattle.tape_view.proofs.kept.own_in.Goals as goal
-use Rattle.tape_view.proofs.TapeLast.{command_last, own_last, tape_none, no_lines}
-
-pub told_as-requires : goal.told_as-requires
-told_as-requires g c = search (arith, command_last)
+use Rattle.tape_view.proofs.{TapeLast.own_last, Words.arith}
 
 pub returns-in-Some : goal.returns-in-Some
 returns-in-Some g c =
@@ -15,6 +11,3 @@ loop-left-preserved g c =
     let last = own_last _ _ c.in-len1-up.len_at_least c.last-item.is _ _ c.told_as.ensures
     c.loop-left.invariant.marked c.in_default-own_told.ensures in
     grind (arith, last)
-
-pub returns : goal.returns
-returns g c = grind (arith, no_lines, tape_none)

@@ -1,6 +1,5 @@
-use Rattle.tape_view.proofs.Words.{arith, sym, standing, tape_of}
 use Rattle.tape_view.proofs.kept.take_settings.Goals as goal
-use Rattle.tape_view.proofs.TapeTake.{supports_settings}
+use Rattle.tape_view.proofs.{TapeTake.supports_settings, Words.{arith, standing, sym, tape_of}}
 
 pub returns-in_ok-take-in-Supports-clause-taken : goal.returns-in_ok-take-in-Supports-clause-taken
 returns-in_ok-take-in-Supports-clause-taken g c =

@@ -1,7 +1,6 @@
-use Rattle.tape_view.proofs.Words.{◌≡◌, option_map, option_or, words_in, key_by, shown_member}
-use Rattle.tape_view.proofs.Words.{last_in}
 use Rattle.tape_view.proofs.members.word_of.Given as goal
-use Rattle.tape_view.proofs.LineParts.{word_said}
+use Rattle.tape_view.proofs.{LineParts.word_said, Words.{key_by, last_in, option_map, option_or}}
+use Rattle.tape_view.proofs.Words.{shown_member, words_in, ◌≡◌}
 
 abbrev pub invariant-loop-ranks : goal.invariant-loop-ranks
 invariant-loop-ranks g l =

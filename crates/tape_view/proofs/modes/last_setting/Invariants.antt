@@ -1,7 +1,6 @@
-use Rattle.tape_view.proofs.Words.{◌≡◌, option_or, changes_in, last_in}
 use Rattle.tape_view.proofs.modes.last_setting.Given as goal
-use Rattle.std.proofs.Common.{option_map}
-use Rattle.tape_view.proofs.LineParts.{sets}
+use Rattle.{std.proofs.Common.option_map, tape_view.proofs.{LineParts.sets, Words.changes_in}}
+use Rattle.tape_view.proofs.Words.{last_in, option_or, ◌≡◌}
 
 abbrev pub invariant-loop-change : goal.invariant-loop-change
 invariant-loop-change g l =

@@ -1,6 +1,5 @@
-use Rattle.tape_view.proofs.Words.{◌≡◌, ◌+◌, ◌<◌, ◌^◌, words_in}
 use Rattle.tape_view.proofs.name_count.with_listed.Given as goal
-use Rattle.tape_view.proofs.LineParts.{listed_count}
+use Rattle.tape_view.proofs.{LineParts.listed_count, Words.{words_in, ◌+◌, ◌<◌, ◌^◌, ◌≡◌}}
 
 abbrev pub invariant-loop-ranks : goal.invariant-loop-ranks
 invariant-loop-ranks g l = record {

@@ -1,6 +1,5 @@
-use Rattle.tape_view.proofs.Words.{arith}
 use Rattle.tape_view.proofs.ranks.rank_changed.Goals as goal
-use Rattle.tape_view.proofs.LineParts.{last_found, rank_set}
+use Rattle.tape_view.proofs.{LineParts.{last_found, rank_set}, Words.arith}
 
 pub loop-change-init : goal.loop-change-init
 loop-change-init g c = grind arith

@@ -1,6 +1,5 @@
-use Rattle.tape_view.proofs.Words.{arith}
 use Rattle.tape_view.proofs.tape.Tape.at.Goals as goal
-use Rattle.tape_view.proofs.PlacedKeys.{table_places}
+use Rattle.tape_view.proofs.{PlacedKeys.table_places, Words.arith}
 
 pub loop-place-init : goal.loop-place-init
 loop-place-init g c = search (arith, (table_places c.args.self.now c.args.table).zero)

@@ -1,6 +1,5 @@
-use Rattle.tape_view.proofs.Words.{◌≡◌, key_in, key_at}
 use Rattle.tape_view.proofs.tape.Tape.at.Given as goal
-use Rattle.std.proofs.Common.{option_map}
+use Rattle.{std.proofs.Common.option_map, tape_view.proofs.Words.{key_at, key_in, ◌≡◌}}
 
 abbrev pub invariant-loop-place : goal.invariant-loop-place
 invariant-loop-place g l =

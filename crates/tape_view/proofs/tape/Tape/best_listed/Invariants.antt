@@ -1,7 +1,6 @@
-use Rattle.tape_view.proofs.Words.{◌≡◌, nat_cmp, considered_by, is_set, key}
 use Rattle.tape_view.proofs.tape.Tape.best_listed.Given as goal
+use Rattle.tape_view.proofs.{PlacedKeys.letters, Words.{considered_by, is_set, key, nat_cmp, ◌≡◌}}
 use Rattle.tape_view.specs.Letters.{letters_listed}
-use Rattle.tape_view.proofs.PlacedKeys.{letters}
 
 abbrev pub invariant-loop-change : goal.invariant-loop-change
 invariant-loop-change g l =

@@ -1,7 +1,6 @@
-use Rattle.tape_view.proofs.Words.{◌≡◌, Text, Option, Bor, option_map, considered, key_in, is_there}
-use Rattle.tape_view.proofs.Words.{map, filter_map, listing}
 use Rattle.tape_view.proofs.tape.Tape.best_named.Given as goal
-use Rattle.tape_view.specs.Places.{keys_listed}
+use Rattle.tape_view.proofs.Words.{Bor, Option, Text, considered, filter_map, is_there, key_in}
+use Rattle.tape_view.{proofs.Words.{listing, map, option_map, ◌≡◌}, specs.Places.keys_listed}
 
 abbrev pub invariant-loop-ranks : goal.invariant-loop-ranks
 invariant-loop-ranks g l =

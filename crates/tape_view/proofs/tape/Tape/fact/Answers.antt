@@ -3,9 +3,6 @@ use Rattle.tape_view.proofs.tape.Tape.fact.Goals as goal
 use Rattle.net_view.proofs.People.{unseen_none}
 use Rattle.tape_view.proofs.SightLine.{all_on, none_seen, known_line, seen_before}
 
-pub returns-then-not-is_in_sight : goal.returns-then-not-is_in_sight
-returns-then-not-is_in_sight g c = grind (arith, unseen_none)
-
 pub returns-then-not-is_in_sight-2 : goal.returns-then-not-is_in_sight-2
 returns-then-not-is_in_sight-2 g c =
     let known = known_line c.in-Some.ensures.last _ c.loop-said.invariant.seen (says_of c.args.fact)

@@ -1,6 +1,5 @@
-use Rattle.tape_view.proofs.Words.{length, rank_decided, key}
 use Rattle.tape_view.proofs.tape.Tape.has_rank.Given as goal
-use Rattle.tape_view.proofs.LastLine.{IsLeft}
+use Rattle.tape_view.proofs.{LastLine.IsLeft, Words.{key, length, rank_decided}}
 
 abbrev pub invariant-loop-said : goal.invariant-loop-said
 invariant-loop-said g l =

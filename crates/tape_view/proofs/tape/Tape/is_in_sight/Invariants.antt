@@ -1,6 +1,5 @@
-use Rattle.tape_view.proofs.Words.{length}
 use Rattle.tape_view.proofs.tape.Tape.is_in_sight.Given as goal
-use Rattle.tape_view.proofs.SightLine.{AreOn}
+use Rattle.tape_view.proofs.{SightLine.AreOn, Words.length}
 
 abbrev pub invariant-loop-said : goal.invariant-loop-said
 invariant-loop-said g l = AreOn l.self l.tape l.nick

@@ -1,6 +1,5 @@
-use Rattle.tape_view.proofs.Words.{arith}
 use Rattle.tape_view.proofs.tape.Tape.letter_at.Goals as goal
-use Rattle.tape_view.proofs.PlacedKeys.{letter_places}
+use Rattle.tape_view.proofs.{PlacedKeys.letter_places, Words.arith}
 
 pub loop-place-init : goal.loop-place-init
 loop-place-init g c = search (arith, (letter_places c.args.self.now c.args.channel.now).zero)

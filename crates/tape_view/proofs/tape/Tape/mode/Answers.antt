@@ -1,6 +1,5 @@
-use Rattle.tape_view.proofs.Words.{None, key_by, says_mode}
 use Rattle.tape_view.proofs.tape.Tape.mode.Goals as goal
-use Rattle.tape_view.proofs.{LastLine.asked, LastLine.unsaid, LastLine.silent_anew}
+use Rattle.tape_view.proofs.{LastLine.{asked, silent_anew, unsaid}, Words.{None, key_by, says_mode}}
 
 pub returns-in-Some-says_mode : goal.returns-in-Some-says_mode
 returns-in-Some-says_mode g c =

@@ -1,6 +1,5 @@
-use Rattle.tape_view.proofs.Words.{length, mode_of, key}
 use Rattle.tape_view.proofs.tape.Tape.mode.Given as goal
-use Rattle.tape_view.proofs.LastLine.{IsLeft}
+use Rattle.tape_view.proofs.{LastLine.IsLeft, Words.{key, length, mode_of}}
 
 abbrev pub invariant-loop-said : goal.invariant-loop-said
 invariant-loop-said g l =

@@ -1,6 +1,5 @@
-use Rattle.tape_view.proofs.Words.{None, key_by, says_on}
 use Rattle.tape_view.proofs.tape.Tape.name_on.Goals as goal
-use Rattle.tape_view.proofs.LastLine.{asked}
+use Rattle.tape_view.proofs.{LastLine.asked, Words.{None, key_by, says_on}}
 
 pub returns-in-Some-says_on : goal.returns-in-Some-says_on
 returns-in-Some-says_on g c =

@@ -1,8 +1,7 @@
-use Rattle.tape_view.proofs.Words.{nat_list_cmp_total, names_in, is_there, meant}
 use Rattle.tape_view.proofs.tape.Tape.next.Goals as goal
-use Rattle.net_view.proofs.Keys.{bytes_exact}
-use Rattle.tape_view.proofs.{NextKey.next_all, NextKey.next_line}
-use Rattle.tape_view.proofs.PlacedKeys.{gone, brought_up}
+use Rattle.{net_view.proofs.Keys.bytes_exact, tape_view.proofs.NextKey.{next_all, next_line}}
+use Rattle.tape_view.proofs.{PlacedKeys.{brought_up, gone}, Words.{is_there, meant, names_in}}
+use Rattle.tape_view.proofs.Words.{nat_list_cmp_total}
 
 pub loop-said-preserved : goal.loop-said-preserved
 loop-said-preserved g c =

@@ -1,7 +1,6 @@
-use Rattle.tape_view.proofs.Words.{length, bytes_cmp, key_in, is_there}
 use Rattle.tape_view.proofs.tape.Tape.next.Given as goal
-use Rattle.std.proofs.Common.{option_map}
-use Rattle.tape_view.proofs.NextKey.{IsNextSoFar}
+use Rattle.{std.proofs.Common.option_map, tape_view.proofs.{NextKey.IsNextSoFar, Words.bytes_cmp}}
+use Rattle.tape_view.proofs.Words.{is_there, key_in, length}
 
 abbrev pub invariant-loop-said : goal.invariant-loop-said
 invariant-loop-said g l =

@@ -1,9 +1,8 @@
-use Rattle.tape_view.proofs.Words.{arith, nat_cmp_total, key, is_set}
 use Rattle.tape_view.proofs.tape.Tape.next_letter.Goals as goal
 use Rattle.std.specs.FinMap as fin
+use Rattle.tape_view.proofs.{NextKey.{next_all, next_line}, PlacedKeys.{begun_off, listed_on}}
+use Rattle.tape_view.proofs.{PlacedKeys.unsaid_on, Words.{arith, is_set, key, nat_cmp_total}}
 use Rattle.tape_view.specs.Letters.{letters_told}
-use Rattle.tape_view.proofs.NextKey.{next_all, next_line}
-use Rattle.tape_view.proofs.PlacedKeys.{begun_off, unsaid_on, listed_on}
 
 pub returns-then-is_some : goal.returns-then-is_some
 returns-then-is_some g c =

@@ -1,10 +1,6 @@
-use Rattle.tape_view.proofs.Words.{arith}
 use Rattle.tape_view.proofs.tape.Tape.ranks.Goals as goal
-use Rattle.tape_view.proofs.GatheredRanks.{none_below, held, all_below, rank_put, rank_left}
-use Rattle.tape_view.proofs.tape.Tape.ranks.Goals.{then-has_rank, else-has_rank}
-
-pub loop-rank-init : goal.loop-rank-init
-loop-rank-init g c = search (arith, none_below)
+use Rattle.tape_view.proofs.{GatheredRanks.{all_below, held, rank_left, rank_put}, Words.arith}
+use Rattle.tape_view.proofs.tape.Tape.ranks.Goals.{else-has_rank, then-has_rank}
 
 pub loop-rank-preserved : goal.loop-rank-preserved
 loop-rank-preserved g c =

@@ -1,6 +1,5 @@
-use Rattle.tape_view.proofs.Words.{◌≡◌, ranks_that}
 use Rattle.tape_view.proofs.tape.Tape.ranks.Given as goal
-use Rattle.tape_view.proofs.GatheredRanks.{below, held}
+use Rattle.tape_view.proofs.{GatheredRanks.{below, held}, Words.{ranks_that, ◌≡◌}}
 
 abbrev pub invariant-loop-rank : goal.invariant-loop-rank
 invariant-loop-rank g l =

@@ -1,7 +1,5 @@
-use Rattle.tape_view.proofs.Words.{length, key}
 use Rattle.tape_view.proofs.tape.Tape.topic.Given as goal
-use Rattle.tape_view.proofs.LastLine.{IsLeft}
-use Rattle.net_view.specs.Topic.{topic_of}
+use Rattle.{net_view.specs.Topic.topic_of, tape_view.proofs.{LastLine.IsLeft, Words.{key, length}}}
 
 abbrev pub invariant-loop-said : goal.invariant-loop-said
 invariant-loop-said g l =

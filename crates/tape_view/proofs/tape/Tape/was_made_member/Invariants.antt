@@ -1,6 +1,5 @@
-use Rattle.tape_view.proofs.Words.{length, key}
 use Rattle.tape_view.proofs.tape.Tape.was_made_member.Given as goal
-use Rattle.tape_view.proofs.LastLine.{IsLeft, was_made}
+use Rattle.tape_view.proofs.{LastLine.{IsLeft, was_made}, Words.{key, length}}
 
 abbrev pub invariant-loop-said : goal.invariant-loop-said
 invariant-loop-said g l =

@@ -1,6 +1,5 @@
-use Rattle.tape_view.proofs.Words.{arith}
 use Rattle.tape_view.proofs.tape_view.TapeView.keep.Goals as goal
-use Rattle.tape_view.proofs.{TapeLast.tape_push, TapeTake.line_kept}
+use Rattle.tape_view.proofs.{TapeTake.line_kept, Words.arith}
 
 pub invariant_of-self-3 : goal.invariant_of-self-3
 invariant_of-self-3 g c =
@@ -8,6 +7,3 @@ invariant_of-self-3 g c =
     c.push_reserved.new.self.items c.in_ok-kept.kept c.told_as-telling.result c.args.line.now
     c.self.inside.names c.in_ok-names.names in
     grind (arith, kept)
-
-pub returns-clause-taken : goal.returns-clause-taken
-returns-clause-taken g c = search (arith, tape_push)

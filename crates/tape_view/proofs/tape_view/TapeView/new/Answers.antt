@@ -1,6 +1,5 @@
-use Rattle.tape_view.proofs.Words.{arith, tape_of, IsMarkedTape}
 use Rattle.tape_view.proofs.tape_view.TapeView.new.Goals as goal
-use Rattle.tape_view.proofs.TapeLast.{tape_none}
+use Rattle.tape_view.proofs.{TapeLast.tape_none, Words.{IsMarkedTape, arith, tape_of}}
 
 pub returns : goal.returns
 returns g c = grind (arith, tape_none)

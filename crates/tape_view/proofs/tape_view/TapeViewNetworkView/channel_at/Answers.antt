@@ -1,9 +1,5 @@
-use Rattle.tape_view.proofs.Words.{arith}
 use Rattle.tape_view.proofs.tape_view.TapeViewNetworkView.channel_at.Goals as goal
-use Rattle.tape_view.proofs.Readers.{shown, shown_on}
-
-pub topic-topic-requires : goal.topic-topic-requires
-topic-topic-requires g c = search (arith, shown_on)
+use Rattle.tape_view.proofs.{Readers.shown, Words.arith}
 
 pub returns-in_err-name : goal.returns-in_err-name
 returns-in_err-name g c =

@@ -1,9 +1,5 @@
-use Rattle.tape_view.proofs.Words.{arith}
 use Rattle.tape_view.proofs.tape_view.TapeViewNetworkView.member_at.Goals as goal
-use Rattle.tape_view.proofs.Readers.{shown, shown_on, is_spelled, member_there}
-
-pub ranks-ranks-requires : goal.ranks-ranks-requires
-ranks-ranks-requires g c = search (arith, shown_on)
+use Rattle.tape_view.proofs.{Readers.{is_spelled, member_there, shown}, Words.arith}
 
 pub returns-in_err-member : goal.returns-in_err-member
 returns-in_err-member g c =

@@ -1,12 +1,5 @@
-use Rattle.tape_view.proofs.Words.{arith}
 use Rattle.tape_view.proofs.tape_view.TapeViewNetworkView.mode_at.Goals as goal
-use Rattle.tape_view.proofs.Readers.{shown, shown_on, mode_there}
-
-pub letter_at-requires : goal.letter_at-requires
-letter_at-requires g c = search (arith, shown_on)
-
-pub mode-requires : goal.mode-requires
-mode-requires g c = search (arith, shown_on)
+use Rattle.tape_view.proofs.{Readers.{mode_there, shown}, Words.arith}
 
 pub returns-in_err-letter : goal.returns-in_err-letter
 returns-in_err-letter g c =
