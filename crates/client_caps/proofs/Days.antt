@@ -1,19 +1,15 @@
 -- The days of the calendar, counted one by one.
-use Rattle.client_caps.proofs.Words.{◌+◌, ◌<◌, ◌∙◌, ◌≡◌, ◌≤◌, Date, ap, arith, inl}
-use Rattle.client_caps.proofs.Words.{inr, nat_tests, refl, subst, suc, sym, zero, ℕ}
 use Rattle.jiff_core.specs.declared.civil.date.Date as civil
-use Rattle.client_caps.specs.{Moment.date_of, Moment.day_after}
-use Rattle.jiff_core.proofs.CalendarLemmas.{day_count-day, day_count-lt_month, day_count-lt_year}
-use Rattle.jiff_core.proofs.CalendarLemmas.{day_count-epoch, days_from_civil-day_count}
-use Rattle.jiff_core.proofs.CalendarLemmas.{days_in_month_bounds}
+use Rattle.client_caps.proofs.Words.{Date, ap, arith, nat_tests, refl, suc}
+use Rattle.client_caps.{proofs.Words.{zero, ℕ, ◌+◌, ◌<◌, ◌∙◌, ◌≡◌, ◌≤◌}, specs.Moment.date_of}
+use Rattle.{client_caps.specs.Moment.day_after, jiff_core.proofs.CalendarLemmas.day_count-day}
+use Rattle.jiff_core.proofs.CalendarLemmas.{day_count-epoch, day_count-lt_month, day_count-lt_year}
+use Rattle.jiff_core.proofs.CalendarLemmas.{days_from_civil-day_count, days_in_month_bounds}
 use Rattle.jiff_core.proofs.DateLemmas.{days_from_civil-day, days_from_civil-next_month}
-use Rattle.jiff_core.proofs.DateLemmas.{days_from_civil-next_year}
-use Rattle.jiff_core.proofs.{SignedLemmas.signed_arith}
-use Rattle.jiff_core.specs.Calendar.{IsCivilDate, IsYear, day_count, days_from_civil, days_in_month}
-use Rattle.jiff_core.specs.{Date.epoch_day}
-use Rattle.std.proofs.Common.{ℤ, pos, unsigned_abs}
-use Rattle.std.proofs.{lemmas.Int.by_lt_z, lemmas.Bool.cases_order}
-use Rattle.std.specs.{Int.IsInRange}
+use Rattle.jiff_core.proofs.{DateLemmas.days_from_civil-next_year, SignedLemmas.signed_arith}
+use Rattle.jiff_core.specs.Calendar.{IsCivilDate, day_count, days_from_civil, days_in_month}
+use Rattle.{jiff_core.specs.Date.epoch_day, std.proofs.Common.{pos, unsigned_abs, ℤ}}
+use Rattle.std.{proofs.lemmas.{Bool.cases_order, Int.by_lt_z}, specs.Int.IsInRange}
 
 -- a date of the calendar, and its day number
 pub record IsDay (n : ℕ) (date : Date) : Type 0 where
@@ -87,6 +83,19 @@ days_count zero =
     }
 days_count (suc n) = day_after_is n (date_of n) (days_count n)
 
+same_in_year : (y : ℤ) (m d k e : ℕ) → IsCivilDate y m d → IsCivilDate y k e
+    → day_count y m d ≡ day_count y k e → (m ≡ k) × (d ≡ e)
+same_in_year y m d k e a b same =
+    grind (
+      arith,
+      nat_tests,
+      same,
+      cases_order m k,
+      day_count-lt_month y m d k e a b.2.0,
+      day_count-lt_month y k e m d b a.2.0,
+      day_count-day y m d e a.2.0 b.2.0,
+    )
+
 -- the calendar's dates go by their day numbers
 pub same_day : (n : ℕ) (date : Date) (y : ℤ) (m d : ℕ) → IsDay n date → IsCivilDate y m d
     → days_from_civil y m d ≡ pos n → (y ≡ pos date.year) × (m ≡ date.month) × (d ≡ date.day)
@@ -101,9 +110,9 @@ same_day n date y m d is civil e =
       one,
       day_count-lt_year y m d (pos date.year) date.month date.day civil is.day.0 lt,
     )))
-    (λ ge. let year : IsYear (pos date.year) =
-    (omega (arith, signed_arith, civil.0), omega (arith, signed_arith, civil.0)) in
-    let civil' : IsCivilDate (pos date.year) date.month date.day = (year, is.month, is.day) in
+    (λ ge. let civil' : IsCivilDate (pos date.year) date.month date.day =
+    ((omega (arith, signed_arith, civil.0), omega (arith, signed_arith, civil.0)), is.month, is.day)
+    in
     by_lt_z (pos date.year) y
     (λ gt. absurd (omega (
       arith,
@@ -111,33 +120,7 @@ same_day n date y m d is civil e =
       day_count-lt_year (pos date.year) date.month date.day y m d civil' civil.2.0 gt,
     )))
     (λ le. let years : y ≡ pos date.year = omega (arith, signed_arith) in
-    let one' : day_count y m d ≡ day_count y date.month date.day =
-    one ∙ ap (λ z. day_count z date.month date.day) (sym years) in
-    let civil'' : IsCivilDate y date.month date.day =
-    subst (λ z. IsCivilDate z date.month date.day) (sym years) civil' in
-    elim (cases_order m date.month) [
-      | inr (inl lt) ↦
-          absurd (omega (
-            arith,
-            one',
-            day_count-lt_month y m d date.month date.day civil is.day.0 lt,
-          ))
-      | inl months ↦
-          let days : d ≡ date.day =
-          omega (
-            arith,
-            one',
-            ap (λ k. day_count y k date.day) months,
-            day_count-day y m d date.day civil.2.0 is.day.0,
-          ) in
-          (years, months, days)
-      | inr (inr gt) ↦
-          absurd (omega (
-            arith,
-            one',
-            day_count-lt_month y date.month date.day m d civil'' civil.2.0 gt,
-          ))
-    ]))
+    grind (arith, years, one, same_in_year y m d date.month date.day civil, civil')))
 
 -- so the calendar's date of a day number is the one that is counted to
 pub date_is : (n : ℕ) (date : civil.Date) → epoch_day date ≡ pos n

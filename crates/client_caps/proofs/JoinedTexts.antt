@@ -18,8 +18,7 @@ joined_more b first so_far t ts = grind (arith, append_assoc)
 
 -- none left
 pub joined_whole : (b : ℕ) (first : Bool) (so_far : Text) → joined_on b first so_far [] ≡ so_far
-joined_whole b true so_far = append-nil so_far
-joined_whole b false so_far = refl
+joined_whole b first so_far = grind (arith, append-nil)
 
 -- those that are left at a place are the one there and those left behind it
 pub next_left : {X Y : Type 0} (f : X → Y) (xs : List X) (i : ℕ) (d : X) → i < length xs
@@ -27,5 +26,4 @@ pub next_left : {X Y : Type 0} (f : X → Y) (xs : List X) (i : ℕ) (d : X) →
 next_left f xs i d within = grind (arith, drop-cons xs i d within)
 
 -- a loop that joins texts
-pub ruleset joined_steps =
-    (joined_more, joined_whole, next_left, drop_all, append_assoc)
+pub ruleset joined_steps = (joined_more, joined_whole, next_left, drop_all, append_assoc)

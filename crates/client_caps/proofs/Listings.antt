@@ -1,15 +1,13 @@
 -- What the words of a name list tell: the members that they list, and with the highest symbols
 -- alone the same persons with their highest ranks alone.
-use Rattle.client_caps.proofs.Words.{◌∙◌, ◌∷◌, ◌≡◌, IsPlain, List, Listing, Text, Token, [], ap}
-use Rattle.client_caps.proofs.Words.{arith, highest_plain, join_with_byte, listings_of, map}
-use Rattle.client_caps.proofs.Words.{names_with_highest, refl, subst, sym, symbols_before}
-use Rattle.client_caps.proofs.Words.{with_highest, word_of, words_between}
-use Rattle.client_caps.proofs.{NamesTold.highest_listing, NamesTold.IsRanked}
-use Rattle.irc_support.proofs.{HighestWords.highest_read}
-use Rattle.irc_support.proofs.{SpelledWords.words_joined, SpelledWords.words_plain}
-use Rattle.irc_support.specs.{NamesReply.words, NamesReply.shows_rank}
-use Rattle.net_view.specs.{StateLines.listing}
-use Rattle.std.specs.{List.AllByRecursion, List.filter_map}
+use Rattle.client_caps.proofs.{NamesTold.{IsRanked, highest_listing}, Words.{IsPlain, List}}
+use Rattle.client_caps.proofs.Words.{Listing, Text, Token, [], ap, arith, highest_plain}
+use Rattle.client_caps.proofs.Words.{join_with_byte, listings_of, map, names_with_highest, refl}
+use Rattle.client_caps.proofs.Words.{sym, symbols_before, with_highest, word_of}
+use Rattle.client_caps.proofs.Words.{words_between, ◌∙◌, ◌∷◌, ◌≡◌}
+use Rattle.irc_support.proofs.{HighestWords.highest_read, SpelledWords.{words_joined, words_plain}}
+use Rattle.{irc_support.specs.NamesReply.{shows_rank, words}, net_view.specs.StateLines.listing}
+use Rattle.std.specs.List.{AllByRecursion, filter_map}
 
 -- the members that words list
 abbrev pub listed : List Token → List Text → List Listing
@@ -36,7 +34,7 @@ module _ (settings : List Token) where
   each_highest : (ws : List Text) → AllByRecursion IsPlain ws
       → AllByRecursion IsPlain (map (with_highest settings) ws)
   each_highest [] each = tt
-  each_highest (w ∷ ws) each = (highest_plain settings w (each.0), each_highest ws (each.1))
+  each_highest (w ∷ ws) each = (highest_plain settings w each.0, each_highest ws each.1)
 
   listed_highest : (ws : List Text) → listed settings (map (with_highest settings) ws)
       ≡ map highest_listing (listed settings ws)
@@ -59,6 +57,4 @@ module _ (settings : List Token) where
       grind (arith, listed_ranked ws, shows_rank settings (symbols_before settings w))
 
   pub listings_ranked : (text : Text) → AllByRecursion IsRanked (listings_of settings text)
-  listings_ranked text =
-      subst (AllByRecursion IsRanked) (sym (listings-words text))
-      (listed_ranked (words_between text))
+  listings_ranked text = rw (listings-words text) (listed_ranked (words_between text))

@@ -1,25 +1,18 @@
 -- Which tags and parameters can be written.
 use Rattle.client_caps.proofs.Words
-use Words.{◌&&◌, ◌++◌, ◌==◌, ◌∙◌, ◌∷◌, ◌≡◌, Bool, Caps, IfSome, IsAccount, IsCleanView, IsSound}
-use Words.{List, None, Option, Parts, Person, Some, Text, Token, View, [], actor_nick, ap}
-use Words.{are_params, arith, codes, cond, eqb-true, false, fits_form, has_form, is_ascii_digit}
+use Words.{◌&&◌, ◌++◌, ◌∙◌, ◌∷◌, ◌≡◌, Bool, Caps, IfSome, IsAccount, IsCleanView, IsSound}
+use Words.{List, None, Option, Parts, Person, Some, Text, Token, View, [], actor_nick}
+use Words.{are_params, arith, codes, cond, eqb-true, false, fits_form, has_form}
 use Words.{is_clean, is_nameable, is_part, is_space, is_writable, join_params, key_by, known_at}
-use Words.{list_all, list_any, nat_tests, option_and_then, option_or, or_false, refl, slice_get}
+use Words.{list_all, list_any, nat_tests, option_and_then, option_or, refl, slice_get}
 use Words.{suc, sym, time_form, time_of, time_tags, true, unwrap_or, when_sound, zero, ℕ}
 use Rattle.irc_support.specs.Text as support
+use Rattle.irc_line.proofs.Logic.{and_first, and_second}
 use Rattle.std.specs.FinMap as fin
 use Rattle.irc_line.specs.{Tags.is_tag_byte, Tags.value_behind, Line.is_command, Writing.is_word}
 use Rattle.irc_support.specs.{Settings.is_channel, Settings.is_outside_channel}
 use Rattle.net_view.proofs.{PartsSound.then_sound}
 use Rattle.net_view.specs.{Readers.account_shown, Sound.IsSoundPerson}
-
--- ---- what a test of several parts says of each
-
-pub left_of : (a b : Bool) → (a && b) ≡ true → a ≡ true
-left_of a b h = grind arith
-
-pub right_of : (a b : Bool) → (a && b) ≡ true → b ≡ true
-right_of a b h = grind arith
 
 -- ---- bytes of tags
 
@@ -28,20 +21,13 @@ abbrev pub IsTagText : Text → Type 0
 IsTagText text = list_all is_tag_byte text ≡ true
 
 fitted : (b f : ℕ) → is_tag_byte f ≡ true → fits_form b f ≡ true → is_tag_byte b ≡ true
-fitted b f ok h =
-    let digit : is_ascii_digit b ≡ true → is_tag_byte b ≡ true = λ d. grind (arith, nat_tests) in
-    elim (f == 100) as (λ v. cond v (is_ascii_digit b) (b == f) ≡ true → is_tag_byte b ≡ true) [
-      | true ↦ digit
-      | false ↦ λ k. ap is_tag_byte (eqb-true b f k) ∙ ok
-    ] h
+fitted b f ok h = grind (arith, nat_tests, eqb-true b f)
 
 pub formed : (form text : Text) → IsTagText form → has_form form text ≡ true → IsTagText text
 formed [] [] ok h = refl
 formed [] (b ∷ text) ok h = cc
 formed (f ∷ form) [] ok h = cc
-formed (f ∷ form) (b ∷ text) ok h =
-    let here = fitted b f (left_of _ _ ok) (left_of _ _ h) in
-    rw here (formed form text (right_of (is_tag_byte f) _ ok) (right_of (fits_form b f) _ h))
+formed (f ∷ form) (b ∷ text) ok h = grind (arith, fitted b f, formed form text)
 
 -- the time of a line has the form of one
 abbrev pub HasForm : Text → Type 0
@@ -58,7 +44,7 @@ time_fits line = grind (arith, time_has_form line, λ (time : Text). formed time
 pub text_clean : (text : Text) → IsTagText text
     → (is_clean text ≡ true) × (list_any is_space text ≡ false)
 text_clean [] h = (refl, refl)
-text_clean (b ∷ text) h = grind (arith, text_clean text (right_of (is_tag_byte b) _ h))
+text_clean (b ∷ text) h = grind (arith, text_clean text)
 
 pub tags_written : (caps : Caps) (moment : Text) (line : Parts) → IsTagText moment
     → is_part (time_tags caps moment line) ≡ true
@@ -69,17 +55,10 @@ tags_written caps moment line ok =
 
 -- ---- parameters
 
-pub not_zero : (n : ℕ) → (suc n == 0) ≡ false
-not_zero n = grind (arith, nat_tests)
-
 -- the parts of a written line
-pub split_written : (line : Parts) → is_writable line ≡ true
-    → (is_part line.source ≡ true) × (is_command line.command ≡ true)
-    × (are_params line.params ≡ true)
-split_written line h =
-    let a = right_of (is_part line.tags) _ h in
-    let b = right_of (is_part line.source) _ a in
-    (left_of _ _ a, left_of _ _ b, right_of (is_command line.command) _ b)
+pub split_written : (line : Parts) → is_writable line ≡ true → (is_part line.source ≡ true)
+    × (is_command line.command ≡ true) × (are_params line.params ≡ true)
+split_written line h = grind arith
 
 -- a parameter that there is
 pub param_clean : (params : List Text) (i : ℕ) → are_params params ≡ true
@@ -87,9 +66,9 @@ pub param_clean : (params : List Text) (i : ℕ) → are_params params ≡ true
 param_clean [] i h = tt
 param_clean (p ∷ []) zero h = h
 param_clean (p ∷ []) (suc i) h = tt
-param_clean (p ∷ q ∷ params) zero h = right_of (is_word p) _ (left_of _ _ h)
+param_clean (p ∷ q ∷ params) zero h = and_second (is_word p) _ (and_first _ _ h)
 param_clean (p ∷ q ∷ params) (suc i) h =
-    param_clean (q ∷ params) i (right_of (is_word p && is_clean p) _ h)
+    param_clean (q ∷ params) i (and_second (is_word p && is_clean p) _ h)
 
 pub same_words : (text : Text) → support.is_word text ≡ is_word text
 unfolding support.is_word
@@ -98,11 +77,7 @@ same_words (b ∷ text) = refl
 
 no_space : (text : Text) → list_any is_outside_channel text ≡ false → list_any is_space text ≡ false
 no_space [] h = refl
-no_space (b ∷ text) h =
-    let gap : is_outside_channel b ≡ false → is_space b ≡ false = λ e. grind (arith, nat_tests) in
-    let parts : (is_outside_channel b ≡ false) × (list_any is_outside_channel text ≡ false) =
-    or_false _ _ h in
-    rw (gap parts.0) (no_space text parts.1)
+no_space (b ∷ text) h = grind (arith, nat_tests, no_space text)
 
 -- a channel name is a word
 pub channel_word : (settings : List Token) (name : Text) → is_channel settings name ≡ true
@@ -145,13 +120,13 @@ known_written v sound clean (Some nick) =
       account (Some p) h a e = (h p refl).account a e
 
 pub join_written : (v : View) (caps : Caps) (line : Parts) (channel : Text) → IsSound v
-    → IsCleanView v
-    → are_params line.params ≡ true → slice_get line.params 0 ≡ Some channel
+    → IsCleanView v → are_params line.params ≡ true → slice_get line.params 0 ≡ Some channel
     → is_channel v.settings channel ≡ true → are_params (join_params v caps line channel) ≡ true
 join_written v caps line channel sound clean params at is =
-    let c = param_clean line.params 0 params in
-    let w = channel_word v.settings channel is in
-    let acc =
-    account_word (slice_get line.params 1) (option_and_then (account_shown v) (actor_nick line))
-    (param_clean line.params 1 params) (known_written v sound clean (actor_nick line)) in
-    grind (arith, c, w, acc)
+    grind (
+      arith,
+      param_clean line.params 0 params,
+      channel_word v.settings channel is,
+      account_word (slice_get line.params 1) (option_and_then (account_shown v) (actor_nick line))
+          (param_clean line.params 1 params) (known_written v sound clean (actor_nick line)),
+    )

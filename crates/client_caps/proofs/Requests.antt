@@ -1,25 +1,16 @@
 -- Requests, read word by word.
-use Rattle.client_caps.proofs.Words.{◌∷◌, ◌≡◌, Bool, Caps, List, None, Option, Some, Text, []}
-use Rattle.client_caps.proofs.Words.{arith, option_or, refl, unwrap_or, words_between}
-use Rattle.client_caps.specs.Request.{caps_after, request_of, wish_of}
-use Rattle.client_caps.specs.declared.caps.Cap.TheVariants.{AccountNotify, AwayNotify, ServerTime}
-use Rattle.client_caps.specs.declared.caps.Cap.TheVariants.{Batch, MultiPrefix, ExtendedJoin}
-use Rattle.client_caps.specs.{Caps.Cap, Caps.with_cap}
+use Rattle.client_caps.proofs.Words.{Bool, Caps, List, None, Option, Some, Text, [], arith}
+use Rattle.client_caps.proofs.Words.{option_or, unwrap_or, words_between, ◌∷◌, ◌≡◌}
+use Rattle.client_caps.specs.{Caps.{Cap, with_cap}, Request.{caps_after, request_of, wish_of}}
 
 said_before : (later here : Option Bool) (before : Bool)
     → unwrap_or (option_or later here) before ≡ unwrap_or later (unwrap_or here before)
-said_before None here before = refl
-said_before (Some held) here before = refl
+said_before later here before = grind arith
 
 -- the first wish, and then the others
 after_first : (caps : Caps) (cap : Cap) (held : Bool) (wishes : List (Cap × Bool))
     → caps_after caps ((cap, held) ∷ wishes) ≡ caps_after (with_cap caps cap held) wishes
-after_first caps MultiPrefix held wishes = simp said_before
-after_first caps ExtendedJoin held wishes = simp said_before
-after_first caps AccountNotify held wishes = simp said_before
-after_first caps AwayNotify held wishes = simp said_before
-after_first caps ServerTime held wishes = simp said_before
-after_first caps Batch held wishes = simp said_before
+after_first caps cap held wishes = grind (arith, said_before)
 
 module _ (caps : Caps) (text word rest : Text)
     (split : words_between text ≡ word ∷ words_between rest) where
@@ -41,5 +32,4 @@ unfolding request_of
 request_ended caps text e = grind (arith, e)
 
 -- a request, word by word
-pub ruleset request_steps =
-    (request_taken, request_refused, request_ended)
+pub ruleset request_steps = (request_taken, request_refused, request_ended)

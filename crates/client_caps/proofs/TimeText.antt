@@ -1,18 +1,13 @@
 -- The text of a moment has the form of a time.
-use Rattle.client_caps.proofs.Words.{◌++◌, ◌+◌, ◌<◌, ◌∷◌, ◌≡◌, Date, IfSome, Parts, Some, Text, []}
-use Rattle.client_caps.proofs.Words.{ap, arith, codes, fits_form, has_form, is_ascii_digit, length}
-use Rattle.client_caps.proofs.Words.{nat_tests, refl, subst, suc, time_form, time_of, true}
-use Rattle.client_caps.proofs.Words.{unwrap_or, ℕ}
-use Rattle.client_caps.proofs.PartsWritten.{HasForm, IsTagText, formed, right_of, time_fits}
-use Rattle.client_caps.proofs.PartsWritten.{time_has_form}
+use Rattle.client_caps.proofs.PartsWritten.{IsTagText, formed, time_fits, time_has_form}
+use Rattle.client_caps.proofs.Words.{Date, Parts, Some, Text, [], arith, codes, has_form}
+use Rattle.client_caps.proofs.Words.{is_ascii_digit, length, nat_tests, refl, time_form, time_of}
+use Rattle.client_caps.proofs.Words.{true, unwrap_or, ℕ, ◌++◌, ◌+◌, ◌<◌, ◌∷◌, ◌≡◌}
 use Rattle.client_caps.specs.Moment.{date_of, day_text, hour_text, last_moment, time_text_of}
-use Rattle.std.proofs.{Common.◌/◌, Common.◌%◌}
-use Rattle.std.specs.{Prelude.min}
+use Rattle.std.{proofs.Common.{◌%◌, ◌/◌}, specs.Prelude.min}
 
 digit : (n : ℕ) → is_ascii_digit (48 + n % 10) ≡ true
-digit n =
-    let low : n % 10 < 10 = omega arith in
-    grind (arith, nat_tests)
+digit n = let low : n % 10 < 10 = omega arith in grind (arith, nat_tests)
 
 day_formed : (date : Date) (form text : Text) → has_form form text ≡ true
     → has_form (codes "dddd-dd-dd" ++ form) (day_text date ++ text) ≡ true
@@ -38,18 +33,13 @@ formed_length : (form text : Text) → has_form form text ≡ true → length te
 formed_length [] [] h = refl
 formed_length [] (b ∷ text) h = cc
 formed_length (f ∷ form) [] h = cc
-formed_length (f ∷ form) (b ∷ text) h =
-    ap suc (formed_length form text (right_of (fits_form b f) _ h))
+formed_length (f ∷ form) (b ∷ text) h = grind (arith, formed_length form text)
 
 -- the time of a line has 24 bytes
 pub time_found : (line : Parts) (time : Text) → time_of line ≡ Some time → length time ≡ 24
-time_found line time e =
-    formed_length time_form time (subst (λ o. IfSome o HasForm) e (time_has_form line))
+time_found line time e = grind (arith, e, time_has_form line, formed_length time_form time)
 
 -- what a line is shown to have come at can stand in a tag
 pub shown_tagged : (line : Parts) (moment : ℕ)
     → IsTagText (unwrap_or (time_of line) (time_text_of moment))
-shown_tagged line moment =
-    let now = time_tagged moment in
-    let own = time_fits line in
-    grind arith
+shown_tagged line moment = grind (arith, time_tagged moment, time_fits line)

@@ -1,16 +1,14 @@
 -- What images are, in a reader's words.
-use Rattle.client_caps.proofs.Words.{◌∷◌, ◌≡◌, Bool, Caps, None, Parts, Some, Text, View, []}
-use Rattle.client_caps.proofs.Words.{account_joined, arith, as_sent, cond, false, image_params}
-use Rattle.client_caps.proofs.Words.{is_passed_on, nat_tests, slice_get, true}
-use Rattle.client_caps.specs.{Images.image_of, Images.is_bare_join, Caps.all_caps}
+use Rattle.client_caps.proofs.Words.{Caps, Parts, Some, Text, View, [], account_joined, arith}
+use Rattle.client_caps.proofs.Words.{as_sent, false, image_params, is_passed_on, nat_tests}
+use Rattle.client_caps.{proofs.Words.{slice_get, true, ◌∷◌, ◌≡◌}, specs.Caps.all_caps}
+use Rattle.{client_caps.specs.Images.{image_of, is_bare_join}, irc_line.proofs.Logic.cases_Bool}
 
 -- an image is the line as it is sent
 pub image_is : (v : View) (caps : Caps) (moment : Text) (line image : Parts)
     → image_of v caps moment line ≡ Some image → image ≡ as_sent v caps moment line
 unfolding image_of
-image_is v caps moment line image e = taken (is_passed_on caps line) _ _ e where
-  taken : (b : Bool) (x y : Parts) → cond b (Some x) None ≡ Some y → y ≡ x
-  taken b x y e = grind arith
+image_is v caps moment line image e = grind (arith, e, cases_Bool (is_passed_on caps line))
 
 -- with all six its parameters are the line's, but at a JOIN without a real name
 pub same_params : (v : View) (line : Parts) → is_bare_join v line ≡ false
@@ -23,5 +21,4 @@ pub joined_params : (v : View) (channel : Text) (line : Parts) → is_bare_join 
 joined_params v channel line h first = grind (arith, nat_tests)
 
 -- an image, and its parameters with all six
-pub ruleset what_is_sent =
-    (image_is, same_params, joined_params)
+pub ruleset what_is_sent = (image_is, same_params, joined_params)

@@ -1,9 +1,7 @@
-use Rattle.std.specs.Prelude.{◌≡◌, List, ℕ, Option, Some, None, [], unwrap_or}
-use Rattle.std.specs.Option.{option_map}
-use Rattle.std.proofs.Common.{Bor, refl, ap, ◌∙◌}
-use Rattle.irc_line.specs.Writing.{is_clean}
-use Rattle.client_caps.proofs.AnswerTexts.{param_or_nothing}
 use Rattle.client_caps.proofs.answers.asked_text.Goals as goal
+use Rattle.{client_caps.proofs.AnswerTexts.param_or_nothing, irc_line.specs.Writing.is_clean}
+use Rattle.std.{proofs.Common.{Bor, ap, refl, ◌∙◌}, specs.{Option.option_map, Prelude.{List, None}}}
+use Rattle.std.specs.Prelude.{Option, Some, [], unwrap_or, ℕ, ◌≡◌}
 
 lent : (o : Option (Bor (List ℕ))) (none : Bor (List ℕ)) → none.now ≡ []
     → (unwrap_or o none).now ≡ unwrap_or (option_map (λ (b : Bor (List ℕ)). b.now) o) []

@@ -1,7 +1,6 @@
-use Rattle.std.proofs.Common.{◌≡◌, map, drop}
-use Rattle.std.specs.List.{join_with_byte}
-use Rattle.client_caps.proofs.JoinedTexts.{joined_on}
 use Rattle.client_caps.proofs.answers.joined.Given as goal
+use Rattle.{client_caps.proofs.JoinedTexts.joined_on, std.proofs.Common.{drop, map, ◌≡◌}}
+use Rattle.std.specs.List.{join_with_byte}
 
 abbrev pub invariant-loop-word : goal.invariant-loop-word
 invariant-loop-word g l =

@@ -1,9 +1,7 @@
-use Rattle.std.proofs.Common.{◌≡◌, map}
-use Rattle.std.specs.List.{join_with_byte}
-use Rattle.irc_support.specs.Line.{split_words_in}
-use Rattle.irc_support.specs.Written.{highest_text}
-use Rattle.client_caps.proofs.JoinedTexts.{joined_on}
 use Rattle.client_caps.proofs.images.highest_names.Given as goal
+use Rattle.{client_caps.proofs.JoinedTexts.joined_on, irc_support.specs.Line.split_words_in}
+use Rattle.{irc_support.specs.Written.highest_text, std.proofs.Common.{map, ◌≡◌}}
+use Rattle.std.specs.List.{join_with_byte}
 
 abbrev pub invariant-loop-ranks : goal.invariant-loop-ranks
 invariant-loop-ranks g l =

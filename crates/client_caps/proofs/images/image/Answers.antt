@@ -1,8 +1,6 @@
-use Rattle.std.proofs.Common.{Some, None, refl}
-use Rattle.client_caps.specs.Moment.{time_text_of}
-use Rattle.client_caps.proofs.ImageMade.{image_can}
-use Rattle.client_caps.proofs.TimeText.{time_tagged}
 use Rattle.client_caps.proofs.images.image.Goals as goal
+use Rattle.client_caps.proofs.{ImageMade.image_can, TimeText.time_tagged}
+use Rattle.{client_caps.specs.Moment.time_text_of, std.proofs.Common.{None, Some, refl}}
 
 pub sent_as-requires : goal.sent_as-requires
 sent_as-requires g c =

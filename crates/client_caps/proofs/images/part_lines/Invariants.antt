@@ -1,6 +1,5 @@
-use Rattle.std.proofs.Common.{◌≡◌, take}
-use Rattle.client_caps.specs.Images.{part_lines_of}
 use Rattle.client_caps.proofs.images.part_lines.Given as goal
+use Rattle.{client_caps.specs.Images.part_lines_of, std.proofs.Common.{take, ◌≡◌}}
 
 abbrev pub invariant-loop-place : goal.invariant-loop-place
 invariant-loop-place g l =

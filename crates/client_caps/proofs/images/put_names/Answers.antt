@@ -1,8 +1,6 @@
-use Rattle.std.proofs.Common.{◌≡◌, ◌≤◌, ℕ, List, ◌∷◌, arith, length, map, refl}
-use Rattle.std.specs.Prelude.{slice_set}
-use Rattle.std.specs.Borrow.{Bor}
-use Rattle.client_caps.specs.Images.{with_param}
 use Rattle.client_caps.proofs.images.put_names.Goals as goal
+use Rattle.{client_caps.specs.Images.with_param, std.proofs.Common.{List, arith, length, map, refl}}
+use Rattle.std.{proofs.Common.{ℕ, ◌∷◌, ◌≡◌, ◌≤◌}, specs.{Borrow.Bor, Prelude.slice_set}}
 
 put_fourth : (ps : List (Bor (List ℕ))) (x : Bor (List ℕ)) → 4 ≤ length ps
     → map (λ p. p.now) (slice_set ps 3 x) ≡ with_param 3 (λ _. x.now) (map (λ p. p.now) ps)

@@ -1,9 +1,7 @@
-use Rattle.std.proofs.Common.{◌≡◌, ◌+◌, ◌<◌, ℕ, Bool, false, List, arith, drop, drop-cons, get_or}
-use Rattle.std.proofs.Common.{length, ap, refl, sym, ◌∙◌}
-use Rattle.std.specs.List.{find}
-use Rattle.std.specs.Str.{bytes_eq}
-use Rattle.client_caps.specs.Caps.{cap_name, offered_caps}
 use Rattle.client_caps.proofs.caps.Cap.named.Goals as goal
+use Rattle.{client_caps.specs.Caps.{cap_name, offered_caps}, std.proofs.Common.{Bool, List, ap}}
+use Rattle.std.proofs.Common.{arith, drop, drop-cons, false, get_or, length, refl, sym, ℕ, ◌+◌, ◌<◌}
+use Rattle.std.{proofs.Common.{◌∙◌, ◌≡◌}, specs.{List.find, Str.bytes_eq}}
 
 -- what is not the one that is sought is left out
 find_next : {X : Type 0} (p : X → Bool) (xs : List X) (i : ℕ) (d : X) → i < length xs

@@ -1,8 +1,6 @@
-use Rattle.std.proofs.Common.{◌≡◌, drop}
-use Rattle.std.specs.List.{find}
-use Rattle.std.specs.Str.{bytes_eq}
-use Rattle.client_caps.specs.Caps.{cap_name, cap_named, offered_caps}
 use Rattle.client_caps.proofs.caps.Cap.named.Given as goal
+use Rattle.{client_caps.specs.Caps.{cap_name, cap_named, offered_caps}, std.proofs.Common.drop}
+use Rattle.std.{proofs.Common.◌≡◌, specs.{List.find, Str.bytes_eq}}
 
 abbrev pub invariant-loop-cap : goal.invariant-loop-cap
 invariant-loop-cap l = record {

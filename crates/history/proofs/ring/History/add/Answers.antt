@@ -1,9 +1,7 @@
-use Rattle.std.proofs.Common.{ℕ, arith, subst, sym}
-use Rattle.history.specs.Entry.{EntryParts, IsWrittenEntry}
-use Rattle.history.specs.Messages.{AreWrittenMessages}
-use Rattle.history.proofs.Keeping.{below_next}
-use Rattle.history.proofs.LastMessages.{all_kept}
 use Rattle.history.proofs.ring.History.add.Goals as goal
+use Rattle.history.{proofs.{Keeping.below_next, LastMessages.all_kept}, specs.Entry.EntryParts}
+use Rattle.history.specs.{Entry.IsWrittenEntry, Messages.AreWrittenMessages}
+use Rattle.std.proofs.Common.{arith, subst, sym, ℕ}
 
 pub invariant_of-self-2 : goal.invariant_of-self-2
 invariant_of-self-2 g c = record {

@@ -1,7 +1,6 @@
-use Rattle.std.proofs.Common.{append-nil, arith}
-use Rattle.history.specs.Entry.{IsWrittenEntry}
-use Rattle.history.proofs.Missed.{lent_all, missed-above, missed_all}
 use Rattle.history.proofs.ring.History.missed.Goals as goal
+use Rattle.history.{proofs.Missed.{lent_all, missed-above, missed_all}, specs.Entry.IsWrittenEntry}
+use Rattle.std.proofs.Common.{append-nil, arith}
 
 pub returns-clause-written : goal.returns-clause-written
 returns-clause-written g c kept =

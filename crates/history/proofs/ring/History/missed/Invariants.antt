@@ -1,8 +1,6 @@
-use Rattle.std.proofs.Common.{◌≡◌, ℕ, ◌++◌, map}
-use Rattle.std.specs.Borrow.{Bor}
-use Rattle.history.specs.Entry.{EntryParts}
-use Rattle.history.specs.Messages.{missed_by}
 use Rattle.history.proofs.ring.History.missed.Given as goal
+use Rattle.{history.specs.{Entry.EntryParts, Messages.missed_by}, std.proofs.Common.{map, ℕ, ◌++◌}}
+use Rattle.std.{proofs.Common.◌≡◌, specs.Borrow.Bor}
 
 abbrev pub invariant-loop-entry : goal.invariant-loop-entry
 invariant-loop-entry g l =
