@@ -1,9 +1,9 @@
 -- Lists of which each element has a property, and the lines of a playback as such.
 use Rattle.{std.specs.FinMap.entries, welcome.proofs.Words.{◌++◌, ◌∷◌, Bool, Caps, Channel, Each}}
 use Rattle.welcome.proofs.Words.{EntryParts, List, Parts, Text, View, [], arith, backlog_of}
-use Rattle.welcome.proofs.Words.{batch_name, codes, cond, entry_line, enumerate_from, false, filter}
+use Rattle.welcome.proofs.Words.{batch_name, codes, entry_line, enumerate_from, filter}
 use Rattle.welcome.proofs.Words.{flat_map, from_bouncer, is_for, is_for_a_channel, map, not}
-use Rattle.welcome.{proofs.Words.{playback_of, true, ℕ}, specs.Arranged.{batch_of, batch_tag}}
+use Rattle.welcome.{proofs.Words.{playback_of, ℕ}, specs.Arranged.{batch_tag}}
 
 module _ {X : Type 0} (P : X → Type 0) where
   pub joined : (xs ys : List X) → Each P xs → Each P ys → Each P (xs ++ ys)
@@ -59,14 +59,9 @@ module _ (P : Parts → Type 0) (Q : EntryParts → Type 0) (caps : Caps) where
   backlog_each place name first last tagged plain [] each = tt
   backlog_each place name first last tagged plain (e ∷ es) each =
       let those = mapped Q P (entry_line caps (batch_tag place ∷ [])) tagged (e ∷ es) each in
-      elim caps.batch as (λ b. Each P
-      (cond b (batch_of caps place name (e ∷ es)) (map (entry_line caps []) (e ∷ es)))) [
-        | true ↦ (
-          first,
-          joined P (map (entry_line caps (batch_tag place ∷ [])) (e ∷ es)) _ those (last, tt),
-        )
-        | false ↦ mapped Q P (entry_line caps []) plain (e ∷ es) each
-      ]
+      let end = from_bouncer (codes "BATCH") ((codes "-" ++ batch_name place) ∷ []) in
+      let said = joined P (map (entry_line caps (batch_tag place ∷ [])) (e ∷ es)) (end ∷ []) those (last, tt) in
+      grind (arith, first, said, mapped Q P (entry_line caps []) plain (e ∷ es) each)
 
   -- all lines, by those of each channel at its place
   pub playback_each : (v : View) (entries_of : List EntryParts) → Each Q entries_of

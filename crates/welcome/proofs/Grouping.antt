@@ -1,24 +1,9 @@
 -- Entries are put into the groups of their channels, and what is said of these is the playback.
+pub mod InOrder
+pub use InOrder.*
 use Rattle.welcome.proofs.Words
-use Words.{◌++◌, ◌+◌, ◌<◌, ◌∙◌, ◌∷◌, ◌≡◌, ◌≤◌, All-from_recursion, AllByRecursion, Arrival, Bool}
-use Words.{Bor, Caps, CaseMapping, Channel, EntryParts, Equal, Greater, Less, List, Ordering, Parts}
-use Words.{Text, View, [], ap, append-nil, append_assoc, arith, backlog_of, backlogs_of, batch_name}
-use Words.{below_all, bytes_cmp, bytes_exact, channel_names_of, channel_shown, codes, cond, drop}
-use Words.{entries_got, entry_line, enumerate_from, false, filter, filter-append, flat_map}
-use Words.{flat_map-append, fold, from_bouncer, get_or, grouped_by, inl, inr, is_for}
-use Words.{is_for_a_channel, is_same, key_by, key_of, length, length-append, length-map, list_any}
-use Words.{map, map-append, map-map, mapping_of, nat_list_cmp_total, not, option_map}
-use Words.{option_to_list, playback_of, refl, same, slice_get, slice_get_cases, slice_index_or, suc}
-use Words.{sym, take, true, view_of, view_sound, written, ℕ}
+use Words.{playback_of}
 use Rattle.std.specs.FinMap as fin
-use Rattle.{client_caps.proofs.JoinedTexts.next_left, std.proofs.Common.{Err, replicate, slice_set}}
-use Rattle.std.proofs.{Common.zero, lemmas.List.{drop-map, get_or-map, map_more}}
-use Rattle.std.proofs.lemmas.List.{Kept.AllPairs-cons, Recursion.is_position_or_len}
-use Rattle.std.proofs.lemmas.List.{Sorted.searchable_from_sorted, Sums.fold_push}
-use Rattle.std.proofs.lemmas.{List.Sums.position_or_len_is, Option.slice_get-map, Simd.splat_is_map}
-use Rattle.std.specs.{List.{AllPairs, position_or_len, Sorted.IsBinarySearchResult}, Ordering.is_eq}
-use Rattle.welcome.{proofs.{EachOf.each_mapped, Places.take_next}, specs.Arranged.AreInKeyOrder}
-use Rattle.welcome.specs.Arranged.{arranged_of, groups_of, place_among, push_at}
 
 -- ---- lines said one behind the other
 
@@ -69,13 +54,6 @@ plain_backlog caps place name (e ∷ es) b = rw b (lent_mapped (entry_line caps 
 -- the key of whom or what an entry is for
 abbrev pub key_in : View → EntryParts → Text
 key_in v e = key_by v.settings e.target
-
--- each channel is kept by its name's key
-abbrev pub AreKeyed : View → List (Text × Channel) → Type 0
-AreKeyed v cs = AllByRecursion (λ (c : Text × Channel). key_by v.settings c.1.name ≡ c.0) cs
-
-abbrev pub names_in : List (Text × Channel) → List Text
-names_in cs = map (λ (c : Text × Channel). c.1.name) cs
 
 abbrev in_groups : View → List EntryParts → List (Text × Channel) → List (List EntryParts)
 in_groups v es cs = map (λ (c : Text × Channel). filter (is_for v c.0) es) cs
@@ -133,8 +111,7 @@ folded v done (e ∷ es) keyed =
 -- the groups are those of the channels
 pub grouped_right : (v : View) (entries : List EntryParts) → AreKeyed v (fin.entries v.channels)
     → grouped_by (mapping_of v.settings) (channel_names_of v) entries ≡ groups_of v entries
-grouped_right v entries keyed =
-    simp map-map (folded v [] entries keyed)
+grouped_right v entries keyed = simp map-map (folded v [] entries keyed)
 
 -- ---- the playback of the groups
 
@@ -145,9 +122,7 @@ backlogs_are : (v : View) (caps : Caps) (es rest : List EntryParts) (place : ℕ
     × (Text × Channel)). backlog_of caps at.0 at.1.1.name (filter (is_for v at.1.0) es))
     (enumerate_from place cs)
 backlogs_are v caps es rest place [] = refl
-backlogs_are v caps es rest place (c ∷ cs) =
-    ap (λ t. backlog_of caps place c.1.name (filter (is_for v c.0) es) ++ t)
-    (backlogs_are v caps es rest (place + 1) cs)
+backlogs_are v caps es rest place (c ∷ cs) = rw (backlogs_are v caps es rest (place + 1) cs)
 
 last_is : (v : View) (es rest : List EntryParts) (cs : List (Text × Channel))
     → slice_index_or (in_groups v es cs ++ rest ∷ []) (length (names_in cs)) [] ≡ rest
@@ -165,20 +140,6 @@ arranged_right v caps entries keyed =
     let cs = fin.entries v.channels in
     let last = last_is v entries (left_over v entries) cs in
     rw (grouped_right v entries keyed, backlogs_are v caps entries (left_over v entries) 0 cs, last)
-
--- ---- the names
-
-pub name_at : (v : View) (i : ℕ) → slice_get (channel_names_of v) i
-    ≡ option_map (λ (ch : Channel). ch.name) (channel_shown v i)
-name_at v i =
-    grind (arith, slice_get-map (λ (e : Text × Channel). e.1.name) (fin.entries v.channels) i)
-
--- a loop over the names
-pub ruleset name_steps = (name_at, take_next)
-
--- the texts that these are lent of
-abbrev pub texts_of : List (Bor Text) → List Text
-texts_of names = map (λ (name : Bor Text). name.now) names
 
 pub dropped : {X Y : Type 0} (f : X → Y) (xs : List X) (i : ℕ) (d : X) → i < length xs
     → drop i (map f xs) ≡ f (slice_index_or xs i d) ∷ drop (i + 1) (map f xs)
@@ -217,9 +178,8 @@ pub has_place : {Y : Type 0} (f : Y → List EntryParts) (gs : List Y) (mapping 
 has_place f gs mapping names entries place e within =
     let texts = texts_of names in
     let grouped = length_folded mapping texts entries (no_entries texts) in
-    let many = length-map names (λ (name : Bor Text). name.now) in
     let empty = simp (length-append, length-map) at grouped in
-    omega (arith, length-map gs f, ap length e, empty, many)
+    omega (arith, length-map gs f, ap length e, empty)
 
 pub nones : (names : List (Bor Text))
     → map (λ (name : Bor Text). []) names ≡ replicate {A = List EntryParts} (length names) []
@@ -239,85 +199,6 @@ grouped_next mapping names entries i place e target before now within is so_far 
     let more = map_more (λ (x : Bor EntryParts). x.now) entries i e within in
     cc (fold_push (λ groups (x : EntryParts). push_at (place_among mapping x.target names) x groups)
     (no_entries names) (map (λ (x : Bor EntryParts). x.now) (take i entries)) e.now)
-
--- ---- what a search by order finds among names in the order of their keys
-
-module _ (mapping : CaseMapping) (target : Text) where
-  -- how a name's key lies to the target's
-  abbrev pub lies : Bor Text → Ordering
-  lies name = bytes_cmp (key_of mapping name.now) (key_of mapping target)
-
-  abbrev is_it : Bor Text → Bool
-  is_it name = same (key_of mapping target) (key_of mapping name.now)
-
-  differs : (name : Bor Text) (r : Ordering) → lies name ≡ r → is_it name ≡ is_eq r
-  differs name r e =
-      grind (arith, e, nat_list_cmp_total.antisymm (key_of mapping target) (key_of mapping name.now))
-
-  -- the place is that of the first name that is it
-  place_is : (names : List (Bor Text))
-      → position_or_len is_it names ≡ place_among mapping target (texts_of names)
-  place_is names =
-      sym (is_position_or_len (λ ns. place_among mapping target (texts_of ns)) is_it refl
-      (λ name ns. ap (cond (is_it name) 0) (omega arith)) names)
-
-  abbrev Rises : Bor Text → Bor Text → Type 0
-  Rises a b = bytes_cmp (key_of mapping a.now) (key_of mapping b.now) ≡ Less
-
-  -- keys rise
-  climb : (names : List (Bor Text)) → AreInKeyOrder mapping (texts_of names)
-      → AllPairs Rises names
-  climb [] order = λ i j d less within. absurd (omega arith)
-  climb (name ∷ names) order =
-      AllPairs-cons Rises name names (All-from_recursion (Rises name) names
-      (each_mapped (λ later. bytes_cmp (key_of mapping name.now) (key_of mapping later) ≡ Less)
-      (λ (n : Bor Text). n.now) names order.0)) (climb names order.1)
-
-  -- the name whose key is the target's stands at the place
-  pub found_there : (names : List (Bor Text)) (i : ℕ) (d : Bor Text)
-      → AreInKeyOrder mapping (texts_of names) → i < length names
-      → lies (get_or names i d) ≡ Equal → i ≡ place_among mapping target (texts_of names)
-  found_there names i d order within e =
-      let key : key_of mapping (get_or names i d).now ≡ key_of mapping target =
-      bytes_exact (key_of mapping (get_or names i d).now) (key_of mapping target) e in
-      sym (position_or_len_is is_it names i d (omega arith) (λ k less.
-      differs (get_or names k d) Less (rw key at (climb names order k i d less within)))
-      (λ _. differs (get_or names i d) Equal e)) ∙ place_is names
-
-  -- where the search finds none, the target is none of the names
-  pub found_nowhere : (names : List (Bor Text)) (i : ℕ) (d : Bor Text)
-      → AreInKeyOrder mapping (texts_of names) → i ≤ length names
-      → IsBinarySearchResult lies names (Err i)
-      → length names ≡ place_among mapping target (texts_of names)
-  found_nowhere names i d order within found =
-      let parts = found (searchable_from_sorted nat_list_cmp_total
-      (λ (name : Bor Text). key_of mapping name.now) names (key_of mapping target) (λ k d low high.
-      let rises = climb names order k (k + 1) d (omega arith) high in
-      grind (arith, rises, nat_list_cmp_total.antisymm (key_of mapping (get_or names (k + 1) d).now)))) in
-      sym (position_or_len_is is_it names (length names) d (omega arith) (λ k less.
-      let name = get_or names k d in
-      let before : k < i → is_it name ≡ false =
-      λ l. differs name Less (parts.0 k d (omega arith) l) in
-      let behind : i ≤ k → is_it name ≡ false = λ l. differs name Greater (parts.1 k d l less) in
-      grind (arith, before, behind))
-      (λ no. absurd (omega arith))) ∙ place_is names
-
--- ---- the channels' names
-
-names_above : (v : View) (key : Text) (cs : List (Text × Channel))
-    → below_all bytes_cmp key cs ≡ true → AreKeyed v cs →
-    AllByRecursion (λ later. bytes_cmp key (key_of (mapping_of v.settings) later) ≡ Less)
-    (names_in cs)
-names_above v key [] below keyed = tt
-names_above v key (c ∷ cs) below keyed =
-    (rw keyed.0 (grind arith), names_above v key cs (grind arith) keyed.1)
-
--- the channels stand in the order of their names' keys
-pub keyed_order : (v : View) (cs : List (Text × Channel)) → fin.is_sorted bytes_cmp cs ≡ true
-    → AreKeyed v cs → AreInKeyOrder (mapping_of v.settings) (names_in cs)
-keyed_order v [] sorted keyed = tt
-keyed_order v (c ∷ cs) sorted keyed =
-    (rw keyed.0 (names_above v c.0 cs (grind arith) keyed.1), keyed_order v cs (grind arith) keyed.1)
 
 -- ---- the messages of the channels as bytes, place by place
 

@@ -36,8 +36,7 @@ pub one_more : (text more : List ℕ) (all : List Parts) (i : ℕ) (line : Parts
     → line ≡ get_or all i line → IsWrittenUpTo text all i → IsTrue (is_writable line)
     → more ≡ text ++ written line → IsWrittenUpTo more all (i + 1)
 one_more text more all i line less is before can e =
-    let on : take (i + 1) all ≡ take i all ++ line ∷ [] =
-    take_more all i line less ∙ ap (λ x. take i all ++ x ∷ []) (sym is) in
+    let on = rw (← is) at (take_more all i line less) in
     record {
       whole = rw (e, before.whole, on, flat_map-append, append-nil (written line)) refl;
       lines = rw on (all_by_recursion_push (λ x. IsTrue (is_writable x)) (take i all) line before.lines can);
@@ -54,9 +53,8 @@ all_written text all i end w =
 no_fewer_bytes : (lines : List Parts) → length lines ≤ length (flat_map written lines)
 no_fewer_bytes [] = omega arith
 no_fewer_bytes (l ∷ lines) =
-    let less = no_fewer_bytes lines in
     let here = length-append (text_of l) (13 ∷ 10 ∷ []) in
-    omega (arith, less, here, length-append (written l) (flat_map written lines))
+    omega (arith, no_fewer_bytes lines, here, length-append (written l) (flat_map written lines))
 
 -- a packet has no more lines than bytes
 pub few_lines : (bytes : List ℕ) (count : ℕ) → IsPacket bytes count → count ≤ length bytes
@@ -90,20 +88,13 @@ place_at byte (b ∷ text) more l e = grind (arith, l.0, place_at byte text more
 dropped : (text more : List ℕ) (byte n : ℕ) → n ≡ length text + 1
     → drop n (text ++ byte ∷ more) ≡ more
 dropped text more byte n e =
-    ap (drop n) (sym (append_assoc text (byte ∷ []) more))
-    ∙ drop_at (text ++ byte ∷ []) more n (length_push text byte ∙ sym e)
+    rw (← append_assoc text (byte ∷ []) more) (drop_at _ more n (rw e (length_push text byte)))
 
-pub before_at : (byte : ℕ) (text more : List ℕ) → AllByRecursion (λ b. (b == byte) ≡ false) text
-    → (byte == byte) ≡ true → before_first (λ b. b == byte) (text ++ byte ∷ more) ≡ text
-before_at byte text more l e =
-    rw (place_at byte text more l e) (take-append_seam text (byte ∷ more))
-
-pub after_at : (byte : ℕ) (text more : List ℕ) → AllByRecursion (λ b. (b == byte) ≡ false) text
+after_at : (byte : ℕ) (text more : List ℕ) → AllByRecursion (λ b. (b == byte) ≡ false) text
     → (byte == byte) ≡ true → (cut_at byte (text ++ byte ∷ more)).1 ≡ Some more
 after_at byte text more l e =
     let at = place_at byte text more l e in
-    let len = length-append text (byte ∷ more) in
-    grind (arith, nat_tests, at, len, dropped text more byte)
+    grind (arith, nat_tests, at, length-append text (byte ∷ more), dropped text more byte)
 
 no_cr : (text : List ℕ) → AllByRecursion (λ b. IsTrue (is_line_byte b)) text
     → AllByRecursion (λ b. (b == 13) ≡ false) text
@@ -119,8 +110,10 @@ no_lf (b ∷ bs) c = (grind (arith, nat_tests, c.0), no_lf bs c.1)
 pub first_text : (line : Parts) (lines : List Parts) → IsTrue (is_writable line)
     → before_first (λ b. b == 13) (flat_map written (line ∷ lines)) ≡ text_of line
 first_text line lines w =
-    rw (append_assoc (text_of line) (13 ∷ 10 ∷ []) (flat_map written lines))
-    (before_at 13 (text_of line) _ (no_cr (text_of line) (writable-spells line w).clean) refl)
+    let more = 10 ∷ flat_map written lines in
+    let at = place_at 13 (text_of line) more (no_cr (text_of line) (writable-spells line w).clean) refl in
+    rw (append_assoc (text_of line) (13 ∷ 10 ∷ []) (flat_map written lines), at)
+    (take-append_seam (text_of line) (13 ∷ more))
 
 pub other_texts : (line : Parts) (lines : List Parts) → IsTrue (is_writable line)
     → (cut_at 10 (flat_map written (line ∷ lines))).1 ≡ Some (flat_map written lines)
@@ -173,13 +166,11 @@ line_ends : (lines : List Parts) → AreLines lines
     → length (filter (λ b. b == 10) (flat_map written lines)) ≡ length lines
 line_ends [] w = refl
 line_ends (l ∷ ls) w =
-    let text : filter (λ b. b == 10) (written l) ≡ 10 ∷ [] =
-    filter-append (λ b. b == 10) (text_of l) (13 ∷ 10 ∷ [])
-    ∙ ap (λ t. t ++ 10 ∷ []) (no_ends (text_of l) (writable-spells l w.0).clean) in
-    rw (filter-append (λ b. b == 10) (written l), text) (ap suc (line_ends ls w.1))
+    let text = no_ends (text_of l) (writable-spells l w.0).clean in
+    rw (filter-append (λ b. b == 10) (written l), filter-append (λ b. b == 10) (text_of l), text)
+    (ap suc (line_ends ls w.1))
 
 -- a packet has as many lines as LFs
 pub ends_counted : (bytes : List ℕ) (count : ℕ) → IsPacket bytes count
     → length (filter (λ b. b == 10) bytes) ≡ length (lines_of bytes)
-ends_counted bytes count p =
-    ap (λ t. length (filter (λ b. b == 10) t)) (sym p.whole) ∙ line_ends (lines_of bytes) p.lines
+ends_counted bytes count p = rw p.whole at (line_ends (lines_of bytes) p.lines)

@@ -15,10 +15,9 @@ use Rattle.net_view.proofs.{Keys.some_key, Tests.any_append}
 use Rattle.{network_tables.proofs.HeadLemmas.by_heads, std.proofs.{Common.T, lemmas.Cmp.on_total}}
 use Rattle.std.proofs.lemmas.List.{Elements.recursion_from_All, Filters.All-dedup}
 use Rattle.std.proofs.lemmas.List.{Kept.IsStrictlySortedBy-dedup, Sorted.All-permutation}
-use Rattle.std.{proofs.lemmas.List.Sorted.list_any-IsPermutation, specs.Cmp.IsTotalOrder}
-use Rattle.std.specs.List.{dedup, dedup_from, Sorted.{IsSorted, IsStrictlySortedBy}}
-use Rattle.{std.specs.Ordering.ordering_then, welcome.proofs.BurstLaw.NetworkRead.all_in}
-use Rattle.welcome.proofs.{BurstLaw.NetworkRead.each_entry, EachOf.{each_mapped, mapped}}
+use Rattle.std.{proofs.lemmas.List.Sorted.list_any-IsPermutation, specs.List.Sorted.IsSorted}
+use Rattle.std.specs.{List.{Sorted.IsStrictlySortedBy, dedup, dedup_from}, Ordering.ordering_then}
+use Rattle.welcome.proofs.{BurstLaw.NetworkRead.{all_in, each_entry}, EachOf.{each_mapped, mapped}}
 use Rattle.welcome.{proofs.Places.flat_next, specs.Lent.{persons_at, persons_on_channels}}
 
 -- a member as a person
@@ -81,7 +80,7 @@ known_each v sound =
     each_entry (IsKnown v) v.channels (λ ch. map (person_at v) (fin.entries ch.members)) (λ k ch here.
     mapped (λ m. fin.get ch.members m.0 ≡ Some m.1) (IsKnown v) (person_at v) (λ m there.
     let is = member_known v m.0 m.1 ((sound.channels k ch here).spelled m.0 (ap is_some there)) in
-    ap (fin.get v.people) is.0 ∙ is.1) (fin.entries ch.members) (all_in ch.members))
+    rw is.0 is.1) (fin.entries ch.members) (all_in ch.members))
 
 -- ---- who is known is a member
 
@@ -90,9 +89,7 @@ any_flat : {Y : Type 0} (q : Y → Bool) (g : Channel → List Y) (c : Text) (ch
     → fin.find bytes_cmp c es ≡ Some ch → list_any q (g ch) ≡ true
     → list_any q (flat_map (λ (e : Text × Channel). g e.1) es) ≡ true
 any_flat q g c ch [] e h = cc
-any_flat q g c ch (x ∷ es) e h =
-    let on = any_append q (g x.1) (flat_map (λ (e : Text × Channel). g e.1) es) in
-    grind (arith, on, any_flat q g c ch es)
+any_flat q g c ch (x ∷ es) e h = grind (arith, any_append, any_flat q g c ch es)
 
 -- whether the person has this key
 abbrev pub has_key : List Token → Text → Person → Bool
@@ -111,18 +108,15 @@ seen_at : (v : View) → IsSound v → (n c : Text) (o : Option Channel)
     → list_any (has_key v.settings n) (persons_on_channels v) ≡ true
 seen_at v sound n c None e h = cc
 seen_at v sound n c (Some ch) e h =
-    any_flat (has_key v.settings n)
-    (λ (ch : Channel). map (person_at v) (fin.entries ch.members)) c ch (fin.entries v.channels)
-    (sym (fin.get-entries v.channels c) ∙ e)
-    (any_member v n (fin.entries ch.members)
-    (λ r. (member_known v n r ((sound.channels c ch e).spelled n h)).0)
-    (rw fin.get-entries at h))
+    any_flat (has_key v.settings n) (λ (ch : Channel). map (person_at v) (fin.entries ch.members)) c ch
+    (fin.entries v.channels) (rw fin.get-entries at e) (any_member v n (fin.entries ch.members)
+    (λ r. (member_known v n r ((sound.channels c ch e).spelled n h)).0) (rw fin.get-entries at h))
 
 known_any : (v : View) → IsSound v → (n : Text) → is_some (fin.get v.people n) ≡ true
     → list_any (has_key v.settings n) (persons_on_channels v) ≡ true
 known_any v sound n h =
     let seen = some_key (λ c. is_some (old_member (fin.get v.channels c) n)) (fin.keys v.channels)
-    (sym (sound.known n) ∙ h) in
+    (rw sound.known at h) in
     seen_at v sound n seen.0 (fin.get v.channels seen.0) refl seen.1
 
 -- ---- sorted, and once each
@@ -137,9 +131,6 @@ by_key settings = lent.by_key (mapping_of settings)
 
 abbrev is_one : List Token → Lent → Lent → Bool
 is_one settings = lent.is_one (mapping_of settings)
-
-by_key_total : (settings : List Token) → IsTotalOrder (by_key settings)
-by_key_total settings = on_total (key_lent settings) nat_list_cmp_total
 
 -- under its key
 abbrev keyed : List Token → Lent → Text × Person
@@ -207,10 +198,10 @@ persons_gathered v sound mapping is all sorted each whole moved rising once =
     let there : (n : Text) → is_some (fin.get v.people n) ≡ true → list_any (has_lent s n) ps ≡ true =
     λ n h. rw (any_kept s n sorted, ← list_any-IsPermutation (has_lent s n) all sorted moved)
     (rw (← any_mapped (has_key s n) person_lent all, whole) (known_any v sound n h)) in
-    let up : IsSorted (by_key s) sorted = rw is at rising in
     let es = map (keyed s) ps in
     let in_order : T (fin.is_sorted bytes_cmp es) =
-    rw (rises s ps (IsStrictlySortedBy-dedup (by_key_total s) (λ x y. refl) sorted up)) tt in
+    rw (rises s ps (IsStrictlySortedBy-dedup (on_total (key_lent s) nat_list_cmp_total) (λ x y. refl)
+    sorted (rw is at rising))) tt in
     let one : fin.from_sorted {R = bytes_cmp} es ≡ v.people = same_by_keys (λ n.
     let found = fin.get-from_sorted bytes_cmp es n in_order in
     grind (arith, found, found_as v n ps known, there n)) in
@@ -226,9 +217,7 @@ by_head_is mapping a b h k =
     h.1 k.1 _ (λ i. nat_cmp (h.0 i) (k.0 i)))
   where
     then_is : (r s : Ordering) → ((r ≡ Equal → ⊥) → r ≡ s) → ordering_then r s ≡ s
-    then_is Less s h = h (λ q. cc)
-    then_is Equal s h = refl
-    then_is Greater s h = h (λ q. cc)
+    then_is r s h = grind (arith, h)
 
 -- what is sorted by head and key is sorted by key, where the heads are those of the keys
 pub sorted_by_key : (mapping : CaseMapping) (old new : List Lent)

@@ -12,7 +12,7 @@ use Rattle.std.proofs.lemmas.List.Sorted.{IsPermutation-append_left, IsPermutati
 use Rattle.std.proofs.lemmas.List.Sorted.{IsPermutation-filter_both, IsPermutation-refl}
 use Rattle.{std.proofs.lemmas.List.Sorted.IsPermutation-trans, welcome.proofs.EachOf.each_kept}
 use Rattle.welcome.proofs.{Grouping.{key_in, left_over}, WrittenLaw.untold}
-use Rattle.welcome.specs.{Arranged.{batch_of, batch_tag}, Playback.{messages_in, played_of}}
+use Rattle.welcome.specs.{Playback.{messages_in, played_of}}
 
 -- ---- what the lines tell
 
@@ -28,11 +28,7 @@ backlog_told : (caps : Caps) (place : ℕ) (name : Text) (es : List EntryParts) 
     → messages_in (backlog_of caps place name es) ≡ map bare_line es
 backlog_told caps place name [] m = refl
 backlog_told caps place name (e ∷ es) m =
-    let told = λ (tags : List Text). entries_told caps tags (e ∷ es) m in
-    elim caps.batch as (λ b. messages_in
-    (cond b (batch_of caps place name (e ∷ es)) (map (entry_line caps []) (e ∷ es)))
-    ≡ map bare_line (e ∷ es))
-    [ true ↦ simp (filter-append, map-append, append-nil) (told (batch_tag place ∷ [])) | false ↦ told [] ]
+    grind (arith, λ (tags : List Text). entries_told caps tags (e ∷ es) m, filter-append, append-nil)
 
 -- the messages of channels, as lines and as entries
 abbrev backlogs : View → Caps → List EntryParts → List (Text × Channel) → ℕ → List Parts
@@ -49,8 +45,7 @@ channels_told : (v : View) (caps : Caps) (es : List EntryParts) (cs : List (Text
     → messages_in (backlogs v caps es cs n) ≡ map bare_line (messages_of v es cs)
 channels_told v caps es [] n m = refl
 channels_told v caps es (c ∷ cs) n m =
-    let mine : List EntryParts = filter (is_for v c.0) es in
-    let told = backlog_told caps n c.1.name mine (each_kept _ (is_for v c.0) es m) in
+    let told = backlog_told caps n c.1.name _ (each_kept _ (is_for v c.0) es m) in
     simp (filter-append, map-append, told, channels_told v caps es cs (n + 1) m)
 
 pub playback_told : (v : View) (caps : Caps) (es : List EntryParts) → AreMessages es
@@ -82,11 +77,8 @@ not_later k (c ∷ cs) below = grind (arith, not_later k cs)
 of_channels : (v : View) (es : List EntryParts) (cs : List (Text × Channel))
     → fin.is_sorted bytes_cmp cs ≡ true
     → IsPermutation (filter (is_for_any v cs) es) (messages_of v es cs)
-of_channels v es [] sorted =
-    rw (none es) (IsPermutation-refl []) where
-      none : (fs : List EntryParts) → filter (is_for_any v []) fs ≡ []
-      none [] = refl
-      none (f ∷ fs) = none fs
+of_channels v [] [] sorted = IsPermutation-refl []
+of_channels v (e ∷ es) [] sorted = of_channels v es [] sorted
 of_channels v es (c ∷ cs) sorted =
     let mine : EntryParts → Bool = is_for v c.0 in
     let later : EntryParts → Bool = is_for_any v cs in
@@ -164,9 +156,8 @@ module _ (v : View) where
       → filter (λ e. not (is_for_a_channel v e)) (played_of v es)
       ≡ filter (λ e. not (is_for_a_channel v e)) es
   others_in_order es =
-      let none = none_of_channels es (fin.entries v.channels)
-      (entries_got (λ (c : Text × Channel). fin.contains_key v.channels c.0 ≡ true) v.channels
-      (λ e at. ap is_some at)) in
+      let there = entries_got (λ c. fin.contains_key v.channels c.0 ≡ true) v.channels (λ e. ap is_some) in
+      let none = none_of_channels es (fin.entries v.channels) there in
       simp (filter-append, none, twice other other other (λ e. grind arith) es)
 
 -- where nothing was missed, the burst is the state part

@@ -84,17 +84,12 @@ module _ (line : Text → Parts) (all : Text) where
     -- the row is said, and the word begins the next
     pub word_begins : goes_on begun row w ≡ false → then ≡ now ++ cond begun (written (line row)) []
         → row_then ≡ [] → then_begun ≡ false → IsSaid then true after words
-    word_begins full e r b = rw (e, put, r, b) (begins begun full is) where
-      begins : (b : Bool) → goes_on b row w ≡ false → IsSaid now b row (w ∷ words)
-          → IsSaid (now ++ cond b (written (line row)) []) true w words
-      begins false full is = cc
-      begins true full is = rw append_assoc (rw full at is)
+    word_begins full e r b = rw (e, put, r, b) (grind (arith, full, is, append_assoc))
 
   -- the last row is said
   pub row_ends : (now : Text) (begun : Bool) (row : Text) → IsSaid now begun row []
       → now ++ cond begun (written (line row)) [] ≡ all
-  row_ends now false row is = is
-  row_ends now true row is = rw append-nil at is
+  row_ends now begun row is = grind (arith, append-nil, is)
 
 -- a 005 with a row of tokens
 abbrev pub settings_row : Text → List Text → Parts
@@ -137,9 +132,9 @@ range_more : {X : Type 0} (xs : List X) (start place : ℕ) (x : X) → start �
     → slice_range xs start (place + 1) ≡ slice_range xs start place ++ x ∷ []
 range_more xs start place x order within at =
     let count : place + 1 - start ≡ place - start + 1 = omega arith in
-    let there : start + (place - start) ≡ place = omega arith in
     let more = take_more (drop start xs) (place - start) x (omega (arith, length-drop start xs)) in
     let last = get_or-drop start xs (place - start) x in
+    let there : start + (place - start) ≡ place = omega arith in
     rw count (cc (more, last, there, at))
 
 module _ {X : Type 0} (f : X → Text) (xs : List X) (line : List Text → Parts) (all : Text) where
@@ -157,18 +152,16 @@ module _ {X : Type 0} (f : X → Text) (xs : List X) (line : List Text → Parts
   module _ (now then : Text) (start place len len_then : ℕ) (x : X) (within : place < length xs)
       (at : x ≡ get_or xs place x) (is : IsTaking now start place len) where
     row_more : (s : ℕ) → s ≤ place → row_at s (place + 1) ≡ row_at s place ++ f x ∷ []
-    row_more s order =
-        rw (range_more xs s place x order within at) (map-append f (slice_range xs s place) (x ∷ []))
+    row_more s order = rw (range_more xs s place x order within at, map-append)
 
     left_more : map f (drop place xs) ≡ f x ∷ map f (drop (place + 1) xs)
-    left_more = next_left f xs place x within ∙ ap (λ y. f y ∷ map f (drop (place + 1) xs)) (sym at)
+    left_more = rw (← at) at (next_left f xs place x within)
 
     count_is : length (row_at start place) ≡ place - start
     count_is =
         let order = is.in_order in
-        let left = length-drop start xs in
-        length-map (slice_range xs start place) f
-        ∙ length-take-le (place - start) (drop start xs) (omega arith)
+        let few = length-take-le (place - start) (drop start xs) (omega (arith, length-drop start xs)) in
+        length-map (slice_range xs start place) f ∙ few
 
     put : (rows_on (row_at start place) (map f (drop place xs)))
         ≡ cond (has_room (place - start) len (f x))
@@ -215,10 +208,9 @@ module _ {X : Type 0} (f : X → Text) (xs : List X) (line : List Text → Parts
       → then ≡ now ++ cond (nat_eq (length (slice_range xs start place)) 0) []
       (written (line (row_at start place))) → then ≡ all
   tokens_end now then start place len end is e =
-      let none : drop place xs ≡ [] = drop_all place xs (omega arith) in
-      let last = rows_end line (row_at start place) in
+      let none = drop_all place xs (omega arith) in
       let count = length-map (slice_range xs start place) f in
-      grind (arith, is.said, none, last, count, e)
+      grind (arith, is.said, none, rows_end line (row_at start place), count, e)
 
 -- a loop over the tokens
 pub ruleset token_steps = (take_next, slice_get-map, map-append, append-nil)

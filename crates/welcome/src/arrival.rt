@@ -18,6 +18,7 @@ use std::alloc::Allocator;
 
 /// The packet of the burst, from its bytes. That its lines can be written follows from where the
 /// view and the messages come from.
+#[tactic(auto, using(crate::proofs::PacketBytes::lines_back, crate::proofs::WrittenLaw::burst_written, crate::proofs::WrittenLaw::state_is_packet))]
 fn packet_of_burst<V: NetworkView, A: Allocator + Clone, B: Allocator>(
     text: Vec<u8, A>,
     view: &V,
@@ -63,6 +64,7 @@ pub fn burst<V: NetworkView, A: Allocator + Copy, B: Allocator>(
 /// if no message was missed, and else its bytes and the playback's in one packet.
 ///
 /// `OutOfMemory` is told where an allocation was refused, and for no other cause.
+#[tactic(auto, using(crate::proofs::Words::burst_of, crate::proofs::PlaybackWhole::empty_list, crate::proofs::PlaybackWhole::nothing_missed))]
 pub fn burst_from<V: NetworkView, A: Allocator + Copy, B: Allocator>(
     alloc: A,
     state: &Packet<A>,

@@ -171,6 +171,7 @@ fn push_batch<A: Allocator + Copy, B: Allocator>(
 
 /// Adds the messages of the channel at a place, with batch between `:bnc BATCH +h0 chathistory #c`
 /// and `:bnc BATCH -h0`; nothing where there are none.
+#[tactic(auto, using(crate::proofs::Grouping::plain_backlog))]
 fn push_backlog<A: Allocator + Copy, B: Allocator>(
     text: &mut Vec<u8, A>,
     caps: Caps,
@@ -247,6 +248,7 @@ pub fn push_playback<V: NetworkView, A: Allocator + Copy, B: Allocator>(
 
 /// The packet of the playback, from its bytes. That its lines can be written follows from where the
 /// view and the messages come from.
+#[tactic(auto, using(crate::proofs::PacketBytes::lines_back, crate::proofs::WrittenLaw::playback_written, crate::proofs::WrittenLaw::state_is_packet))]
 fn packet_of_playback<V: NetworkView, A: Allocator + Clone, B: Allocator>(
     text: Vec<u8, A>,
     view: &V,

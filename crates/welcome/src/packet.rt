@@ -54,6 +54,7 @@ impl<A: Allocator + Clone> Packet<A> {
     }
 
     /// The packet of lines that were written one behind the other.
+    #[tactic(auto, using(crate::proofs::PacketBytes::ends_counted))]
     pub(crate) fn of_lines(text: Vec<u8, A>) -> Result<Packet<A>, OutOfMemory>
         requires { IsPacket text.items (length (lines_of text.items)) }
         ensures { IfOk result (λ packet. packet ≡ lines_of text.items) }

@@ -28,6 +28,7 @@ pub fn push_state<V: NetworkView, A: Allocator + Copy>(
 
 /// The packet of the state part, from its bytes. That its lines can be written follows from where
 /// the view comes from.
+#[tactic(auto, using(crate::proofs::PacketBytes::lines_back, crate::proofs::WrittenLaw::state_is_packet, crate::proofs::WrittenLaw::state_written))]
 fn packet_of_state<V: NetworkView, A: Allocator + Clone>(
     text: Vec<u8, A>,
     view: &V,

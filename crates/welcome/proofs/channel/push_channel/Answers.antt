@@ -8,9 +8,7 @@ returns-in_ok-push_names-in-Some g c =
     let ch = lent c.in-Some.channel in
     let shown = rw c.in-Some.is at c.channel_at.ensures in
     on_ok_weaker c.push_names_end.result
-    (λ said. block written c.args.text.now.items c.push_join.new.text.items
-    c.push_topic.new.text.items c.push_modes.new.text.items c.push_names.new.text.items
-    c.push_names_end.new.text.items (join_line v c.args.caps ch) (names_end v ch) _ _ _
+    (λ said. block written _ _ _ _ _ _ (join_line v c.args.caps ch) (names_end v ch) _ _ _
     c.in_ok-push_join-in-Some.ensures c.in_ok-push_topic-in-Some.ensures
     c.in_ok-push_modes-in-Some.ensures c.in_ok-push_names-in-Some.ensures said
     ∙ ap (λ t. c.args.text.now.items ++ t) (lines_of_lent v c.args.caps c.in-Some.channel

@@ -13,10 +13,8 @@ push_at-requires g c =
 
 pub loop-entry-preserved : goal.loop-entry-preserved
 loop-entry-preserved g c =
-    grouped_next c.args.mapping (texts_of c.args.names.now) c.args.entries.now
-    c.loop-entry.entry-index c.place_of-place.result c.entry-item.result c.target.result.now _ _
-    c.loop-entry-test.true c.entry-item.is c.loop-entry.invariant
-    c.target.ensures c.place_of-place.ensures.place c.in_ok-push_at.ensures
+    grouped_next _ (texts_of c.args.names.now) _ _ _ _ _ _ _ c.loop-entry-test.true c.entry-item.is
+    c.loop-entry.invariant c.target.ensures c.place_of-place.ensures.place c.in_ok-push_at.ensures
 
 pub returns : goal.returns
 returns g c =

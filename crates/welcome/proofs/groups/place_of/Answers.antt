@@ -4,14 +4,12 @@ use Rattle.welcome.proofs.{Grouping.found_nowhere, Grouping.found_there, Groupin
 
 pub returns-in-Ok-clause-place : goal.returns-in-Ok-clause-place
 returns-in-Ok-clause-place c =
-    found_there c.args.mapping c.args.target.now c.args.names.now c.in-Ok.place c.args.target
-    c.requires c.in-Ok.ensures.bound
+    found_there c.args.mapping c.args.target.now _ _ _ c.requires c.in-Ok.ensures.bound
     (c.in-Ok.ensures.position (lies c.args.mapping c.args.target.now)
     (always_returns_same _ _ _ (λ a r f' k. search rules)) c.args.target)
 
 pub returns-in-Err-clause-place : goal.returns-in-Err-clause-place
 returns-in-Err-clause-place c =
-    found_nowhere c.args.mapping c.args.target.now c.args.names.now c.in-Err.field-0 c.args.target
-    c.requires c.in-Err.ensures.bound
+    found_nowhere c.args.mapping c.args.target.now _ _ c.args.target c.requires c.in-Err.ensures.bound
     (c.in-Err.ensures.position (lies c.args.mapping c.args.target.now)
     (always_returns_same _ _ _ (λ a r f' k. search rules)))

@@ -1,11 +1,10 @@
 use Rattle.welcome.proofs.in_sight.persons_of.Goals as goal
-use Rattle.welcome.proofs.{PersonsAt.persons_gathered, Words.{◌∙◌, ap, mapping_of, view_sound}}
+use Rattle.welcome.proofs.{PersonsAt.persons_gathered, Words.{view_sound}}
 
 pub returns : goal.returns
 returns g c =
     let v = g.V.NetworkView.view c.args.view.now in
     let source = c.comes_from_lines.ensures in
     persons_gathered v (rw source.2 (view_sound source.0)) c.mapping-mapping.result
-    (c.mapping-mapping.ensures ∙ ap mapping_of c.support.ensures) c.in_ok-persons.persons.items
-    c.sort_by_key.new.persons.items c.keep_one_each.new.persons.items c.in_ok-persons.ensures.members
+    (rw c.support.ensures at c.mapping-mapping.ensures) _ _ _ c.in_ok-persons.ensures.members
     c.sort_by_key.ensures.permutation c.sort_by_key.ensures.sorted c.keep_one_each.ensures

@@ -1,7 +1,7 @@
 use Rattle.welcome.proofs.names.push_names.Goals as goal
 use Rattle.{net_view.specs.Walks.parts_of, welcome.proofs.TokenRows.{name_line, names_by_texts}}
-use Rattle.welcome.proofs.{TokenRows.{row_ends, shown_word, word_begins, word_goes}, Words.◌++◌}
-use Rattle.welcome.proofs.Words.{◌∙◌, ◌≡◌, ap, map, on_ok_weaker, sym}
+use Rattle.welcome.proofs.{TokenRows.{row_ends, shown_word, word_begins, word_goes}}
+use Rattle.welcome.proofs.Words.{◌∙◌, ap, map, on_ok_weaker, sym}
 
 pub loop-member-init : goal.loop-member-init
 loop-member-init g c =
@@ -19,8 +19,7 @@ loop-member-preserved g c =
     let word = shown_word v c.args.caps.multi_prefix (parts_of c.in-Some.member) in
     let words = map (shown_word v c.args.caps.multi_prefix) c.next.new.self in
     let is = rw c.in-Some.ensures at c.loop-member.invariant in
-    let bytes : c.push_member.new.word.items ≡ word =
-    c.in_ok-push_member.ensures ∙ ap (λ t. t ++ word) c.clear.ensures.items in
+    let bytes = rw c.clear.ensures.items at c.in_ok-push_member.ensures in
     let has = rw (c.len.ensures, c.loop-member.row.ok.0, c.deref.ensures.value, bytes) at c.has_room.ensures in
     let after = rw (c.deref-in-Some.ensures.value, bytes) at c.in_ok-push_word.ensures in
     elim c.if-not-has_room.branch [
@@ -28,7 +27,7 @@ loop-member-preserved g c =
           word_begins line _ now c.if-not-has_room.text.items row c.if-not-has_room.row.items _ word
           begun c.if-not-has_room.is_begun words is after (sym has ∙ u.if-not-has_room.true)
           (rw (u.text-is, u.in_ok-push_row.ensures, u.deref-then-not-has_room.ensures.value))
-          (ap (λ t. t.items) u.row-is ∙ u.clear-then-not-has_room.ensures.items) u.is_begun-is
+          (rw (u.row-is, u.clear-then-not-has_room.ensures.items)) u.is_begun-is
       | goal.else-not-has_room u ↦
           word_goes line _ now c.if-not-has_room.text.items row c.if-not-has_room.row.items _ word
           begun c.if-not-has_room.is_begun words is after (sym has ∙ u.if-not-has_room.false)

@@ -1,21 +1,13 @@
-use Rattle.welcome.proofs.Words.{◌∙◌, ◌≡◌, AreLines, Bor, List, Option, [], ap, arith, cut_at}
-use Rattle.welcome.proofs.Words.{flat_map, option_map, sym, unwrap_or, written, ℕ}
 use Rattle.welcome.proofs.packet.Packet.line.Goals as goal
-use Rattle.welcome.proofs.PacketBytes.{at_place, other_texts, read_at, some_at}
-
-or_now : (o : Option (Bor (List ℕ))) (b : Bor (List ℕ))
-    → (unwrap_or o b).now ≡ unwrap_or (option_map (λ r. r.now) o) b.now
-or_now o b = grind arith
+use Rattle.welcome.proofs.{PacketBytes.{at_place, other_texts, read_at, some_at}, Words.AreLines}
+use Rattle.welcome.proofs.Words.{arith, sym, ◌∙◌}
 
 pub loop-preserved : goal.loop-preserved
 loop-preserved g c =
     let lines : AreLines c.args.self.now = rw c.self.view_is at c.self.invariant.lines in
     let at = at_place c.args.self.now c.loop.counter lines (omega (arith, c.requires)) in
-    ap (λ r. r.now) c.unwrap_or-rest.ensures
-    ∙ or_now c.cut.result.1 _
-    ∙ ap (λ o. unwrap_or o []) (c.cut.ensures.behind
-    ∙ ap (λ t. (cut_at 10 t).1) (c.loop.invariant ∙ ap (flat_map written) at.here)
-    ∙ other_texts at.line _ at.writable)
+    let behind = rw (c.loop.invariant, at.here, other_texts at.line _ at.writable) at c.cut.ensures.behind in
+    grind (arith, c.unwrap_or-rest.ensures, behind)
 
 pub unreachable-requires : goal.unreachable-requires
 unreachable-requires g c =
