@@ -1,7 +1,6 @@
 -- What holds of each of a list, and of one of them among the others.
-use Rattle.hub_core.proofs.Words.{[], AllByRecursion, Bool, Delivered, inl, inr, List, Option}
-use Rattle.hub_core.proofs.Words.{OutletState, Parts, Sends, SessionState, subst, sym, with_outlet}
-use Rattle.hub_core.proofs.Words.{◌++◌, ◌∷◌}
+use Rattle.hub_core.proofs.Words.{AllByRecursion, Bool, Delivered, List, Option, OutletState, Parts}
+use Rattle.hub_core.proofs.Words.{Sends, SessionState, [], arith, with_outlet, ◌++◌, ◌∷◌}
 pub use Rattle.welcome.proofs.EachOf.{each_back, each_front, joined as each_append}
 
 module _ {S : Type 0} (P : S → Type 0) where
@@ -11,14 +10,12 @@ module _ {S : Type 0} (P : S → Type 0) where
   -- it is gone
   pub each_without : (ss : List S) (s : S) (ts : List S) → AllByRecursion P (ss ++ s ∷ ts)
       → AllByRecursion P (ss ++ ts)
-  each_without ss s ts h =
-      each_append P ss ts (each_front P ss (s ∷ ts) h) (each_back P ss (s ∷ ts) h).1
+  each_without ss s ts h = grind (arith, each_append P, each_front P, each_back P)
 
   -- another stands in its place
   pub each_with : (ss : List S) (s t : S) (ts : List S) → P t → AllByRecursion P (ss ++ s ∷ ts)
       → AllByRecursion P (ss ++ t ∷ ts)
-  each_with ss s t ts here h =
-      each_append P ss (t ∷ ts) (each_front P ss (s ∷ ts) h) (here, (each_back P ss (s ∷ ts) h).1)
+  each_with ss s t ts here h = grind (arith, each_append P, each_front P, each_back P)
 
 -- each was sent what it is given, or is gone
 pub each_sent : (P Q : SessionState → Type 0) (alone : Bool)
@@ -26,10 +23,5 @@ pub each_sent : (P Q : SessionState → Type 0) (alone : Bool)
     → ((s : SessionState) (o : OutletState) → P s → Sends alone s.outlet (give s) o
     → Q (with_outlet s o))
     → AllByRecursion P ss → Delivered alone give ss ts → AllByRecursion Q ts
-each_sent P Q alone give [] ts step each d = subst (AllByRecursion Q) (sym d) tt
-each_sent P Q alone give (s ∷ ss) ts step each d =
-    elim d [
-      | inl e ↦ subst (AllByRecursion Q) (sym e.2)
-          (step s e.0 each.0 e.3, each_sent P Q alone give ss e.1 step each.1 e.4)
-      | inr e ↦ each_sent P Q alone give ss ts step each.1 e.1
-    ]
+each_sent P Q alone give [] ts step each d = rw d tt
+each_sent P Q alone give (s ∷ ss) ts step each d = grind (arith, step, each_sent P Q alone give ss)

@@ -1,59 +1,39 @@
 -- Outlets in which room was found, or in memory, out of which packets were taken.
-use Rattle.hub_core.proofs.Words.{[], ap, arith, Bool, cond, Delivered, Err, FindsRoom, Forwards}
-use Rattle.hub_core.proofs.Words.{given_others, heard, HubState, IfOk, inl, is_online, is_some}
-use Rattle.hub_core.proofs.Words.{IsSome, List, None, Ok, OutletState, Parts, refl, Result, Said}
-use Rattle.hub_core.proofs.Words.{Sent, SessionState, subst, sym, Took, true, ℕ, ◌++◌, ◌+◌, ◌-◌}
-use Rattle.hub_core.proofs.Words.{◌<◌, ◌∙◌, ◌∷◌, ◌≡◌, ◌≤◌}
 use Rattle.hub_core.specs.declared.hub.HubError.TheVariants as fault
 use Rattle.hub_core.specs.declared.said.Said.TheVariants as said
-use Rattle.hub_core.specs.{InMemory.Drains, Saying.Stays, declared.hub.HubError.HubError}
-use Rattle.std.{proofs.Common.min, specs.Prelude.IfErr}
+use Rattle.hub_core.proofs.Words.{Bool, Delivered, Forwards, HubState, IsSome, List, None}
+use Rattle.hub_core.proofs.Words.{OutletState, Parts, SessionState, Took, [], arith, heard}
+use Rattle.hub_core.proofs.Words.{is_online, is_some, refl, true, ℕ, ◌+◌, ◌-◌, ◌<◌, ◌∷◌, ◌≡◌, ◌≤◌}
+use Rattle.hub_core.specs.{InMemory.Drains, Saying.{Sent, Stays, given_others}}
+use Rattle.hub_core.specs.declared.{hub.HubError.HubError, said.Said.Said}
+use Rattle.{hub_ends.specs.Outlets.FindsRoom, std.{proofs.Common.{cond, min}, specs.Prelude.Err}}
+use Rattle.std.specs.Prelude.{IfErr, IfOk, Ok, Result}
 
 -- a packet was taken once room was found
 pub found_took : (alone : Bool) (o m o' : OutletState) (p : List Parts) → FindsRoom alone o m
     → Took alone m p o' → Took alone o p o'
-found_took alone o m o' p found took = record {
-  sent = took.sent ∙ ap (λ l. l ++ p ∷ []) found.sent;
-  closed = took.closed ∙ found.closed;
-  capacity = took.capacity ∙ found.capacity;
-  more = omega (arith, found.more, took.more);
-  room = λ a. sym (found.room a) ∙ took.room a;
-}
+found_took alone o m o' p found took = grind arith
 
 -- of those that wait
 pub drained : (o o' : OutletState) (most taken waiting : ℕ) → o'.sent ≡ o.sent
     → o'.closed ≡ o.closed → o'.capacity ≡ o.capacity → waiting ≤ o.capacity
     → o.free ≡ cond (is_some o.closed) 0 (o.capacity - waiting) → taken ≡ min most waiting
     → o'.free ≡ cond (is_some o.closed) 0 (o.free + taken) → Drains o most taken o'
-drained o o' most taken waiting sent closed capacity few free count now = record {
-  sent = sent;
-  closed = closed;
-  capacity = capacity;
-  count = λ none. grind (arith, free, none, few, count);
-  free = now;
-}
+drained o o' most taken waiting sent closed capacity few free count now = grind arith
 
 -- that more room is known of changes nothing else
 pub forwards_from : (alone : Bool) (old mid new : HubState) (id : ℕ) (line : Parts) (moment : ℕ)
     → Stays alone old mid → Forwards alone mid id line moment new
     → Forwards alone old id line moment new
 forwards_from alone old mid new id line moment s f0 =
-    subst (λ h. Forwards alone h id line moment new → Forwards alone old id line moment new)
-    (sym s.is) (λ f. record {
-      online = f.online;
-      upstream = found_took alone _ _ _ _ s.found f.upstream;
-      sessions = f.sessions;
-      history = f.history;
-      number = f.number;
-      images = f.images;
-      others = f.others;
-    }) f0
+    let f = rw s.is at f0 in
+    grind (arith, f, found_took alone _ _ _ _ s.found f.upstream)
 
 -- nobody is given anything of what is no message
 pub nobody : (alone : Bool) (h : HubState) (id : ℕ) (ss : List SessionState)
     → Delivered alone (given_others h id None) ss ss
 nobody alone h id [] = refl
-nobody alone h id (s ∷ ss) = inl (s.outlet, ss, refl, refl, nobody alone h id ss)
+nobody alone h id (s ∷ ss) = grind (arith, nobody alone h id ss)
 
 -- what came of it, from what came once room was found
 pub sent_from : (alone : Bool) (old mid new : HubState) (id : ℕ) (line : Parts) (moment : ℕ)

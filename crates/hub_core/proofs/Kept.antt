@@ -1,16 +1,17 @@
 -- What is kept are messages, and each message has its number.
 use Rattle.hub_core.proofs.Words
-use Words.{[], all_kept, AllByRecursion, ap, append-nil, append_assoc, AreMessages, AreNumbered}
-use Words.{arith, Arrival, Bool, Came, Contains, content, content_said, entry_for, EntryParts}
-use Words.{false, filter, filter_map, IfSome, if◌then◌else◌, inl, inr, is_message}
-use Words.{is_message_command, IsSome, IsTrue, IsWrittenEntry, length, length-append, List, Lost}
-use Words.{message_of, Messages, nat_tests, no_messages, None, Option, option_map, option_map_or}
-use Words.{option_to_list, OutletState, Parts, pong_for, Puts, Received, refl, rules, Some, Text}
-use Words.{true, untagged_line, with_entry, with_message, ℕ, ◌++◌, ◌+◌, ◌<◌, ◌^◌, ◌∷◌, ◌≡◌}
-use Rattle.history.specs.Messages.{is_missed, missed_of}
+use Words.{[], AllByRecursion, append-nil, append_assoc, arith, Arrival, Bool, Came, content_said}
+use Words.{entry_for, EntryParts, false, filter_map, IfSome, inl, inr, is_message}
+use Words.{is_message_command, IsSome, length, length-append, List, Lost, Messages, nat_tests, None}
+use Words.{Option, option_map, option_map_or, option_to_list, OutletState, Parts, Received, refl}
+use Words.{rules, Some, Text, true, with_entry, ℕ, ◌++◌, ◌+◌, ◌<◌, ◌∷◌, ◌≡◌}
+use Rattle.history.{proofs.LastMessages.all_kept, specs.Entry.{IsWrittenEntry, message_of}}
+use Rattle.history.specs.Messages.{is_missed, missed_of, no_messages, with_message}
+use Rattle.hub_core.specs.{Pumping.{Puts, pong_for}, Running.{AreMessages, AreNumbered, content}}
+use Rattle.{irc_line.specs.Writing.untagged_line, std.proofs.Common.{filter, ◌^◌}}
 use Rattle.std.proofs.lemmas.List.Elements.{Contains-append_cases, Contains-append_left}
 use Rattle.std.proofs.lemmas.List.Elements.{Contains-append_right, filter_map-append}
-use Rattle.welcome.proofs.EachOf.{each_kept, mapped}
+use Rattle.{std.specs.{List.Contains, Prelude.IsTrue}, welcome.proofs.EachOf.{each_kept, mapped}}
 
 -- what is kept of an item is a message
 pub entry_is_message : (x : Came)
@@ -37,9 +38,8 @@ pub missed_are_messages : (mark : Option ℕ) (kept : List (ℕ × EntryParts)) 
     → AllByRecursion (λ (e : EntryParts). IsTrue (is_message_command e.command))
     (missed_of mark kept)
 missed_are_messages mark kept all =
-    mapped (λ (m : ℕ × EntryParts). IsTrue (is_message_command m.1.command))
-    (λ (e : EntryParts). IsTrue (is_message_command e.command)) (λ (m : ℕ × EntryParts). m.1)
-    (λ m h. h) (filter (is_missed mark) kept) (each_kept _ (is_missed mark) kept all)
+    mapped _ _ (λ (m : ℕ × EntryParts). m.1) (λ m h. h) (filter (is_missed mark) kept)
+    (each_kept _ (is_missed mark) kept all)
 
 -- ---- a message more, if there is one
 
@@ -78,13 +78,12 @@ adds_said a b o = simp (append-nil, append_assoc) at (adds (a ++ b) [] o)
 
 pub numbered_start : (capacity first : ℕ) → first < 2 ^ 64
     → AreNumbered [] first (no_messages capacity first)
-numbered_start capacity first small =
-    record { messages = tt; written = tt; origins = tt; numbers = search rules }
+numbered_start capacity first small = grind arith
 
-all_map : {X : Type 0} (P Q : X → Type 0) → ((x : X) → P x → Q x) → (xs : List X)
+pub all_map : {X : Type 0} (P Q : X → Type 0) → ((x : X) → P x → Q x) → (xs : List X)
     → AllByRecursion P xs → AllByRecursion Q xs
 all_map P Q f [] all = tt
-all_map P Q f (x ∷ xs) all = (f x all.0, all_map P Q f xs all.1)
+all_map P Q f (x ∷ xs) all = grind (arith, f x, all_map P Q f xs)
 
 -- a message more, where there is one and it has its number
 pub numbered_step : (all more : List (List Text)) (first : ℕ) (h : Messages) (e : Option EntryParts)
@@ -92,23 +91,16 @@ pub numbered_step : (all more : List (List Text)) (first : ℕ) (h : Messages) (
     → IfSome e (λ e. IsTrue (is_message_command e.command)) → IfSome e IsWrittenEntry
     → AreNumbered all first h → AreNumbered more first (with_entry h e)
 numbered_step all more first h None adds some is written k =
-    let n : first + length all ≡ first + length more = omega (arith, adds.count) in
-    record {
-      messages = k.messages;
-      written = k.written;
-      origins = all_map _ _ (λ (m : ℕ × EntryParts). adds.kept (content m.1)) h.kept k.origins;
-      numbers = rw (← n) k.numbers;
-    }
+    let origins = all_map (λ (m : ℕ × EntryParts). Contains all (content m.1)) in
+    grind (arith, adds.count, origins, adds.kept)
 numbered_step all more first h (Some e) adds some is written k =
     let n : first + length more ≡ first + length all + 1 = omega (arith, adds.count) in
-    record {
-      messages = messages_stay h (Some e) k.messages is;
-      written = all_stay (λ (m : ℕ × EntryParts). IsWrittenEntry m.1) h e h.next k.written
-          (λ _. written);
-      origins = all_stay (λ (m : ℕ × EntryParts). Contains more (content m.1)) h e h.next
-          (all_map _ _ (λ m. adds.kept (content m.1)) h.kept k.origins) (λ _. adds.here);
-      numbers = grind (arith, nat_tests, k.numbers, some refl, n);
-    }
+    let messages = messages_stay h (Some e) k.messages is in
+    let written = all_stay (λ (m : ℕ × EntryParts). IsWrittenEntry m.1) h e h.next k.written
+    (λ _. written) in
+    let origins = all_stay (λ (m : ℕ × EntryParts). Contains more (content m.1)) h e h.next
+    (all_map _ _ (λ m. adds.kept (content m.1)) h.kept k.origins) (λ _. adds.here) in
+    grind (arith, nat_tests, messages, written, origins, k.numbers, some refl, n)
 
 -- ---- packets for the network
 
@@ -116,13 +108,12 @@ numbered_step all more first h (Some e) adds some is written k =
 pub said_content : (time : Text) (source : Option Text) (line : Parts) → is_message line ≡ true
     → IsSome source → content_said (untagged_line None line.command line.params ∷ [])
     ≡ option_map content (message_of time source line)
-said_content time None line e some = cc
-said_content time (Some nick) line e some = grind (arith, nat_tests, e)
+said_content time source line e some = grind (arith, nat_tests, e)
 
 -- what is no message says nothing
 pub unsaid : (line : Parts) → is_message line ≡ false
     → content_said (untagged_line None line.command line.params ∷ []) ≡ None
-unsaid line e = ap (λ b. if b then Some (line.command ∷ line.params) else None) e
+unsaid line e = grind arith
 
 pub sent_more : (sent : List (List Parts)) (p : List Parts) → content_said p ≡ None
     → filter_map content_said (sent ++ p ∷ []) ≡ filter_map content_said sent
@@ -135,6 +126,4 @@ pong_unsaid x = grind arith
 pub puts_unsaid : (alone : Bool) (o : OutletState) (p : Option (List Parts)) (o' : OutletState)
     → IfSome p (λ p. content_said p ≡ None) → Puts alone o p o'
     → filter_map content_said o'.sent ≡ filter_map content_said o.sent
-puts_unsaid alone o None o' quiet e = rw e refl
-puts_unsaid alone o (Some p) o' quiet puts =
-    elim puts [ inl took ↦ rw took.sent (sent_more o.sent p quiet) | inr full ↦ rw full.1 refl ]
+puts_unsaid alone o p o' quiet puts = grind (arith, sent_more)

@@ -1,23 +1,25 @@
 -- The channels of a view, the key of one, and the channels to be joined again.
-use Rattle.hub_core.proofs.Words
-use Words.{[], ap, append-nil, arith, Arrival, Bool, bytes_cmp, bytes_exact, channels_of_view}
-use Words.{channels_shown, drop, entries-shown, eq_by_cmp, false, get_or, IfSome, Joining, joining}
-use Words.{joining_of, Joinings, key_by, length, length-map, List, list_any, Lost, lost_by}
-use Words.{lost_channels, lost_then, LostChannel, mode_shown, modes_at, nat_cmp, nat_list_cmp_total}
-use Words.{nat_tests, None, Option, option_and_then, option_map, option_or, option_to_list, put_all}
-use Words.{Received, refl, reverse, reverse-append, same_by_keys, settles, shown, slice_get, Some}
-use Words.{subst, sym, T, take, take_all, Text, View, view_of, ℕ, ◌++◌, ◌+◌, ◌∙◌, ◌∷◌, ◌≡◌, ◌≤◌}
 use Rattle.std.specs.FinMap as fin
-use Rattle.hub_core.specs.LostChannels.{key_of_channel, lost_at}
-use Rattle.net_view.proofs.Channels.{channels_get, covers_on}
-use Rattle.net_view.proofs.{Keys.is_same, SoundStep.view_sound, Tests.absent, Walks.first_left}
-use Rattle.net_view.specs.{Named.channels_in, Named.named, Names.same, Readers.channel_shown}
-use Rattle.net_view.specs.{Sound.IsSound, Table.table_gets, Transcript.readings_of, View.Channel}
-use Rattle.net_view.specs.{View.channel_named, View.view_back, Written.AreWritten}
-use Rattle.network_tables.proofs.{ShownLemmas.get-shown, ShownLemmas.second, Sorted.find_at}
-use Rattle.std.proofs.lemmas.Option.{get_or_from_slice_get, slice_get-map, slice_get_within}
-use Rattle.std.specs.{FinMap.Entries.find, Iterator.YieldsFirstBy}
-use Rattle.welcome.proofs.{EntriesRead.none_below, Places.Mode, Places.mode_here, Places.take_next}
+use Rattle.hub_core.proofs.Words.{Arrival, Bool, IfSome, List, Lost, None, Option, Received, Some}
+use Rattle.hub_core.proofs.Words.{Text, View, [], ap, append-nil, arith, bytes_cmp, bytes_exact}
+use Rattle.hub_core.proofs.Words.{drop, false, joining, length, length-map, list_any, lost_channels}
+use Rattle.hub_core.proofs.Words.{nat_list_cmp_total, nat_tests, option_and_then, option_map}
+use Rattle.hub_core.proofs.Words.{option_to_list, refl, reverse, shown, take, view_of, ℕ, ◌++◌, ◌+◌}
+use Rattle.hub_core.{proofs.Words.{◌∷◌, ◌≡◌, ◌≤◌}, specs.LostChannels.{Joining, Joinings}}
+use Rattle.hub_core.specs.LostChannels.{channels_of_view, joining_of, key_of_channel, lost_at}
+use Rattle.hub_core.specs.LostChannels.{lost_by, lost_then, put_all, settles}
+use Rattle.{hub_core.specs.declared.lost.LostChannel.LostChannel, irc_support.specs.Settings.key_by}
+use Rattle.net_view.proofs.{Channels.{channels_get, covers_on}, KeyPlaces.entry_at, Keys.is_same}
+use Rattle.net_view.proofs.{Keys.same_by_keys, SoundStep.view_sound, Tests.absent, Walks.first_left}
+use Rattle.net_view.specs.{Named.{channels_in, named}, Names.same, Readers.channel_shown}
+use Rattle.net_view.specs.{Readers.{channels_shown, mode_shown}, Sound.IsSound, Table.table_gets}
+use Rattle.net_view.specs.{Transcript.readings_of, View.{Channel, view_back}, Written.AreWritten}
+use Rattle.{network_tables.proofs.ShownLemmas.{entries-shown, get-shown}, std.proofs.Common.T}
+use Rattle.std.proofs.lemmas.{List.{reverse-append, take_all}, Option.slice_get-map}
+use Rattle.std.specs.{FinMap.Entries.find, Iterator.YieldsFirstBy, Option.option_or}
+use Rattle.std.specs.{Ordering.{eq_by_cmp, nat_cmp}, Prelude.slice_get}
+use Rattle.welcome.proofs.{EntriesRead.none_below, Places.{Mode, mode_here, take_next}}
+use Rattle.welcome.specs.Lent.{modes_at}
 
 -- ---- the key
 
@@ -31,15 +33,13 @@ module _ (v : View) (i : ℕ) where
   key_at = grind (arith, λ (ch : Channel). fin.get-entries ch.modes 107)
 
   -- what is left from a place on, where a letter stands there
-  left : (j : ℕ) (o : Option Mode) → mode_shown v i j ≡ o
-      → YieldsFirstBy (λ (m : Mode). m) (λ left. left) (drop j (modes_at v i)) o
-      (drop (j + 1) (modes_at v i))
+  left : (j : ℕ) (o : Option Mode) → mode_shown v i j ≡ o → YieldsFirstBy (λ (m : Mode). m)
+      (λ left. left) (drop j (modes_at v i)) o (drop (j + 1) (modes_at v i))
   left j o e = first_left (λ (m : Mode). m) (modes_at v i) j o (grind (arith, e, mode_here v i j))
 
   -- what is found from a place on, where another letter stands there
   pub key_later : (j letter : ℕ) (param : Option Text) → mode_shown v i j ≡ Some (letter, param)
-      → (letter ≡ 107 → ⊥)
-      → key_in (drop j (modes_at v i)) ≡ key_in (drop (j + 1) (modes_at v i))
+      → (letter ≡ 107 → ⊥) → key_in (drop j (modes_at v i)) ≡ key_in (drop (j + 1) (modes_at v i))
   key_later j letter param e other =
       let no : eq_by_cmp nat_cmp 107 letter ≡ false = grind (arith, nat_tests, other) in
       rw (left j (Some (letter, param)) e, no)
@@ -75,23 +75,16 @@ pub ruleset channel_steps = (channels_all, take_next)
 
 -- ---- one of them
 
--- the entry at a place is found by its key
-got_entry : {X : Type 0} (m : fin.FinMap bytes_cmp X) (i : ℕ) (e : Text × X)
-    → slice_get (fin.entries m) i ≡ Some e → fin.get m e.0 ≡ Some e.1
-got_entry {X} m i e is =
-    let at : get_or (fin.entries m) i e ≡ e = get_or_from_slice_get (fin.entries m) i e e is in
-    rw (fin.get-entries, ← at) (find_at nat_list_cmp_total (fin.entries m) (fin.entries_sorted m) i
-    e (slice_get_within (fin.entries m) i e is))
-
 -- a view that comes from a transcript is sound
 pub sound_view : (v : View)
     → (items : List Arrival) × AreWritten items × (v ≡ view_of items) → IsSound v
-sound_view v (items, written, is) = subst IsSound (sym is) (view_sound items)
+sound_view v (items, written, is) = rw is (view_sound items)
 
 -- a channel of a view stands under the key of its name
 pub name_key : (v : View) → IsSound v → (i : ℕ) (e : Text × Channel)
     → slice_get (fin.entries v.channels) i ≡ Some e → key_by v.settings e.1.name ≡ e.0
-name_key v sound i e is = (sound.channels e.0 e.1 (got_entry v.channels i e is)).key
+name_key v sound i e is =
+    grind (arith, sound.channels e.0 e.1, entry_at nat_list_cmp_total bytes_exact v.channels i e)
 
 -- a channel is added by its name and its key
 pub added : (v : View) → IsSound v → (i : ℕ) (name folded copy : Text) (key : Option Text)
@@ -100,7 +93,7 @@ pub added : (v : View) → IsSound v → (i : ℕ) (name folded copy : Text) (ke
     → key ≡ option_and_then key_of_channel (channel_shown v i)
     → (folded, (copy, key)) ∷ [] ≡ option_to_list (slice_get (channels_of_view v) i)
 added v sound i name folded copy key e under same k =
-    grind (arith, channel_at_place v i, e, under, same, k, name_key v sound i)
+    grind (arith, channel_at_place v i, name_key v sound i)
 
 -- where there is no channel, nothing is
 pub none_added : (v : View) (i : ℕ) (now : List (Text × Joining))
@@ -117,16 +110,13 @@ joined_as e = (e.0, joining e.1)
 pub count_is : (m : fin.FinMap bytes_cmp LostChannel) (l : Joinings) → shown joining m ≡ l
     → length (fin.entries m) ≡ length (fin.entries l)
 count_is m l e =
-    rw (← e, entries-shown bytes_cmp joining m) (sym (length-map (fin.entries m) joined_as))
+    grind (arith, entries-shown bytes_cmp joining m, length-map (fin.entries m) joined_as)
 
 pub lost_at_place : (m : fin.FinMap bytes_cmp LostChannel) (l : Joinings) (i : ℕ)
-    → shown joining m ≡ l
-    → option_map joining
+    → shown joining m ≡ l → option_map joining
     (option_map (λ (e : Text × LostChannel). e.1) (slice_get (fin.entries m) i))
     ≡ option_map (λ (e : Text × Joining). e.1) (slice_get (fin.entries l) i)
-lost_at_place m l i e =
-    let at = slice_get-map joined_as (fin.entries m) i in
-    rw (← e, entries-shown bytes_cmp joining m) (grind (arith, at))
+lost_at_place m l i e = grind (arith, slice_get-map joined_as, entries-shown bytes_cmp joining)
 
 -- ---- what is found
 
@@ -134,23 +124,15 @@ lost_at_place m l i e =
 covers_lost : (items : List Arrival) (c : Text)
     → list_any (same c) (named channels_in (readings_of items)) ≡ false → lost_at items c ≡ None
 covers_lost [] c h = refl
-covers_lost (Lost ∷ older) c h =
-    let before = (absent (same c) _ _ h).1 in
-    let off : fin.get (view_back older).channels c ≡ None =
-    channels_get (readings_of older) c
-    ∙ ap (option_map (channel_named (readings_of older) c)) (covers_on (readings_of older) c before)
-    in
-    grind (arith, off, covers_lost older c before)
-covers_lost (Received line ∷ older) c h =
-    let before = (absent (same c) _ _ h).1 in
-    grind (arith, covers_lost older c before)
+covers_lost (x ∷ older) c h =
+    let before = (absent (same c) _ (named channels_in (readings_of older)) h).1 in
+    let on = covers_on (readings_of older) c before in
+    grind (arith, channels_get (readings_of older) c, on, covers_lost older c before)
 
 lost_get : (items : List Arrival) (c : Text)
     → fin.get (lost_channels items) c ≡ lost_at (reverse items) c
 unfolding lost_channels
-lost_get items c =
-    table_gets nat_list_cmp_total bytes_exact _ (lost_at (reverse items))
-    (covers_lost (reverse items)) c
+lost_get items c = grind (arith, table_gets, nat_list_cmp_total, bytes_exact, covers_lost)
 
 -- ---- the channels of a view
 
@@ -164,12 +146,8 @@ found_in_view v c =
 pub sorted_new : (v : View) (x : Arrival) {N : Type 0} (channels : N → List (Text × Joining))
     (new : Option N) → option_map channels new ≡ lost_by v x
     → IfSome new (λ n. T (fin.is_sorted bytes_cmp (channels n)))
-sorted_new v x channels None e = tt
-sorted_new v (Received line) channels (Some n) e = cc
-sorted_new v Lost channels (Some n) e =
-    let is : channels n ≡ channels_of_view v = cc in
-    rw (is, ← entries-shown bytes_cmp joining_of v.channels)
-    (fin.entries_sorted (shown joining_of v.channels))
+sorted_new v x channels new e =
+    grind (arith, entries-shown bytes_cmp joining_of, fin.entries_sorted)
 
 -- ---- an item more
 
@@ -179,33 +157,28 @@ lost_step (Received line) older c = refl
 lost_step Lost older c = rw found_in_view refl
 
 -- what answers as they do after one more item is them
-pub lost_are : (items : List Arrival) (x : Arrival) (m : Joinings)
-    → ((c : Text) → fin.get m c
+pub lost_are : (items : List Arrival) (x : Arrival) (m : Joinings) → ((c : Text) → fin.get m c
     ≡ lost_then (lost_by (view_of items) x) (settles (view_of items) x c) c
     (fin.get (lost_channels items) c)) → m ≡ lost_channels (items ++ x ∷ [])
 unfolding view_of
-lost_are items x m is =
-    same_by_keys (λ c. rw (is c, lost_get (items ++ x ∷ []) c, lost_get items c, reverse-append)
-    (sym (lost_step x (reverse items) c)))
+lost_are items x m is = same_by_keys (λ c. grind (arith, is c, lost_get, reverse-append, lost_step))
 
 -- before any item there is nothing to join again
 pub no_loss : lost_channels [] ≡ fin.empty
-no_loss = same_by_keys (λ c. lost_get [] c ∙ sym (fin.get-empty bytes_cmp c))
+no_loss = same_by_keys (λ c. grind (arith, lost_get, fin.get-empty))
 
 -- where an item adds channels it takes none off
 pub settled_as : (v : View) (x : Arrival) (c : Text) (off : Bool) (before : Option Joining)
     → lost_then None off c before ≡ lost_then None (settles v x c) c before
     → lost_then (lost_by v x) off c before ≡ lost_then (lost_by v x) (settles v x c) c before
-settled_as v (Received line) c off before e = e
-settled_as v Lost c off before e = refl
+settled_as v x c off before e = grind arith
 
 -- ---- channels put in their places
 
-pub put_in : (m : Joinings) (es : List (Text × Joining)) (c : Text)
-    → T (fin.is_sorted bytes_cmp es)
+pub put_in : (m : Joinings) (es : List (Text × Joining)) (c : Text) → T (fin.is_sorted bytes_cmp es)
     → fin.get (put_all m es) c ≡ option_or (fin.find bytes_cmp c es) (fin.get m c)
 put_in m [] c h = refl
 put_in m (e ∷ es) c h =
-    let rest = put_in (fin.insert m e.0 e.1) es c (second _ _ h) in
     let none = none_below bytes_cmp bytes_exact e.0 es in
-    grind (arith, rest, none, fin.get-insert nat_list_cmp_total m e.0 e.1 c, is_same c e.0, h)
+    let put = fin.get-insert nat_list_cmp_total m e.0 e.1 c in
+    grind (arith, put_in (fin.insert m e.0 e.1) es c, none, put, is_same c e.0)

@@ -1,70 +1,61 @@
 -- The running fact goes on.
 use Rattle.hub_core.proofs.Words
-use Words.{[], agreement_stays, Agrees, ap, append-nil, arith, Arrival, arrivals, as_received, Bool}
-use Words.{burst_agrees, burst_of, Came, Caps, cond, content, content_said, Delivered, EachFits}
-use Words.{empty, entry_for, EntryParts, false, filter_map, Fits, flat_map-append, heard, held}
-use Words.{HubState, IfSome, is_message_command, is_online, is_some, IsRunning, IsSome, IsTrue}
-use Words.{IsWrittenEntry, Joinings, length, length-append, lines_sent, List, lost_channels}
-use Words.{map-append, Messages, missed_by, NameMarks, None, Option, option_map, option_map_or}
-use Words.{option_or, option_to_list, OutletState, packet_for, packet_of, Parts, refl, refusal_of}
-use Words.{says_online, Sends, SessionState, Some, sym, take_all, take_at, Takes, time_text_of}
-use Words.{Took, true, View, view_now, view_of, with_caps, with_entry, with_outlet, ℕ, ◌++◌, ◌+◌}
-use Words.{◌-◌, ◌<◌, ◌^◌, ◌∙◌, ◌∷◌, ◌≡◌}
-use Rattle.hub_core.proofs.Kept.{adds_heard, adds_said, entry_is_message, filter_more}
-use Rattle.hub_core.proofs.Kept.{missed_are_messages, numbered_start, numbered_step, pong_unsaid}
-use Rattle.hub_core.proofs.Kept.{puts_unsaid}
-use Rattle.hub_core.proofs.{Each.each_append, Each.each_sent, LostChannels.no_loss}
-use Rattle.hub_core.specs.Pumping.{Comes, Next}
-use Rattle.hub_core.specs.{Running.content_heard, Running.messages_of, States.less, States.started}
-use Rattle.net_view.{proofs.StepLaw.view_start, specs.LookBack.last_in, specs.View.empty_view}
+use Words.{[], append-nil, arith, Arrival, as_received, Bool, Came, Caps, content_said, Delivered}
+use Words.{EachFits, entry_for, EntryParts, false, filter_map, Fits, heard, HubState, IfSome}
+use Words.{is_message_command, is_online, is_some, IsSome, length-append, lines_sent, List}
+use Words.{lost_channels, map-append, Messages, None, Option, option_map, option_map_or}
+use Words.{option_to_list, OutletState, packet_for, packet_of, Parts, refl, Sends, SessionState}
+use Words.{Some, time_text_of, Took, true, View, view_now, view_of, with_entry, with_outlet, ℕ}
+use Words.{◌++◌, ◌<◌, ◌∙◌, ◌∷◌, ◌≡◌}
+use Rattle.client_caps.{proofs.ImageLaw.agreement_stays, specs.Caps.held}
+use Rattle.history.specs.{Entry.IsWrittenEntry, Marks.NameMarks, Messages.missed_by}
+use Rattle.hub_core.proofs.{Each.{each_append, each_sent}, Kept.{adds_heard, adds_said}}
+use Rattle.hub_core.proofs.Kept.{entry_is_message, filter_more, missed_are_messages, numbered_start}
+use Rattle.hub_core.proofs.{Kept.{numbered_step, pong_unsaid, puts_unsaid}, LostChannels.no_loss}
+use Rattle.hub_core.specs.{Attaching.refusal_of, Given.with_caps, LostChannels.Joinings}
+use Rattle.hub_core.specs.{Online.says_online, Pumping.{Comes, Next, Takes}, Running.IsRunning}
+use Rattle.hub_core.specs.{Running.{content, content_heard, messages_of}, States.{less, started}}
+use Rattle.{hub_ends.specs.Came.arrivals, net_view.{proofs.StepLaw.view_start, specs.Agrees.Agrees}}
+use Rattle.{net_view.specs.{LookBack.last_in, View.empty_view}, std.proofs.Common.{cond, ◌^◌}}
+use Rattle.std.{proofs.lemmas.{Grind.flat_map-append, List.{take_all, take_at}}, specs.FinMap.empty}
+use Rattle.{std.specs.{Option.option_or, Prelude.IsTrue}, welcome.proofs.BurstLaw.burst_agrees}
+use Rattle.welcome.specs.Playback.{burst_of}
 
 -- ---- what was heard
 
 pub less_none : (xs : List Came) → less xs None ≡ xs
-less_none xs = take_all (length xs - 0) xs (omega arith)
+less_none xs = grind (arith, take_all)
 
 pub less_some : (xs : List Came) (x y : Came) → less (xs ++ x ∷ []) (Some y) ≡ xs
-less_some xs x y =
-    let n = length-append xs (x ∷ []) in
-    take_at xs (x ∷ []) (length (xs ++ x ∷ []) - 1) (omega arith)
+less_some xs x y = grind (arith, length-append xs (x ∷ []), take_at)
 
 -- what was taken is what was heard, and then the item
 pub next_taken : (alone : Bool) (taken : List Came) (held : Option Came) (ahead : List Came)
     (x : Came) (now later : List Came) → taken ≡ less taken held ++ option_to_list held
     → now ≡ taken ++ cond (is_some held) [] (x ∷ []) → Comes alone held ahead x later
     → now ≡ less taken held ++ x ∷ []
-next_taken alone taken held ahead x now later last e comes =
-    grind (arith, append-nil, last, e, comes)
+next_taken alone taken held ahead x now later last e comes = grind (arith, append-nil)
 
 pub heard_more : (done : List Came) (x : Came) (now : List Came) → now ≡ done ++ x ∷ []
     → arrivals (less now None) ≡ arrivals done ++ x.0 ∷ []
-heard_more done x now e =
-    ap arrivals (less_none now ∙ e) ∙ map-append (λ (c : Came). c.0) done (x ∷ [])
+heard_more done x now e = grind (arith, less_none, map-append)
 
 pub heard_still : (done : List Came) (x : Came) (now : List Came) → now ≡ done ++ x ∷ []
     → arrivals (less now (Some x)) ≡ arrivals done
-heard_still done x now e = ap (λ l. arrivals (less l (Some x))) e ∙ ap arrivals (less_some done x x)
+heard_still done x now e = grind (arith, less_some done x x)
 
 -- ---- a new hub
 
 pub started_runs : (ahead : List Came) (o : OutletState) (capacity first session : ℕ) → o.sent ≡ []
-    → first < 2 ^ 64
-    → IsRunning (started ahead o capacity first session) empty_view false empty
-started_runs ahead o capacity first session none small = record {
-  held_last = refl;
-  view_is = sym view_start;
-  online_is = refl;
-  lost_is = sym no_loss;
-  fit = tt;
-  numbered = rw none (numbered_start capacity first small);
-}
+    → first < 2 ^ 64 → IsRunning (started ahead o capacity first session) empty_view false empty
+started_runs ahead o capacity first session none small =
+    grind (arith, view_start, no_loss, numbered_start)
 
 -- ---- what sessions were sent
 
 pub sent_is : (alone : Bool) (o : OutletState) (p : Option (List Parts)) (o' : OutletState)
     → Sends alone o p o' → (o'.sent ≡ o.sent ++ option_to_list p) × (o'.closed ≡ o.closed)
-sent_is alone o None o' e = (rw e (sym (append-nil o.sent)), rw e refl)
-sent_is alone o (Some p) o' t = (t.sent, t.closed)
+sent_is alone o p o' e = grind (arith, append-nil)
 
 -- the lines of a packet, if there is one
 abbrev pub lines_in : Option (List Parts) → List Parts
@@ -77,8 +68,7 @@ in_packet (line ∷ lines) = refl
 
 lines_more : (packets : List (List Parts)) (p : Option (List Parts))
     → lines_sent (packets ++ option_to_list p) ≡ lines_sent packets ++ lines_in p
-lines_more packets p =
-    grind (arith, append-nil, flat_map-append (λ (p : List Parts). p) packets (option_to_list p))
+lines_more packets p = grind (arith, append-nil, flat_map-append)
 
 -- a session was sent a packet, and its client reads it so
 pub fits_sent : (alone : Bool) (v : View) (s : SessionState) (caps : Caps) (o : OutletState)
@@ -87,8 +77,7 @@ pub fits_sent : (alone : Bool) (v : View) (s : SessionState) (caps : Caps) (o : 
     (view_of (as_received (lines_sent s.outlet.sent) ++ as_received (lines_in p))) v
     → Fits v (with_caps s caps o)
 fits_sent alone v s caps o p sends opened agrees =
-    let e = sent_is alone s.outlet p o sends in
-    (rw (e.0, lines_more, map-append) agrees, e.1 ∙ opened)
+    grind (arith, sent_is alone s.outlet p o, lines_more, map-append)
 
 -- its outlet is another, which was sent the same
 pub fits_same : (v : View) (s : SessionState) (o : OutletState) → o.sent ≡ s.outlet.sent
@@ -96,14 +85,13 @@ pub fits_same : (v : View) (s : SessionState) (o : OutletState) → o.sent ≡ s
 fits_same v s o sent closed fit = (rw sent fit.0, closed ∙ fit.1)
 
 pub each_fits_after : (alone : Bool) (items : List Arrival) (x : Came) (ss ts : List SessionState)
-    → EachFits (view_of items) ss
-    → Delivered alone (λ s. packet_for (view_of items) x s.caps) ss ts
+    → EachFits (view_of items) ss → Delivered alone (λ s. packet_for (view_of items) x s.caps) ss ts
     → EachFits (view_of (items ++ x.0 ∷ [])) ts
 each_fits_after alone items x ss ts fit d =
     each_sent (Fits (view_of items)) (Fits (view_of (items ++ x.0 ∷ []))) alone _ ss ts
-    (λ s o here sends. fits_sent alone _ s s.caps o _ sends here.1 (rw in_packet
-    (agreement_stays (as_received (lines_sent s.outlet.sent)) items s.caps (time_text_of x.1) x.0
-    here.0))) fit d
+    (λ s o here sends. let sent = as_received (lines_sent s.outlet.sent) in
+    let stays = agreement_stays sent items s.caps (time_text_of x.1) x.0 in
+    grind (arith, fits_sent, in_packet, stays)) fit d
 
 -- ---- online
 
@@ -114,7 +102,7 @@ last_more says (c ∷ bs) b = grind (arith, last_more says bs b)
 
 pub online_more : (items : List Arrival) (x : Arrival)
     → option_map_or (λ said. said) (says_online x) (is_online items) ≡ is_online (items ++ x ∷ [])
-online_more items x = grind (arith, last_more says_online items x)
+online_more items x = grind (arith, last_more says_online)
 
 -- ---- an item more
 
@@ -129,17 +117,7 @@ module _ {alone : Bool} {h h' : HubState} {v : View} {online : Bool} {lost : Joi
   pub holds_on : (w : View) (lost' : Joinings) → w ≡ v → lost' ≡ lost → h'.held ≡ Some x
       → h'.sessions ≡ h.sessions → h'.history ≡ h.history → h'.first ≡ h.first
       → h'.upstream.sent ≡ h.upstream.sent → IsRunning h' w online lost'
-  holds_on w lost' same still e s k f u =
-      let l : less h'.taken h'.held ≡ less h.taken h.held =
-      rw (e, now) (less_some (less h.taken h.held) x x) in
-      record {
-        held_last = rw (l, e) now;
-        view_is = rw (same, l) run.view_is;
-        online_is = rw l run.online_is;
-        lost_is = rw (still, l) run.lost_is;
-        fit = rw (same, s) run.fit;
-        numbered = rw (l, u, f, k) run.numbered;
-      }
+  holds_on w lost' same still e s k f u = grind (arith, now, less_some)
 
 module _ {alone outlet : Bool} {h h' : HubState} {v : View} {online : Bool} {lost : Joinings}
     {cut : ℕ} (t : Takes alone outlet h cut h') (run : IsRunning h v online lost) where
@@ -148,27 +126,25 @@ module _ {alone outlet : Bool} {h h' : HubState} {v : View} {online : Bool} {los
 
   -- it was dealt with
   pub goes_on : (w : View) (online' : Bool) (lost' : Joinings)
-      → w ≡ view_of (heard h ++ t.item.0 ∷ [])
-      → online' ≡ option_map_or (λ said. said) (says_online t.item.0) online
-      → lost' ≡ lost_channels (heard h ++ t.item.0 ∷ []) → IfSome (entry_for t.item) IsWrittenEntry
-      → IsRunning h' w online' lost'
+      → w ≡ view_of (heard h ++ t.item.0 ∷ []) → online' ≡ option_map_or (λ said. said)
+      (says_online t.item.0) online → lost' ≡ lost_channels (heard h ++ t.item.0 ∷ [])
+      → IfSome (entry_for t.item) IsWrittenEntry → IsRunning h' w online' lost'
   goes_on w online' lost' view on left written =
-      let then : heard h' ≡ heard h ++ t.item.0 ∷ [] =
-      rw t.held (heard_more (less h.taken h.held) t.item h'.taken taken) in
-      let first : h'.first ≡ h.first = ap (λ (k : HubState). k.first) t.others in
+      let then : heard h' ≡ heard h ++ t.item.0 ∷ [] = grind (arith, taken, heard_more, t.held) in
       let quiet = puts_unsaid outlet _ _ _ (pong_unsaid t.item.0) t.upstream in
       let here = filter_map content_heard (less h.taken h.held) in
+      let fits = each_fits_after outlet (heard h) t.item h.sessions h'.sessions in
+      let step = numbered_step (messages_of h) _ h.first h.history (entry_for t.item)
+      (adds_heard here (filter_map content_said h.upstream.sent) (content_heard t.item))
+      t.number (entry_is_message t.item) written run.numbered in
       record {
-        held_last = rw t.held (sym (append-nil (less h'.taken None) ∙ less_none h'.taken));
+        held_last = grind (arith, t.held, append-nil, less_none);
         view_is = rw then view;
-        online_is = rw (then, on, run.online_is) (online_more (heard h) t.item.0);
+        online_is = grind (arith, then, on, run.online_is, online_more (heard h) t.item.0);
         lost_is = rw then left;
-        fit = rw view (each_fits_after outlet (heard h) t.item h.sessions h'.sessions
-            (rw run.view_is at run.fit) t.sessions);
-        numbered = rw (t.held, less_none, taken, quiet, first, t.history, filter_more content_heard)
-            (numbered_step (messages_of h) _ h.first h.history (entry_for t.item)
-            (adds_heard here (filter_map content_said h.upstream.sent) (content_heard t.item))
-            t.number (entry_is_message t.item) written run.numbered);
+        fit = rw view (fits (rw run.view_is at run.fit) t.sessions);
+        numbered = let more = filter_more content_heard in
+            grind (arith, t.held, less_none, taken, quiet, t.others, t.history, more, step);
       }
 
 -- ---- a session more, a session less
@@ -181,15 +157,7 @@ pub runs_with : {h : HubState} {v : View} {online : Bool} {lost : Joinings}
     → EachFits v ss
     → IsRunning record h { sessions = ss; next = next; upstream = upstream; marks = marks } v online
     lost
-runs_with ss next upstream marks run u fit =
-    record {
-      held_last = run.held_last;
-      view_is = run.view_is;
-      online_is = run.online_is;
-      lost_is = run.lost_is;
-      fit = fit;
-      numbered = rw u run.numbered;
-    }
+runs_with ss next upstream marks run u fit = grind arith
 
 -- the burst is read as the view
 pub attached_fits : (alone : Bool) (h : HubState) (v : View) (online : Bool) {lost : Joinings}
@@ -200,10 +168,7 @@ pub attached_fits : (alone : Bool) (h : HubState) (v : View) (online : Bool) {lo
 attached_fits alone h v online caps name mark id o o' run ready fresh unclosed took =
     let agrees = burst_agrees (heard h) caps (missed_by mark h.history) (rw run.view_is at ready)
     (missed_are_messages mark h.history.kept run.numbered.messages) in
-    each_append (Fits v) h.sessions _ run.fit (
-      (rw (took.sent, fresh, append-nil, run.view_is) agrees, took.closed ∙ unclosed),
-      tt,
-    )
+    each_append (Fits v) h.sessions _ run.fit (grind (arith, agrees, append-nil, run.view_is), tt)
 
 -- who is attached comes to a network that is ready
 pub is_ready : (h : HubState) (name : Option (List ℕ)) → refusal_of h name ≡ None
@@ -222,13 +187,6 @@ pub said_on : (h : HubState) (v : View) (online : Bool) {lost : Joinings}
     v online lost
 said_on h v online ss upstream history images e p run k u c some is written fit =
     let here = filter_map content_heard (less h.taken h.held) in
-    let said = filter_map content_said h.upstream.sent in
-    record {
-      held_last = run.held_last;
-      view_is = run.view_is;
-      online_is = run.online_is;
-      lost_is = run.lost_is;
-      fit = fit;
-      numbered = rw (u, filter_more content_said, c, k) (numbered_step (messages_of h) _ h.first
-          h.history e (adds_said here said (option_map content e)) some is written run.numbered);
-    }
+    let adds = adds_said here (filter_map content_said h.upstream.sent) (option_map content e) in
+    let step = numbered_step (messages_of h) _ h.first h.history e adds some is written in
+    grind (arith, filter_more content_said, step)

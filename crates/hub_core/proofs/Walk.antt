@@ -1,111 +1,117 @@
 -- Walks over all sessions: from the last to the first, and one that learns how much room there is.
 use Rattle.hub_core.proofs.Words
-use Words.{[], add-one, AllByRecursion, ap, AreFreed, arith, Bool, Delivered, drop, drop-cons}
-use Words.{EachFits, filter, filter-append, FindsRoom, Full, get_or, get_or-map, get_or-take}
-use Words.{if◌then◌else◌, inl, inr, length, length-append, length-map, length-set, List, map}
-use Words.{map-append, map-set, nearly_full, None, Option, OutletState, Parts, refl, remove, Sends}
-use Words.{SessionState, set, suc, sym, take, take-take, take_at, take_more_set, View, with_outlet}
-use Words.{zero, ℕ, ◌++◌, ◌+◌, ◌-◌, ◌<◌, ◌∙◌, ◌∷◌, ◌≡◌, ◌≤◌}
-use Rattle.hub_core.{proofs.Running.fits_same, specs.Upkeep.is_nearly_full}
-use Rattle.std.proofs.lemmas.List.{drop-set, drop-set-lt, drop_at, length-take-le, take-set}
+use Words.{[], AllByRecursion, ap, arith, Bool, Delivered, EachFits, get_or, inl, inr, length}
+use Words.{length-map, List, map, map-append, None, Option, Parts, refl, Sends}
+use Words.{SessionState, set, sym, take, View, with_outlet, ℕ, ◌++◌, ◌+◌, ◌-◌, ◌<◌, ◌∙◌, ◌∷◌, ◌≡◌}
+use Words.{append-nil, append_assoc, if◌then◌else◌, reverse}
+use Rattle.hub_core.{proofs.Running.fits_same, specs.{Given.Full, Upkeep.AreFreed}}
+use Rattle.{hub_core.specs.Upkeep.{is_nearly_full, nearly_full}, hub_ends.specs.Outlets.FindsRoom}
+use Rattle.std.proofs.{Common.{suc, zero}, Math.Seq.{get_or-append_seam, set-append_seam}}
+use Rattle.std.proofs.lemmas.{Grind.reverse_onto, List.Edits.remove-append_right}
+use Rattle.std.proofs.lemmas.List.{Elements.filter-append, get_or-map, length-reverse, map-set}
+use Rattle.std.proofs.lemmas.List.{nil_from_length, reverse-reverse, take_more_set}
+use Rattle.std.specs.List.{remove}
 
 module _ {S : Type 0} (state : S → SessionState) (coming : S → Option (List Parts))
     (alone : Bool) where
-  -- the sessions from the i-th on were dealt with
+  -- those behind the first i were dealt with; the first i are left, as they were
   pub record IsPartWay (olds now : List S) (i : ℕ) : Type 0 where
-    pub front : take i now ≡ take i olds
-    pub olds_long : i ≤ length olds
-    pub now_long : i ≤ length now
-    pub done : (give : SessionState → Option (List Parts))
-        → AllByRecursion (λ s. coming s ≡ give (state s)) (drop i olds)
-        → Delivered alone give (map state (drop i olds)) (map state (drop i now))
-    pub cleared : AllByRecursion (λ s. coming s ≡ None) (drop i now)
+    -- the last one first
+    pub left : List S
+    pub behind : List S
+    pub done : List S
+    pub count : length left ≡ i
+    pub olds_are : olds ≡ reverse left ++ behind
+    pub now_are : now ≡ reverse left ++ done
+    pub given : (give : SessionState → Option (List Parts))
+        → AllByRecursion (λ s. coming s ≡ give (state s)) behind
+        → Delivered alone give (map state behind) (map state done)
+    pub cleared : AllByRecursion (λ s. coming s ≡ None) done
+
+  pub begun : (olds : List S) (i : ℕ) → length olds ≡ i → IsPartWay olds olds i
+  begun olds i long = record {
+    left = reverse olds;
+    behind = [];
+    done = [];
+    count = length-reverse olds ∙ long;
+    olds_are = simp (reverse-reverse, append-nil);
+    now_are = simp (reverse-reverse, append-nil);
+    given = λ give all. refl;
+    cleared = tt;
+  }
+
+  -- none is left
+  pub all_done : (olds now : List S) (i : ℕ) → i ≡ 0 → IsPartWay olds now i
+      → ((give : SessionState → Option (List Parts)) → AllByRecursion
+      (λ s. coming s ≡ give (state s)) olds → Delivered alone give (map state olds) (map state now))
+      × AllByRecursion (λ s. coming s ≡ None) now
+  all_done olds now i none w =
+      let nil = nil_from_length w.left (w.count ∙ none) in
+      rw (rw nil at w.olds_are, rw nil at w.now_are) (w.given, w.cleared)
+
+  turn : (x : S) (r ys : List S) → reverse (x ∷ r) ++ ys ≡ reverse r ++ x ∷ ys
+  turn x r ys = grind (arith, reverse_onto, append_assoc {A = S})
 
   module _ (olds now : List S) (i : ℕ) (s t : S) (w : IsPartWay olds now i) (some : 0 < i)
       (is : s ≡ get_or now (i - 1) s) where
-    next : suc (i - 1) ≡ i
-    next = omega arith
+    -- the last one that is left
+    last : (r : List S) × (w.left ≡ s ∷ r) × (length (reverse r) ≡ i - 1)
+    last = of w.left w.count w.now_are where
+      of : (l : List S) → length l ≡ i → now ≡ reverse l ++ w.done
+          → (r : List S) × (l ≡ s ∷ r) × (length (reverse r) ≡ i - 1)
+      of [] c e = absurd (omega arith)
+      of (x ∷ r) c e =
+          let long : length (reverse r) ≡ i - 1 = omega (arith, length-reverse r) in
+          let here : s ≡ x = rw (e, turn x r w.done, ← long, get_or-append_seam) at is in
+          (r, ap (λ x. x ∷ r) (sym here), long)
 
-    -- the session before the i-th is as it was
-    olds_here : drop (i - 1) olds ≡ s ∷ drop i olds
-    olds_here =
-        let mine = get_or-take i now (i - 1) s (omega arith) in
-        let old = get_or-take i olds (i - 1) s (omega arith) in
-        let front = w.front in
-        let at : get_or olds (i - 1) s ≡ s = cc in
-        drop-cons olds (i - 1) s (let l = w.olds_long in omega arith)
-        ∙ (λ k. at k ∷ drop (next k) olds)
+    -- this became of it
+    on : (new done : List S) → new ≡ reverse (last.0) ++ done
+        → ((give : SessionState → Option (List Parts)) → coming s ≡ give (state s)
+        → Delivered alone give (map state w.behind) (map state w.done)
+        → Delivered alone give (map state (s ∷ w.behind)) (map state done))
+        → AllByRecursion (λ s. coming s ≡ None) done → IsPartWay olds new (i - 1)
+    on new done are one clear = record {
+      left = last.0;
+      behind = s ∷ w.behind;
+      done = done;
+      count = sym (length-reverse (last.0)) ∙ last.2;
+      olds_are = rw (last.1, turn) at w.olds_are;
+      now_are = are;
+      given = λ give all. one give all.0 (w.given give all.1);
+      cleared = clear;
+    }
 
-    fronts : take (i - 1) now ≡ take (i - 1) olds
-    fronts =
-        sym (take-take (i - 1) i now (omega arith)) ∙ ap (take (i - 1)) w.front
-        ∙ take-take (i - 1) i olds (omega arith)
-
-    within : i - 1 < length now
-    within = let l = w.now_long in omega arith
+    now_then : set now (i - 1) t ≡ reverse (last.0) ++ t ∷ w.done
+    now_then = grind (arith, w.now_are, last, turn, set-append_seam (reverse (last.0)) s w.done t)
 
     -- it was sent what it is given
     pub goes_on : Sends alone (state s).outlet (coming s) (state t).outlet
         → state t ≡ with_outlet (state s) (state t).outlet → coming t ≡ None
         → IsPartWay olds (set now (i - 1) t) (i - 1)
     goes_on sends same clear =
-        let left : drop (i - 1) (set now (i - 1) t) ≡ t ∷ drop i now =
-        drop-set now (i - 1) t within ∙ ap (λ n. t ∷ drop n now) (add-one (i - 1) ∙ next) in
-        record {
-          front = take-set now (i - 1) t ∙ fronts;
-          olds_long = let l = w.olds_long in omega arith;
-          now_long = let n = length-set now (i - 1) t in let l = within in omega arith;
-          done = λ give all. let each = rw olds_here at all in
-              rw (olds_here, left) (inl (
-                (state t).outlet,
-                map state (drop i now),
-                ap (λ x. x ∷ map state (drop i now)) same,
-                rw (← each.0) sends,
-                w.done give each.1,
-              ));
-          cleared = rw left (clear, w.cleared);
-        }
+        on _ (t ∷ w.done) now_then (λ give e d. inl (
+          (state t).outlet,
+          map state w.done,
+          ap (λ x. x ∷ map state w.done) same,
+          rw (← e) sends,
+          d,
+        )) (clear, w.cleared)
 
     -- what it was to be sent found no room
     pub cuts_on : Full (state s).outlet (coming s)
         → IsPartWay olds (remove (set now (i - 1) t) (i - 1)) (i - 1)
     cuts_on full =
-        let gone : remove (set now (i - 1) t) (i - 1) ≡ take (i - 1) now ++ drop i now =
-        λ k. take-set now (i - 1) t k
-        ++ (drop-set-lt (suc (i - 1)) now (i - 1) t (omega arith) ∙ ap (λ n. drop n now) next) k in
-        let long = length-take-le (i - 1) now (let l = within in omega arith) in
-        let left : drop (i - 1) (remove (set now (i - 1) t) (i - 1)) ≡ drop i now =
-        ap (drop (i - 1)) gone ∙ drop_at (take (i - 1) now) (drop i now) (i - 1) long in
-        record {
-          front = ap (take (i - 1)) gone ∙ take_at (take (i - 1) now) (drop i now) (i - 1) long
-              ∙ fronts;
-          olds_long = let l = w.olds_long in omega arith;
-          now_long = let n = ap length gone in
-              let m = length-append (take (i - 1) now) (drop i now) in omega arith;
-          done = λ give all. let each = rw olds_here at all in
-              rw (olds_here, left) (inr (rw (← each.0) full, w.done give each.1));
-          cleared = rw left w.cleared;
-        }
+        let none : (i - 1) - (i - 1) ≡ 0 = omega arith in
+        let cut = remove-append_right _ (t ∷ w.done) _ (i - 1) (last.2) (omega arith) in
+        on _ w.done (ap (λ l. remove l (i - 1)) now_then ∙ rw none at cut)
+        (λ give e d. inr (rw (← e) full, d)) w.cleared
 
 -- ---- room
 
-finds_none : (alone : Bool) (o : OutletState) → FindsRoom alone o o
-finds_none alone o =
-    record { sent = refl; closed = refl; capacity = refl; more = omega arith; room = λ e. refl }
-
 pub freed_not : (alone : Bool) (ss : List SessionState) → AreFreed alone ss ss
 freed_not alone [] = refl
-freed_not alone (s ∷ ss) = (s.outlet, ss, finds_none alone s.outlet, refl, freed_not alone ss)
-
-finds_more : (alone : Bool) (o m o' : OutletState) → FindsRoom alone o m → FindsRoom alone m o'
-    → FindsRoom alone o o'
-finds_more alone o m o' f g = record {
-  sent = g.sent ∙ f.sent;
-  closed = g.closed ∙ f.closed;
-  capacity = g.capacity ∙ f.capacity;
-  more = omega (arith, f.more, g.more);
-  room = λ e. g.room e ∙ f.room e;
-}
+freed_not alone (s ∷ ss) = (s.outlet, ss, grind arith, refl, freed_not alone ss)
 
 -- one more was asked
 pub freed_set : (alone : Bool) (ss ts : List SessionState) (i : ℕ) (s t : SessionState)
@@ -114,14 +120,9 @@ pub freed_set : (alone : Bool) (ss ts : List SessionState) (i : ℕ) (s t : Sess
 freed_set alone [] ts i s t all less is same found = rw all refl
 freed_set alone (r ∷ ss) ts zero s t all less is same found =
     let here = rw all.3 at is in
-    let found' = finds_more alone r.outlet all.0 t.outlet all.2 (rw here at found) in
-    rw all.3 (
-      t.outlet,
-      all.1,
-      found',
-      (λ k. (same ∙ ap (λ s. with_outlet s t.outlet) here) k ∷ all.1),
-      all.4,
-    )
+    let both : FindsRoom alone r.outlet t.outlet = grind (arith, all.2, rw here at found) in
+    let now = same ∙ ap (λ s. with_outlet s t.outlet) here in
+    rw all.3 (t.outlet, all.1, both, (λ k. now k ∷ all.1), all.4)
 freed_set alone (r ∷ ss) ts (suc i) s t all less is same found =
     let within : i < length all.1 = omega (arith, rw all.3 at less) in
     let rest = freed_set alone ss all.1 i s t all.4 within (rw all.3 at is) same found in
@@ -131,9 +132,7 @@ freed_set alone (r ∷ ss) ts (suc i) s t all less is same found =
 pub fits_freed : (alone : Bool) (v : View) (ss ts : List SessionState) → AreFreed alone ss ts
     → EachFits v ss → EachFits v ts
 fits_freed alone v [] ts e fit = rw e tt
-fits_freed alone v (s ∷ ss) ts all fit =
-    let here = fits_same v s all.0 all.2.sent all.2.closed fit.0 in
-    rw all.3 (here, fits_freed alone v ss all.1 all.4 fit.1)
+fits_freed alone v (s ∷ ss) ts all fit = grind (arith, fits_same, fits_freed alone v ss)
 
 module _ {S : Type 0} (state : S → SessionState) (alone : Bool) where
   pub one_more : (olds now : List S) (i : ℕ) (s t : S) → i < length now → s ≡ get_or now i s
@@ -152,9 +151,5 @@ module _ {S : Type 0} (state : S → SessionState) (alone : Bool) where
       → numbers ++ (if b then (state t).id ∷ [] else [])
       ≡ nearly_full (map state (take (i + 1) (set now i t)))
   found_more now i t numbers b less e found =
-      let more = take_more_set now i t less in
-      let states = map-append state (take i now) (t ∷ []) in
-      let full = filter-append is_nearly_full (map state (take i now)) (state t ∷ []) in
-      let ids = map-append (λ (s : SessionState). s.id)
-      (filter is_nearly_full (map state (take i now))) in
-      grind (arith, more, states, full, ids, found, e)
+      let ids = map-append (λ (s : SessionState). s.id) in
+      grind (arith, take_more_set now i t less, map-append state, filter-append, ids, found, e)

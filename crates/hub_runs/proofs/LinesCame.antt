@@ -1,21 +1,24 @@
 -- Items: the lines of a stretch, the transcript of events, and what was taken of a list.
-use Rattle.hub_runs.proofs.Words
-use Words.{Came, Event, HubError, HubState, List, Lost, Option, Parts, Piece, Pumped, Received}
-use Words.{RefusesAmong, RefusesItem, Stops, TakesAll, TakesIn, WorldState, [], all_but_last, ap}
-use Words.{append-nil, append_assoc, append_snoc, arith, cond, cons_option, count_by, ended_of}
-use Words.{false, filter_map, filter_map-append, flat_map-append, inr, is_over, items_of, joined}
-use Words.{length, length-append, length-replicate, length-slice_split, lf_moments, line_came}
-use Words.{line_of, lines_at, lines_came, map, option_map, parts-append, refl, replicate}
-use Words.{rest-append, rest_behind, rest_of, segments_of, stop_of, sum_by-append, sym}
-use Words.{transcript_after, transcript_of, without_cr, zip, ℕ, ◌++◌, ◌+◌, ◌-◌, ◌==◌, ◌∙◌, ◌∷◌, ◌≡◌}
 use Rattle.hub_runs.specs.declared.event.Event.TheVariants as on
 use Rattle.hub_core.specs.declared.hub.HubError.TheVariants as fault
+use Rattle.hub_runs.proofs.Words.{Came, Event, HubError, HubState, List, Lost, Option, Parts}
+use Rattle.hub_runs.proofs.Words.{Pumped, Received, TakesAll, TakesIn, WorldState, [], ap}
+use Rattle.hub_runs.proofs.Words.{append-nil, append_assoc, arith, cond, false, inr, items_of}
+use Rattle.hub_runs.proofs.Words.{length, length-append, map, refl, sym, ℕ, ◌++◌, ◌+◌, ◌-◌, ◌==◌}
+use Rattle.hub_runs.{proofs.Words.{◌∙◌, ◌∷◌, ◌≡◌}, specs.Transcripts.{Piece, joined, lf_moments}}
+use Rattle.hub_runs.specs.Transcripts.{line_came, lines_came, transcript_after, transcript_of}
+use Rattle.hub_runs.specs.Worlds.{RefusesAmong, RefusesItem, Stops, is_over, lines_at, rest_behind}
+use Rattle.{hub_runs.specs.Worlds.stop_of, irc_line.proofs.Pieces.{parts-append, rest-append}}
+use Rattle.irc_line.specs.Lines.{all_but_last, ended_of, rest_of, segments_of, without_cr}
+use Rattle.{irc_line.specs.Reading.line_of, std.proofs.Common.{count_by, filter_map, option_map}}
+use Rattle.std.proofs.{Common.{replicate, zip}, Math.Seq.append_snoc, lemmas.Grind.flat_map-append}
+use Rattle.std.proofs.lemmas.List.{Elements.filter_map-append, Splits.length-slice_split}
+use Rattle.std.{proofs.lemmas.List.{Sums.sum_by-append, length-replicate}, specs.List.cons_option}
 
 zip-append : {K X : Type 0} (ks ls : List K) (xs ys : List X) → length ks ≡ length xs
     → zip (ks ++ ls) (xs ++ ys) ≡ zip ks xs ++ zip ls ys
 zip-append [] ls [] ys e = refl
-zip-append (k ∷ ks) ls (x ∷ xs) ys e =
-    ap (λ l. (k, x) ∷ l) (zip-append ks ls xs ys (omega arith))
+zip-append (k ∷ ks) ls (x ∷ xs) ys e = grind (arith, zip-append ks ls xs ys)
 zip-append _ ls _ ys e = absurd (omega arith)
 
 but_last-length : (xs : List (List ℕ)) → length (all_but_last xs) ≡ length xs - 1
@@ -36,11 +39,10 @@ lfs-append a b = sum_by-append (λ x. cond (x == 10) 1 0) a b
 moments-length : (ps : List Piece) → length (lf_moments ps) ≡ lfs (joined ps)
 moments-length [] = refl
 moments-length (p ∷ ps) =
-    simp (length-append, length-replicate, moments-length ps, lfs-append p.0 (joined ps))
+    grind (arith, length-append, length-replicate, moments-length ps, lfs-append)
 
-one_line : (moment : ℕ) (o : Option Parts) (ys : List Parts)
-    → cons_option {X = Came} (option_map (λ line. (Received line, moment)) o)
-    (map (λ line. (Received line, moment)) ys)
+one_line : (moment : ℕ) (o : Option Parts) (ys : List Parts) → cons_option {X = Came}
+    (option_map (λ line. (Received line, moment)) o) (map (λ line. (Received line, moment)) ys)
     ≡ map (λ line. (Received line, moment)) (cons_option o ys)
 one_line moment o ys = grind arith
 
@@ -49,9 +51,7 @@ at_once : (moment : ℕ) (segments : List (List ℕ))
     ≡ map (λ line. (Received line, moment))
     (filter_map (λ segment. line_of (without_cr segment)) segments)
 at_once moment [] = refl
-at_once moment (s ∷ ss) =
-    ap (cons_option (line_came (s, moment))) (at_once moment ss)
-    ∙ one_line moment (line_of (without_cr s)) _
+at_once moment (s ∷ ss) = grind (arith, at_once moment ss, one_line)
 
 joined_more : (ps : List Piece) (p : Piece) → joined (ps ++ p ∷ []) ≡ joined ps ++ p.0
 joined_more ps p = simp (flat_map-append (λ (q : Piece). q.0) ps (p ∷ []), append-nil)
@@ -64,21 +64,24 @@ moments_more ps p =
 -- behind the rest of the pieces stand as many segments that an LF ends as the new one has LFs
 new_segments : (a b : List ℕ) → lfs b ≡ length (ended_of (rest_of a ++ b))
 new_segments a b =
-    let e = simp length-append at (ap length (parts-append a b)) in
-    omega (e, ended-length (a ++ b), ended-length a, lfs-append a b, arith)
+    omega (
+      simp length-append at (ap length (parts-append a b)),
+      ended-length (a ++ b),
+      ended-length a,
+      lfs-append a b,
+      arith,
+    )
 
 lines_more : (ps : List Piece) (p : Piece)
     → lines_came (ps ++ p ∷ []) ≡ lines_came ps ++ lines_at (rest_of (joined ps) ++ p.0) p.1
 lines_more ps p =
     let a = joined ps in
-    let more = ended_of (rest_of a ++ p.0) in
     let k = replicate (lfs p.0) p.1 in
     let long = ended-length a ∙ sym (moments-length ps) in
-    rw (joined_more ps p, moments_more ps p, parts-append a p.0, zip-append _ more _ k long)
-    (filter_map-append line_came (zip (ended_of a) (lf_moments ps)) (zip more k)
-    ∙ ap (λ l. lines_came ps ++ l)
-    (ap (λ n. filter_map line_came (zip more (replicate n p.1))) (new_segments a p.0)
-    ∙ at_once p.1 more))
+    let zipped = zip-append (ended_of a) (ended_of (rest_of a ++ p.0)) (lf_moments ps) k long in
+    let more = filter_map-append line_came (zip (ended_of a) (lf_moments ps)) in
+    let new = new_segments a p.0 in
+    grind (arith, joined_more, moments_more, parts-append a p.0, zipped, more, new, at_once p.1)
 
 -- these items are the transcript of events, behind which these bytes are left
 pub record Heard (events : List Event) (items : List Came) (left : List ℕ) : Type 0 where
@@ -91,8 +94,7 @@ pub record Heard (events : List Event) (items : List Came) (left : List ℕ) : T
 
 pub transcript_is : (events : List Event) (items : List Came) (left : List ℕ)
     → Heard events items left → items ≡ transcript_of events
-transcript_is events items left k =
-    k.are ∙ (sym (k.split []) ∙ ap transcript_of (append-nil events))
+transcript_is events items left k = grind (arith, k.split [], append-nil)
 
 -- an event is done
 pub heard_on : (events : List Event) (items : List Came) (left : List ℕ) → Heard events items left
@@ -102,7 +104,7 @@ heard_on events items left k (on.Up bytes moment) =
     record {
       base = k.base;
       pieces = k.pieces ++ p ∷ [];
-      split = λ more. ap transcript_of (append_snoc events _ more) ∙ k.split _;
+      split = λ more. grind (arith, append_snoc events (on.Up bytes moment), k.split);
       are = rw (k.rest, k.are, lines_more k.pieces p) (append_assoc k.base (lines_came k.pieces) _);
       rest = rw (k.rest, joined_more k.pieces p) (sym (rest-append (joined k.pieces) p.0));
     }
@@ -135,7 +137,6 @@ refuses_one x e old new r =
 
 pub stops_among : (event : Event) (e : HubError) (w : WorldState) (taken : List Came)
     (new : HubState) → is_over event w.rest ≡ false
-    → RefusesAmong (items_of event w.rest) e w.hub taken new
-    → Stops event (stop_of e) w taken new
+    → RefusesAmong (items_of event w.rest) e w.hub taken new → Stops event (stop_of e) w taken new
 stops_among event fault.Spent w taken new short r = (short, r)
 stops_among event fault.OutOfMemory w taken new short r = (short, inr r)

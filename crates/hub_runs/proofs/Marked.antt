@@ -1,13 +1,18 @@
 -- What the network was sent, messages and marks, once one thing more has happened.
-use Rattle.hub_runs.proofs.Words
-use Words.{AreKnown, Asked, Bool, Came, Caps, Deed, Drained, Drains, EntryParts, IfSome, IsSome}
-use Words.{Joined, List, NameMarks, None, Option, OutletState, Parts, Puts, Some, Text, Took}
-use Words.{TookPacket, [], ap, append-nil, arith, bytes_cmp, caps_by, cond, contains_key, eq_by_cmp}
-use Words.{false, get, get-insert, history_of, insert, is_among, is_same, len, len-insert, length}
-use Words.{length-append, list_any-append, mark_left, mark_of, marked, meaning, names_then}
-use Words.{nat_list_cmp_total, nat_tests, one_more, option_map, option_map_or, option_to_list}
-use Words.{pong_for, refl, same_refl, session_then, sym, taken_out, true, up_by, upward, waiting}
-use Words.{with_entry, with_name, with_new, ℕ, ◌++◌, ◌+◌, ◌==◌, ◌||◌, ◌∙◌, ◌∷◌, ◌≡◌}
+use Rattle.history.{proofs.LastMessages.one_more, specs.{Entry.EntryParts, Marks.NameMarks}}
+use Rattle.history.specs.{Marks.{bytes_cmp, mark_of}, Messages.history_of}
+use Rattle.hub_core.specs.{Attaching.{marked, with_name}, InMemory.Drains, Pumping.{Puts, pong_for}}
+use Rattle.{hub_core.specs.Pumping.with_entry, hub_ends.specs.Outlets.Took as TookPacket}
+use Rattle.hub_runs.proofs.Words.{AreKnown, Asked, Bool, Came, Caps, Deed, Drained, IsSome, Joined}
+use Rattle.hub_runs.proofs.Words.{List, None, Option, OutletState, Parts, Some, Text, Took, [], ap}
+use Rattle.hub_runs.proofs.Words.{append-nil, arith, cond, false, length, length-append, meaning}
+use Rattle.hub_runs.proofs.Words.{names_then, nat_tests, option_to_list, refl, session_then, true}
+use Rattle.hub_runs.{proofs.Words.{ℕ, ◌++◌, ◌+◌, ◌==◌, ◌∷◌, ◌≡◌}, specs.Course.{caps_by, mark_left}}
+use Rattle.hub_runs.specs.{Course.{taken_out, up_by, upward, waiting}, Presence.is_among}
+use Rattle.{hub_runs.specs.Presence.with_new, net_view.proofs.Keys.{is_same, same_refl}}
+use Rattle.std.proofs.{Common.{IfSome, option_map, ◌||◌}, lemmas.List.Folds.list_any-append}
+use Rattle.std.specs.{Cmp.Lexicographic.nat_list_cmp_total, FinMap.{contains_key, get, get-insert}}
+use Rattle.std.specs.{FinMap.{insert, len, len-insert}, Option.option_map_or, Ordering.eq_by_cmp}
 
 -- an outlet to the network after what happened
 pub record Ups (up : ℕ) (ds : List Deed) (o : OutletState) : Type 0 where
@@ -18,14 +23,12 @@ pub record Ups (up : ℕ) (ds : List Deed) (o : OutletState) : Type 0 where
 
 module _ (up : ℕ) (ds : List Deed) (o : OutletState) (u : Ups up ds o) where
   -- nothing of it was for the network
-  pub ups_quiet : (d : Deed) → up_by up (waiting up ds) d ≡ [] → taken_out d ≡ 0
-      → Ups up (d ∷ ds) o
+  pub ups_quiet : (d : Deed) → up_by up (waiting up ds) d ≡ [] → taken_out d ≡ 0 → Ups up (d ∷ ds) o
   ups_quiet d nothing out = grind (arith, append-nil)
 
   -- one packet was
-  pub ups_one : (d : Deed) (o' : OutletState) (p : List Parts)
-      → up_by up (waiting up ds) d ≡ p ∷ [] → taken_out d ≡ 0 → TookPacket true o p o'
-      → Ups up (d ∷ ds) o'
+  pub ups_one : (d : Deed) (o' : OutletState) (p : List Parts) → up_by up (waiting up ds) d ≡ p ∷ []
+      → taken_out d ≡ 0 → TookPacket true o p o' → Ups up (d ∷ ds) o'
   ups_one d o' p one out t = grind arith
 
   -- an item was taken, and answered where there was room
@@ -88,22 +91,16 @@ named_count names marks name k =
 
 pub known_named : (names : List Text) (marks : NameMarks) (name : Option Text)
     → AreKnown names marks → AreKnown (with_new name names) (with_name name marks)
-known_named names marks name k = record {
-  each = λ q. named_there marks name q ∙ (ap (λ b. b || is_it q name) (k.each q)
-      ∙ sym (named_among names name q));
-  count = named_count names marks name k;
-}
+known_named names marks name k = grind (arith, named_there, named_among, named_count, k.each)
 
-pub known_marked : (names : List Text) (marks : NameMarks) (name : Option Text)
-    (number : Option ℕ) → Known marks name → AreKnown names marks
-    → AreKnown names (marked name number marks)
+pub known_marked : (names : List Text) (marks : NameMarks) (name : Option Text) (number : Option ℕ)
+    → Known marks name → AreKnown names marks → AreKnown names (marked name number marks)
 known_marked names marks None number known k = k
 known_marked names marks (Some n) None known k = k
-known_marked names marks (Some n) (Some number) known k =
-    simp known (record {
-      each = λ q. grind (arith, got, is_same q n, k.each q);
-      count = grind (arith, len-insert nat_list_cmp_total marks);
-    })
+known_marked names marks (Some n) (Some number) known k = simp known (record {
+  each = λ q. grind (arith, got, is_same q n, k.each q);
+  count = grind (arith, len-insert nat_list_cmp_total marks);
+})
 
 -- whether the session of a number attached by this
 abbrev pub starts : ℕ → Deed → Bool
@@ -118,9 +115,8 @@ same_name (Some j) f s e =
     let is : j.0 ≡ s.0 = cc in (j.1, ap (λ (n : Option Text). Some (n, j.1)) is)
 
 -- if not, it was there before, with its name
-pub was_there : (id : ℕ) (d : Deed) (ds : List Deed) (s : Option Text × Caps)
-    → starts id d ≡ false → session_then id (d ∷ ds) ≡ Some s
-    → (caps : Caps) × (session_then id ds ≡ Some (s.0, caps))
+pub was_there : (id : ℕ) (d : Deed) (ds : List Deed) (s : Option Text × Caps) → starts id d ≡ false
+    → session_then id (d ∷ ds) ≡ Some s → (caps : Caps) × (session_then id ds ≡ Some (s.0, caps))
 was_there id (Joined k name caps size) ds s other e = (s.1, rw other at e)
 was_there id (Asked k line) ds s other e =
     same_name (session_then id ds) (λ c. cond (k == id) (caps_by (meaning line) c line) c) s e
@@ -130,21 +126,17 @@ named_by : (b : Bool) (names : List Text) (name o : Option Text) → (b ≡ true
     → (b ≡ false → IfSome o (λ n. is_among n names ≡ true))
     → IfSome o (λ n. is_among n (with_new name names) ≡ true)
 named_by b names name None new old = tt
-named_by true names name (Some q) new old =
-    rw (← new refl) (grind (arith, named_among names (Some q) q, same_refl q))
-named_by false names name (Some q) new old = grind (arith, named_among names name q, old refl)
+named_by b names name (Some q) new old = grind (arith, named_among names name q, same_refl q)
 
 pub is_named : (id : ℕ) (ds : List Deed) (s : Option Text × Caps) → session_then id ds ≡ Some s
     → IfSome s.0 (λ n. is_among n (names_then ds) ≡ true)
 is_named id [] s e = cc
 is_named id (Joined k name caps size ∷ ds) s e =
-    named_by (k == id) (names_then ds) name s.0
-    (λ y. let is : Some (name, caps) ≡ Some s = rw y at e in cc) (λ n. is_named id ds s (rw n at e))
+    grind (arith, named_by (k == id) (names_then ds) name s.0, is_named id ds s)
 is_named id (Asked k line ∷ ds) s e =
     let was = was_there id (Asked k line) ds s refl e in is_named id ds (s.0, was.0) was.1
 is_named id (d ∷ ds) s e = is_named id ds s e
 
 pub is_known : (names : List Text) (marks : NameMarks) (name : Option Text) → AreKnown names marks
     → IfSome name (λ n. is_among n names ≡ true) → Known marks name
-is_known names marks None k named = tt
-is_known names marks (Some n) k named = k.each n ∙ named
+is_known names marks name k named = grind (arith, k.each)

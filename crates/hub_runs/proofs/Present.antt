@@ -1,15 +1,21 @@
 -- Who is there, with what each was sent and what waits for it, once one thing more has happened.
-use Rattle.hub_runs.proofs.Words
-use Words.{AllByRecursion, AreKnown, Around, Asked, Bool, Caps, Deed, Delivered, Drained, Drew}
-use Words.{Full, HubState, IsSent, Joined, Lacks, Left, Limits, List, None, Option, OutletState}
-use Words.{Parts, Sends, SessionState, Some, Spoke, Text, Took, TookPacket, [], any-filter_same, ap}
-use Words.{append-nil, arith, attached, each_append, each_back, each_front, each_kept, false}
-use Words.{filter, heard_back, held_since, inl, inr, is_some, is_there, length, list_any}
-use Words.{list_any-append, map-append, names_then, nat_tests, new_outlet, next_then, number_after}
-use Words.{numbered, numbers_in, option_and_then, option_to_list, outlet_then, packets, put_in}
-use Words.{refl, reverse, same_arms, sent_is, session_then, sym, there, true, with_caps}
-use Words.{with_outlet, ℕ, ◌&&◌, ◌++◌, ◌+◌, ◌-◌, ◌<◌, ◌==◌, ◌∙◌, ◌∷◌, ◌≡◌, ◌≤◌}
-use Rattle.hub_runs.proofs.{HoldingLaw.Tells, Marked.starts}
+use Rattle.{history.specs.Messages.{number_after, numbered}, hub_core.proofs.Each.each_append}
+use Rattle.hub_core.{proofs.Running.sent_is, specs.{Attaching.Lacks, Given.{Delivered, Full}}}
+use Rattle.{hub_core.specs.Given.{Sends, with_caps}, hub_ends.specs.Outlets.Took as TookPacket}
+use Rattle.hub_runs.proofs.{HoldingLaw.Tells, Marked.starts, Words.{AllByRecursion, AreKnown}}
+use Rattle.hub_runs.proofs.Words.{Around, Asked, Bool, Caps, Deed, Drained, Drew, HubState, Joined}
+use Rattle.hub_runs.proofs.Words.{Left, Limits, List, None, Option, OutletState, Parts}
+use Rattle.hub_runs.proofs.Words.{SessionState, Some, Spoke, Text, Took, [], append-nil, arith}
+use Rattle.hub_runs.proofs.Words.{attached, false, heard_back, is_some, length, map-append}
+use Rattle.hub_runs.proofs.Words.{names_then, nat_tests, new_outlet, option_and_then}
+use Rattle.hub_runs.proofs.Words.{option_to_list, outlet_then, packets, refl, reverse, session_then}
+use Rattle.hub_runs.proofs.Words.{true, ℕ, ◌&&◌, ◌++◌, ◌+◌, ◌-◌, ◌<◌, ◌==◌, ◌∷◌, ◌≡◌, ◌≤◌}
+use Rattle.hub_runs.specs.{Course.{IsSent, held_since}, Presence.{is_there, next_then, numbers_in}}
+use Rattle.{hub_runs.specs.Presence.{put_in, there}, net_view.specs.Table.same_arms}
+use Rattle.std.proofs.{Common.filter, lemmas.List.Folds.list_any-append}
+use Rattle.std.{proofs.lemmas.Map.Views.any-filter_same, specs.List.list_any}
+use Rattle.welcome.proofs.EachOf.{each_back, each_front, each_kept}
+pub use Rattle.hub_core.proofs.Kept.{all_map as all_weaker}
 
 pub numbered_is : (n id : ℕ) → numbered n ≡ Some id → n ≡ id
 numbered_is n id e = grind (arith, nat_tests)
@@ -27,33 +33,25 @@ Rise b (n ∷ ns) = (n < b) × AllByRecursion (λ m. n < m) ns × Rise b ns
 
 rise_filter : (b : ℕ) (p : ℕ → Bool) (ns : List ℕ) → Rise b ns → Rise b (filter p ns)
 rise_filter b p [] rise = tt
-rise_filter b p (n ∷ ns) rise =
-    grind (arith, each_kept (λ m. n < m) p ns rise.1, rise_filter b p ns rise.2)
+rise_filter b p (n ∷ ns) rise = grind (arith, each_kept (λ m. n < m) p ns, rise_filter b p ns)
 
 rise_more : (b : ℕ) (ns : List ℕ) → Rise b ns → Rise (b + 1) (ns ++ b ∷ [])
 rise_more b [] rise = (omega arith, tt, tt)
-rise_more b (n ∷ ns) rise =
-    let above = each_append (λ m. n < m) ns (b ∷ []) rise.1 (rise.0, tt) in
-    (omega arith, above, rise_more b ns rise.2)
+rise_more b (n ∷ ns) rise = grind (arith, each_append (λ m. n < m), rise_more b ns)
 
 lacks_above : (id : ℕ) (ss : List SessionState) → AllByRecursion (λ n. id < n) (numbers_in ss)
     → Lacks id ss
 lacks_above id [] above = tt
-lacks_above id (s ∷ ss) above = (λ e. omega arith, lacks_above id ss above.1)
+lacks_above id (s ∷ ss) above = grind (arith, lacks_above id ss)
 
 lacks_below : (id : ℕ) (ss : List SessionState) → Rise id (numbers_in ss) → Lacks id ss
 lacks_below id [] rise = tt
-lacks_below id (s ∷ ss) rise = (λ e. omega arith, lacks_below id ss rise.2)
+lacks_below id (s ∷ ss) rise = grind (arith, lacks_below id ss)
 
 lacks_behind : (b : ℕ) (front : List SessionState) (s : SessionState) (back : List SessionState)
     → Rise b (numbers_in (front ++ s ∷ back)) → Lacks s.id back
 lacks_behind b [] s back rise = lacks_above s.id back rise.1
 lacks_behind b (r ∷ front) s back rise = lacks_behind b front s back rise.2
-
-pub all_weaker : {A : Type 0} (P Q : A → Type 0) → ((a : A) → P a → Q a) → (xs : List A)
-    → AllByRecursion P xs → AllByRecursion Q xs
-all_weaker P Q so [] all = tt
-all_weaker P Q so (x ∷ xs) all = (so x all.0, all_weaker P Q so xs all.1)
 
 -- what happened was no attach
 abbrev pub Stay : Deed → List Deed → Type 0
@@ -75,13 +73,11 @@ put_on : (p : Option (List Parts)) (o o' : OutletState) → Sends true o p o' �
     → o.closed ≡ None →
     (put_in p (o.capacity, o.capacity - o.free) ≡ Some (o'.capacity, o'.capacity - o'.free)) ×
     (o'.free ≤ o'.capacity) × (o'.closed ≡ None)
-put_on None o o' sends room still = rw sends (refl, room, still)
-put_on (Some p) o o' sends room still = grind (arith, nat_tests)
+put_on p o o' sends room still = grind (arith, nat_tests)
 
 put_off : (p : Option (List Parts)) (o : OutletState) → Full o p
     → put_in p (o.capacity, o.capacity - o.free) ≡ None
-put_off None o full = cc full.0
-put_off (Some p) o full = grind (arith, nat_tests)
+put_off p o full = grind (arith, nat_tests)
 
 -- the packets of the session of a number, its outlet, and its name and capabilities
 abbrev pub Story : Type 0
@@ -109,17 +105,15 @@ module _ (l : Limits) where
 
   goes_gone : (ds : List Deed) (s : SessionState) (ss ts : List SessionState)
       → outlet_then s.id ds ≡ None → Goes ds ss ts → Goes ds (s ∷ ss) ts
-  goes_gone ds s ss ts none g = (g.0, simp none g.1)
+  goes_gone ds s ss ts none g = grind (arith, g)
 
   goes_more : (ds : List Deed) (s t : SessionState) (ss ts : List SessionState) → t.id ≡ s.id
       → Sits ds t → Goes ds ss ts → Goes ds (s ∷ ss) (t ∷ ts)
-  goes_more ds s t ss ts same k g =
-      let here : is_there s.id ds ≡ true = rw same at (ap is_some k.outlet) in
-      ((k, g.0), simp (here, same, g.1))
+  goes_more ds s t ss ts same k g = grind (arith, k.outlet)
 
   pub goes_still : (ds : List Deed) (ss : List SessionState) → Sit ds ss → Goes ds ss ss
   goes_still ds [] sit = (tt, refl)
-  goes_still ds (s ∷ ss) sit = goes_more ds s s ss ss refl sit.0 (goes_still ds ss sit.1)
+  goes_still ds (s ∷ ss) sit = grind (arith, goes_more, goes_still ds ss)
 
   -- what becomes of one session
   abbrev pub Becomes : List Deed → SessionState → Option SessionState → Type 0
@@ -129,12 +123,10 @@ module _ (l : Limits) where
   goes_at : (ds : List Deed) (front : List SessionState) (s : SessionState)
       (o : Option SessionState) (back : List SessionState) → Sit ds front → Sit ds back
       → Becomes ds s o → Goes ds (front ++ s ∷ back) (front ++ (option_to_list o ++ back))
-  goes_at ds [] s None back before behind here =
-      goes_gone ds s back back here (goes_still ds back behind)
-  goes_at ds [] s (Some t) back before behind here =
-      goes_more ds s t back back here.0 here.1 (goes_still ds back behind)
+  goes_at ds [] s o back before behind here =
+      grind (arith, goes_gone, goes_more, goes_still ds back)
   goes_at ds (r ∷ front) s o back before behind here =
-      goes_more ds r r _ _ refl before.0 (goes_at ds front s o back before.1 behind here)
+      grind (arith, goes_more, goes_at ds front s o back)
 
   module _ (d : Deed) (ds : List Deed) where
     -- a session is given a packet, or nothing, and then holds these capabilities
@@ -150,39 +142,19 @@ module _ (l : Limits) where
 
     pub sits_on : (s : SessionState) (p : Option (List Parts)) (caps : Caps) (o : OutletState)
         → Gets s p caps → Sits ds s → Sends true s.outlet p o → Sits (d ∷ ds) (with_caps s caps o)
-    sits_on s p caps o g k sends =
-        let sent = (sent_is true s.outlet p o sends).0 in
-        let put = put_on p s.outlet o sends k.room k.unclosed in
-        let all = sent ∙ (ap (λ l. l ++ option_to_list p) k.is_sent.0
-        ∙ sym (ap (λ (t : Story). t.0) g.alike)) in
-        record {
-          is_sent = (all, ap (λ (t : Story). t.2) g.alike);
-          outlet = ap (λ (t : Story). t.1) g.alike
-              ∙ (ap (option_and_then (put_in p)) k.outlet ∙ put.0);
-          room = put.1;
-          unclosed = put.2;
-          tells = rw sent (g.tells k.tells);
-        }
+    sits_on s p caps o g k sends = grind (arith, sent_is true, put_on, g.alike, g.tells, k.is_sent)
 
     -- there was no room for it
     pub cut_off : (s : SessionState) (p : Option (List Parts)) (caps : Caps) → Gets s p caps
         → Sits ds s → Full s.outlet p → outlet_then s.id (d ∷ ds) ≡ None
-    cut_off s p caps g k full =
-        ap (λ (t : Story). t.1) g.alike
-        ∙ (ap (option_and_then (put_in p)) k.outlet ∙ put_off p s.outlet full)
+    cut_off s p caps g k full = grind (arith, put_off, g.alike, k.outlet)
 
     pub goes_delivered : (give : SessionState → Option (List Parts))
         → ((s : SessionState) → Sits ds s → Gets s (give s) s.caps)
         → (ss ts : List SessionState) → Sit ds ss → Delivered true give ss ts → Goes (d ∷ ds) ss ts
     goes_delivered give gets [] ts sit del = rw del (tt, refl)
     goes_delivered give gets (s ∷ ss) ts sit del =
-        let g = gets s sit.0 in
-        elim del [
-          | inl e ↦ rw e.2 (goes_more (d ∷ ds) s (with_outlet s e.0) ss e.1 refl
-              (sits_on s _ _ e.0 g sit.0 e.3) (goes_delivered give gets ss e.1 sit.1 e.4))
-          | inr e ↦ goes_gone (d ∷ ds) s ss ts (cut_off s (give s) s.caps g sit.0 e.0)
-              (goes_delivered give gets ss ts sit.1 e.1)
-        ]
+        grind (arith, gets s, sits_on, cut_off, goes_more, goes_gone, goes_delivered give gets ss)
 
   pub sits_still : (d : Deed) (ds : List Deed) (s : SessionState) → Misses d s.id → Sits ds s
       → Sits (d ∷ ds) s
@@ -190,19 +162,13 @@ module _ (l : Limits) where
     none : (d : Deed) → Misses d s.id → Gets d ds s None s.caps
     none (Took x) other = absurd other
     none (Spoke n line moment) other = absurd other
-    none (Drained count) other =
-        record { alike = simp (k.is_sent.1, k.outlet); tells = λ k. simp append-nil k }
-    none d other = record {
-      alike = simp (other, k.is_sent.1, k.outlet, append-nil);
-      tells = λ k. simp (append-nil, other) k;
-    }
+    none d other = grind (arith, other, k.is_sent, k.outlet, append-nil)
 
   pub sit_still : (d : Deed) (ds : List Deed) (id : ℕ) → ((n : ℕ) → (id == n) ≡ false → Misses d n)
       → (ss : List SessionState) → Lacks id ss → Sit ds ss → Sit (d ∷ ds) ss
   sit_still d ds id other [] lacks sit = tt
   sit_still d ds id other (s ∷ ss) lacks sit =
-      let here = sits_still d ds s (other s.id (differ id s.id lacks.0)) sit.0 in
-      (here, sit_still d ds id other ss lacks.1 sit.1)
+      grind (arith, differ, sits_still d ds s, other s.id, sit_still d ds id other ss)
 
   -- the session of a number is another one now, or is gone
   pub goes_around : (d : Deed) (ds : List Deed) (h : HubState) (id b : ℕ) (a : Around h id)
@@ -210,13 +176,11 @@ module _ (l : Limits) where
       → Rise b (numbers_in h.sessions) → Becomes (d ∷ ds) a.here o
       → Goes (d ∷ ds) h.sessions (a.front ++ (option_to_list o ++ a.back))
   goes_around d ds h id b a o other sit rise here =
-      let sit' = rw a.was at sit in
-      let lacks = lacks_behind b a.front a.here a.back (rw a.was at rise) in
-      let before = each_front (Sits ds) a.front (a.here ∷ a.back) sit' in
-      let behind = (each_back (Sits ds) a.front (a.here ∷ a.back) sit').1 in
-      rw a.was (goes_at (d ∷ ds) a.front a.here o a.back
-      (sit_still d ds id other a.front a.first before)
-      (sit_still d ds id other a.back (rw a.number at lacks) behind) here)
+      let lacks = lacks_behind b a.front a.here a.back in
+      let before = each_front (Sits ds) a.front (a.here ∷ a.back) in
+      let behind = each_back (Sits ds) a.front (a.here ∷ a.back) in
+      let at = goes_at (d ∷ ds) a.front a.here o a.back in
+      grind (arith, lacks, before, behind, at, sit_still d ds id other, a.was, a.number, a.first)
 
   -- who is there, which names are known, and which number comes next, is as what happened says
   pub record Seated (ds : List Deed) (h : HubState) : Type 0 where
@@ -229,13 +193,8 @@ module _ (l : Limits) where
   pub seated_on : (d : Deed) (ds : List Deed) (h new : HubState) → Seated ds h → Stay d ds
       → new.next ≡ h.next → AreKnown (names_then ds) new.marks
       → Goes (d ∷ ds) h.sessions new.sessions → Seated (d ∷ ds) new
-  seated_on d ds h new k stay next known g = record {
-    sit = g.0;
-    who = g.1 ∙ (ap (filter (λ id. is_there id (d ∷ ds))) k.who ∙ sym stay.0);
-    rise = rw (stay.0, stay.2) (rise_filter _ (λ id. is_there id (d ∷ ds)) (there ds) k.rise);
-    known = rw stay.1 known;
-    next = next ∙ (k.next ∙ ap (λ n. numbered (l.first_session + n)) (sym stay.2));
-  }
+  seated_on d ds h new k stay next known g =
+      grind (arith, rise_filter, k.sit, k.who, k.rise, k.next)
 
   -- a client attached
   pub seated_joined : (ds : List Deed) (h new : HubState) (s : SessionState) (size : ℕ)
@@ -248,30 +207,13 @@ module _ (l : Limits) where
       → Seated (Joined s.id s.name s.caps size ∷ ds) new
   seated_joined ds h new s size packet k number t sent tells are next known =
       let d = Joined s.id s.name s.caps size in
-      let id : l.first_session + attached ds ≡ s.id =
-      numbered_is (l.first_session + attached ds) s.id (sym k.next ∙ number) in
-      let one : l.first_session + (attached ds + 1) ≡ s.id + 1 = omega arith in
+      let id : l.first_session + attached ds ≡ s.id = grind (arith, numbered_is, k.next, number) in
+      let here : Sits (d ∷ ds) s = grind (arith, is_itself s.id s.id, t, sent, tells) in
       let rise : Rise s.id (there ds) = rw id at k.rise in
-      let itself : (s.id == s.id) ≡ true = is_itself s.id s.id refl in
-      let free : size ≡ s.outlet.free + 1 = t.room refl in
-      let wait : s.outlet.capacity - s.outlet.free ≡ 1 = omega (free, t.capacity, arith) in
-      let here : Sits (d ∷ ds) s = record {
-        is_sent = (t.sent ∙ sym sent, simp itself);
-        outlet = simp itself (cc (wait, t.capacity));
-        room = omega (free, t.capacity, arith);
-        unclosed = t.closed;
-        tells = simp (itself, t.sent) tells;
-      } in
-      record {
-        sit = rw are (each_append (Sits (d ∷ ds)) h.sessions (s ∷ [])
-            (sit_still d ds s.id (λ n other. other) h.sessions
-            (lacks_below s.id h.sessions (rw k.who rise)) k.sit) (here, tt));
-        who = rw are (map-append (λ (r : SessionState). r.id) h.sessions (s ∷ [])
-            ∙ ap (λ l. l ++ s.id ∷ []) k.who);
-        rise = rw one (rise_more s.id (there ds) rise);
-        known = known;
-        next = next ∙ ap numbered (sym one);
-      }
+      let still = sit_still d ds s.id (λ n other. other) h.sessions in
+      let all = each_append (Sits (d ∷ ds)) h.sessions (s ∷ []) in
+      let more = rise_more s.id in
+      grind (arith, id, here, still, all, rise, more, lacks_below, map-append, k, are, next, known)
 
 -- who was not there is not there now, unless it attached by this
 was_none : (id : ℕ) (d : Deed) (ds : List Deed) → starts id d ≡ false → outlet_then id ds ≡ None
@@ -287,8 +229,7 @@ one_of_both b c o o' both is old new = grind arith
 filtered : (id : ℕ) (p : ℕ → Bool) (ns : List ℕ)
     → list_any (λ k. k == id) (filter p ns) ≡ (p id && list_any (λ k. k == id) ns)
 filtered id p ns =
-    any-filter_same (λ k. k == id) p (p id)
-    (λ k same. let is : k ≡ id = grind (arith, nat_tests) in ap p is) ns
+    any-filter_same (λ k. k == id) p (p id) (λ k same. grind (arith, nat_tests)) ns
 
 absent : (id : ℕ) (ds : List Deed) → list_any (λ k. k == id) (there ds) ≡ false
     → outlet_then id ds ≡ None
@@ -296,17 +237,15 @@ absent id [] e = refl
 absent id (Joined k name caps size ∷ ds) e =
     grind (arith, list_any-append (λ n. n == id) (there ds) (k ∷ []), absent id ds)
 absent id (d ∷ ds) e =
-    one_of_both (is_there id (d ∷ ds)) _ (outlet_then id ds) _
-    (sym (filtered id (λ n. is_there n (d ∷ ds)) (there ds)) ∙ e) refl (absent id ds)
-    (was_none id d ds refl)
+    let kept = filtered id (λ n. is_there n (d ∷ ds)) (there ds) in
+    grind (arith, kept, absent id ds, was_none id d ds)
 
 none_of : (id : ℕ) (ss : List SessionState) → Lacks id ss
     → list_any (λ k. k == id) (numbers_in ss) ≡ false
 none_of id [] lacks = refl
-none_of id (s ∷ ss) lacks =
-    simp (differ s.id id (λ same. lacks.0 (sym same)), none_of id ss lacks.1)
+none_of id (s ∷ ss) lacks = grind (arith, differ, none_of id ss)
 
 -- where no session has the number, it isn't there
 pub lacks_none : (id : ℕ) (ds : List Deed) (ss : List SessionState) → numbers_in ss ≡ there ds
     → Lacks id ss → outlet_then id ds ≡ None
-lacks_none id ds ss who lacks = absent id ds (rw (← who) (none_of id ss lacks))
+lacks_none id ds ss who lacks = grind (arith, absent, none_of)

@@ -1,10 +1,10 @@
-use Rattle.hub_core.proofs.Words.{arith, Bool, false, if◌then◌else◌, NameMarks, None, Option, refl}
-use Rattle.hub_core.proofs.Words.{rules, same_by_keys, Some, Text, ◌∙◌, ◌≡◌}
 use Rattle.std.specs.FinMap as map
-use Rattle.history.specs.Marks.{admitted, withdrawn}
-use Rattle.hub_core.specs.Attaching.{is_new_name, with_name, without_name}
-use Rattle.net_view.proofs.{AfterAlike.look_ups, Tests.none_of_is_some}
 use Rattle.hub_core.proofs.attach.make_room.Goals as goal
+use Rattle.{history.specs.Marks.{NameMarks, admitted, withdrawn}, hub_core.proofs.Words.Bool}
+use Rattle.hub_core.proofs.Words.{None, Option, Some, Text, arith, false, if◌then◌else◌, refl}
+use Rattle.hub_core.{proofs.Words.{rules, ◌≡◌}, specs.Attaching.{is_new_name, with_name}}
+use Rattle.{hub_core.specs.Attaching.without_name, net_view.proofs.AfterAlike.look_ups}
+use Rattle.net_view.proofs.{Keys.same_by_keys, Tests.none_of_is_some}
 
 -- what is put at a new name and removed again leaves no trace
 removed_again : (m : NameMarks) (n : Text) → map.contains_key m n ≡ false
@@ -24,9 +24,7 @@ withdrawn_of (Some n) m = grind (arith, withdrawn_again m n)
 taken_back : (name : Option Text) (old mid new : NameMarks) (is_new : Bool)
     → is_new ≡ is_new_name name old → mid ≡ with_name name old
     → new ≡ (if is_new then without_name name mid else mid) → new ≡ old
-taken_back name old mid new is_new e admits withdraws =
-    withdraws ∙ (λ k. if e k then without_name name (admits k) else admits k)
-    ∙ withdrawn_of name old
+taken_back name old mid new is_new e admits withdraws = grind (arith, withdrawn_of name old)
 
 pub returns-then-not-room-clause-err : goal.returns-then-not-room-clause-err
 returns-then-not-room-clause-err g c = (

@@ -1,22 +1,12 @@
-use Rattle.hub_core.proofs.Words.{[], arith, drop, drop_all, refl, rules, ◌≡◌}
-use Rattle.hub_core.proofs.Walk.{cuts_on, goes_on}
 use Rattle.hub_core.proofs.deliver.deliver.Goals as goal
+use Rattle.hub_core.proofs.{Walk.{all_done, begun, cuts_on, goes_on}, Words.{arith, rules}}
 
 pub loop-place-init : goal.loop-place-init
-loop-place-init g c =
-    let none : drop c.len-place.result c.args.sessions.now.items ≡ [] =
-    drop_all c.len-place.result c.args.sessions.now.items (search rules) in
-    record {
-      walk = record {
-        front = refl;
-        olds_long = search rules;
-        now_long = search rules;
-        done = λ give all. rw none refl;
-        cleared = rw none tt;
-      };
-      count = search rules;
-      within = search rules;
-    }
+loop-place-init g c = record {
+  walk = rw c.len-place.ensures (begun _ _ _ c.args.sessions.now.items _ (search rules));
+  count = search rules;
+  within = search rules;
+}
 
 pub loop-place-preserved-then-not-send_coming-3 : goal.loop-place-preserved-then-not-send_coming-3
 loop-place-preserved-then-not-send_coming-3 g c = record {
@@ -37,11 +27,7 @@ loop-place-preserved g c = record {
 }
 
 pub returns-clause-all : goal.returns-clause-all
-returns-clause-all g c =
-    let none : c.loop-place.place ≡ 0 = omega arith in
-    rw none at c.loop-place.invariant.walk.done
+returns-clause-all g c = (all_done _ _ _ _ _ _ (omega arith) c.loop-place.invariant.walk).0
 
 pub returns-clause-done : goal.returns-clause-done
-returns-clause-done g c =
-    let none : c.loop-place.place ≡ 0 = omega arith in
-    rw none at c.loop-place.invariant.walk.cleared
+returns-clause-done g c = (all_done _ _ _ _ _ _ (omega arith) c.loop-place.invariant.walk).1

@@ -1,6 +1,6 @@
-use Rattle.hub_core.proofs.Words.{state_of, vec_len, ◌+◌, ◌≡◌, ◌≤◌}
-use Rattle.hub_core.proofs.Walk.{IsPartWay}
 use Rattle.hub_core.proofs.deliver.deliver.Given as goal
+use Rattle.hub_core.proofs.{Walk.IsPartWay, Words.{state_of, ◌+◌, ◌≡◌, ◌≤◌}}
+use Rattle.std.specs.Vec.{vec_len}
 
 abbrev pub invariant-loop-place : goal.invariant-loop-place
 invariant-loop-place g l = record {

@@ -1,6 +1,6 @@
-use Rattle.hub_core.proofs.Words.{ap, arrival_of, map, map-append, packet_for, rules, sym, ◌∙◌, ◌≡◌}
-use Rattle.hub_core.proofs.Sets.{found, no_more, one_more}
 use Rattle.hub_core.proofs.image_table.shared_packet_for.Goals as goal
+use Rattle.hub_core.proofs.{Sets.{found, no_more, one_more}, Words.{arith, arrival_of, map-append}}
+use Rattle.hub_core.proofs.Words.{packet_for, rules, sym, ◌≡◌}
 
 pub returns-in-Some-clause-packet : goal.returns-in-Some-clause-packet
 returns-in-Some-clause-packet g c =
@@ -20,6 +20,6 @@ returns-in-Some-clause-sets g c =
 
 pub returns-clause-sets : goal.returns-clause-sets
 returns-clause-sets g c =
-    ap (map (λ m. m.caps)) c.in_ok-push.ensures.items
-    ∙ (map-append (λ m. m.caps) c.args.made.now.items _
-    ∙ sym (one_more (λ m. m.caps) c.args.caps c.args.made.now.items (sym c.in_default.ensures)))
+    let none = sym c.in_default.ensures in
+    let more = one_more (λ m. m.caps) c.args.caps c.args.made.now.items none in
+    grind (arith, c.in_ok-push.ensures.items, map-append, more)

@@ -1,6 +1,6 @@
-use Rattle.hub_core.proofs.Words.{into_iter_items, joining, keyed, length, map, put_all, shown, ◌≡◌}
-use Rattle.hub_core.proofs.Words.{◌≤◌}
 use Rattle.hub_core.proofs.lost.add.Given as goal
+use Rattle.hub_core.proofs.Words.{joining, keyed, length, map, shown, ◌≡◌, ◌≤◌}
+use Rattle.{hub_core.specs.LostChannels.put_all, std.specs.Vec.Iter.into_iter_items}
 
 abbrev pub invariant-loop-channel : goal.invariant-loop-channel
 invariant-loop-channel l =

@@ -1,8 +1,6 @@
-use Rattle.hub_core.proofs.Words.{ap, arith, mode_parts, mode_shown, None, option_map, sym, ◌∙◌}
-use Rattle.hub_core.proofs.Words.{◌≡◌}
-use Rattle.hub_core.proofs.LostChannels.{key_at, key_here, key_later, key_past}
-use Rattle.welcome.proofs.Places.{letter_at_place}
 use Rattle.hub_core.proofs.lost.channel_key.Goals as goal
+use Rattle.hub_core.proofs.{LostChannels.{key_at, key_here, key_later, key_past}, Words.arith}
+use Rattle.{hub_core.proofs.Words.sym, welcome.proofs.Places.letter_at_place}
 
 pub returns-then-letter-eq107 : goal.returns-then-letter-eq107
 returns-then-letter-eq107 g c =
@@ -30,7 +28,5 @@ loop-letter-preserved g c =
 pub returns : goal.returns
 returns g c =
     let v = g.V.NetworkView.view c.args.view.now in
-    let none : mode_shown v c.args.i c.loop-letter.j ≡ None =
-    sym c.mode_at.ensures ∙ ap (option_map mode_parts) c.in_default.is in
-    rw (key_at, ← c.loop-letter.invariant.none_before)
-    (sym (key_past v c.args.i c.loop-letter.j none))
+    let before = c.loop-letter.invariant.none_before in
+    grind (arith, c.mode_at.ensures, c.in_default.is, key_at v, before, key_past v c.args.i)

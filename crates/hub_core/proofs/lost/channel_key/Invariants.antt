@@ -1,6 +1,6 @@
-use Rattle.hub_core.proofs.Words.{drop, modes_at, ◌-◌, ◌≡◌, ◌≤◌}
-use Rattle.hub_core.proofs.LostChannels.{key_in}
 use Rattle.hub_core.proofs.lost.channel_key.Given as goal
+use Rattle.hub_core.proofs.{LostChannels.key_in, Words.{drop, ◌-◌, ◌≡◌, ◌≤◌}}
+use Rattle.welcome.specs.Lent.{modes_at}
 
 abbrev pub invariant-loop-letter : goal.invariant-loop-letter
 invariant-loop-letter g l = record {

@@ -1,5 +1,5 @@
-use Rattle.hub_core.proofs.Words.{channels_of_view, keyed, map, take, ◌≡◌}
 use Rattle.hub_core.proofs.lost.channels_of.Given as goal
+use Rattle.hub_core.{proofs.Words.{keyed, map, take, ◌≡◌}, specs.LostChannels.channels_of_view}
 
 abbrev pub invariant-loop-i : goal.invariant-loop-i
 invariant-loop-i g l =

@@ -1,8 +1,8 @@
-use Rattle.hub_core.proofs.Words.{bytes_cmp, bytes_exact, empty-shown, joining, nat_list_cmp_total}
-use Rattle.hub_core.proofs.Words.{shown}
 use Rattle.std.specs.FinMap as fin
-use Rattle.network_tables.{proofs.ShownLemmas.remove-shown, specs.Sought.sought_key}
 use Rattle.hub_core.proofs.lost.forget.Goals as goal
+use Rattle.hub_core.proofs.Words.{bytes_cmp, bytes_exact, empty-shown, joining, nat_list_cmp_total}
+use Rattle.{hub_core.proofs.Words.shown, network_tables.proofs.ShownLemmas.remove-shown}
+use Rattle.network_tables.specs.Sought.{sought_key}
 
 pub returns-in-One : goal.returns-in-One
 returns-in-One c = λ k.

@@ -1,7 +1,8 @@
-use Rattle.hub_core.proofs.Words.{ap, arith, arrival_of, given_but, length, length-set, map, not_ok}
-use Rattle.hub_core.proofs.Words.{packet_for, refl, sets_but, state_of, ◌<◌, ◌∙◌}
-use Rattle.hub_core.proofs.Prepared.{one_more, same_place}
 use Rattle.hub_core.proofs.prepare.prepare.Goals as goal
+use Rattle.hub_core.proofs.{Prepared.{one_more, same_place}, Words.{ap, arith, arrival_of}}
+use Rattle.hub_core.proofs.Words.{given_but, length, length-set, map, packet_for, refl, state_of}
+use Rattle.hub_core.{proofs.Words.{◌<◌, ◌∙◌}, specs.Given.sets_but}
+use Rattle.irc_line.proofs.Outcomes.{not_ok}
 
 pub loop-i-preserved : goal.loop-i-preserved
 loop-i-preserved g c =

@@ -1,5 +1,5 @@
-use Rattle.hub_core.proofs.Words.{rules}
 use Rattle.hub_core.proofs.prepare.prepare_item.Goals as goal
+use Rattle.hub_core.proofs.Words.{rules}
 
 pub returns-clause-made : goal.returns-clause-made
 returns-clause-made g c = search rules

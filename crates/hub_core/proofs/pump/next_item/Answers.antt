@@ -1,5 +1,5 @@
-use Rattle.hub_core.proofs.Words.{rules}
 use Rattle.hub_core.proofs.pump.next_item.Goals as goal
+use Rattle.hub_core.proofs.Words.{rules}
 
 pub returns-in-Some-clause-none : goal.returns-in-Some-clause-none
 returns-in-Some-clause-none g c = search rules

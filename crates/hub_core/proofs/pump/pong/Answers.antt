@@ -1,5 +1,5 @@
-use Rattle.hub_core.proofs.Words.{rules}
 use Rattle.hub_core.proofs.pump.pong.Goals as goal
+use Rattle.hub_core.proofs.Words.{rules}
 
 pub returns : goal.returns
 returns c = search rules

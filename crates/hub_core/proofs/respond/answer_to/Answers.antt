@@ -1,5 +1,5 @@
-use Rattle.hub_core.proofs.Words.{own_nameable}
 use Rattle.hub_core.proofs.respond.answer_to.Goals as goal
+use Rattle.client_caps.proofs.AnswerTexts.{own_nameable}
 
 pub answer-requires : goal.answer-requires
 answer-requires g c =

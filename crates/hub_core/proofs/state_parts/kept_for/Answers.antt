@@ -1,6 +1,5 @@
-use Rattle.hub_core.proofs.Words.{state_part_of, sym, ◌∙◌, ◌≡◌}
-use Rattle.hub_core.proofs.Sets.{found}
 use Rattle.hub_core.proofs.state_parts.kept_for.Goals as goal
+use Rattle.{hub_core.proofs.{Sets.found, Words.{sym, ◌∙◌, ◌≡◌}}, welcome.specs.Burst.state_part_of}
 
 pub returns-in-Ok : goal.returns-in-Ok
 returns-in-Ok g c =

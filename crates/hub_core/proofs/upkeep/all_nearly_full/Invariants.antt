@@ -1,5 +1,6 @@
-use Rattle.hub_core.proofs.Words.{AreFreed, length, map, nearly_full, state_of, take, ◌≡◌}
 use Rattle.hub_core.proofs.upkeep.all_nearly_full.Given as goal
+use Rattle.hub_core.{proofs.Words.{length, map, state_of, take, ◌≡◌}, specs.Upkeep.AreFreed}
+use Rattle.hub_core.specs.Upkeep.{nearly_full}
 
 abbrev pub invariant-loop-place : goal.invariant-loop-place
 invariant-loop-place g l = record {

@@ -1,5 +1,6 @@
-use Rattle.hub_runs.proofs.Words.{[], ap, map-append, outlets_of, refl, state_of, ◌++◌, ◌∙◌, ◌∷◌}
 use Rattle.hub_runs.proofs.apply.leave.Goals as goal
+use Rattle.{hub_ends.specs.Memory.state_of, hub_runs.proofs.Words.{[], ap, map-append, outlets_of}}
+use Rattle.hub_runs.proofs.Words.{refl, ◌++◌, ◌∙◌, ◌∷◌}
 
 pub returns-in-Ok-clause-ok : goal.returns-in-Ok-clause-ok
 returns-in-Ok-clause-ok g c rest =

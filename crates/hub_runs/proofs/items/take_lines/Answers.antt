@@ -1,8 +1,7 @@
-use Rattle.hub_runs.proofs.Words
-use Words.{Came, List, Parts, Received, [], ap, append_assoc, arith, drain_items, length, map}
-use Words.{map-append, sym, ℕ, ◌++◌, ◌+◌, ◌∙◌, ◌∷◌, ◌≡◌}
-use Rattle.hub_runs.proofs.LinesCame.{takes_more}
 use Rattle.hub_runs.proofs.items.take_lines.Goals as goal
+use Rattle.hub_runs.proofs.{LinesCame.takes_more, Words.{Came, List, Parts, Received, [], ap}}
+use Rattle.hub_runs.proofs.Words.{append_assoc, arith, length, map, map-append, sym, ℕ, ◌++◌, ◌+◌}
+use Rattle.{hub_runs.proofs.Words.{◌∙◌, ◌∷◌, ◌≡◌}, std.specs.Vec.Iter.drain_items}
 
 abbrev came_at : ℕ → List Parts → List Came
 came_at moment lines = map (λ line. (Received line, moment)) lines

@@ -1,7 +1,6 @@
-use Rattle.hub_runs.proofs.Words
-use Words.{DrainKeeps, Received, TakesAll, drain_items, length, map, vec_capacity, vec_len, ◌++◌}
-use Words.{◌+◌, ◌≡◌, ◌≤◌}
 use Rattle.hub_runs.proofs.items.take_lines.Given as goal
+use Rattle.hub_runs.proofs.Words.{Received, TakesAll, length, map, vec_capacity, vec_len, ◌++◌, ◌+◌}
+use Rattle.{hub_runs.proofs.Words.{◌≡◌, ◌≤◌}, std.specs.Vec.Iter.{DrainKeeps, drain_items}}
 
 abbrev pub invariant-loop-line : goal.invariant-loop-line
 invariant-loop-line g l = (goal.iterator-loop-line g).can_next l.line-iterator

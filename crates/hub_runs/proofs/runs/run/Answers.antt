@@ -1,8 +1,7 @@
-use Rattle.hub_runs.proofs.Words
-use Words.{ap, arith, length, outlets_of, refl, rules, take_more, vec_capacity}
-use Words.{vec_len, ◌+◌, ◌<◌, ◌∙◌, ◌≡◌}
-use Rattle.hub_runs.proofs.Course.{happen_more, ran_part, ran_whole, stands}
 use Rattle.hub_runs.proofs.runs.run.Goals as goal
+use Rattle.hub_runs.proofs.{Course.{happen_more, ran_part, ran_whole, stands}, Words.{ap, arith}}
+use Rattle.hub_runs.proofs.Words.{length, outlets_of, refl, vec_capacity, vec_len, ◌+◌, ◌<◌, ◌∙◌}
+use Rattle.{hub_runs.proofs.Words.◌≡◌, std.proofs.{Common.rules, lemmas.List.take_more}}
 
 pub loop-event-init : goal.loop-event-init
 loop-event-init g c =

@@ -1,7 +1,6 @@
-use Rattle.hub_runs.proofs.Words
-use Words.{AllHappen, beginning, length, outlets_of, take, vec_capacity, vec_len, world_of, ◌+◌}
-use Words.{◌≡◌, ◌≤◌}
 use Rattle.hub_runs.proofs.runs.run.Given as goal
+use Rattle.hub_runs.proofs.Words.{length, outlets_of, vec_capacity, vec_len, ◌+◌, ◌≡◌, ◌≤◌}
+use Rattle.{hub_runs.specs.Worlds.{AllHappen, beginning, world_of}, std.proofs.Common.take}
 
 abbrev pub invariant-loop-event : goal.invariant-loop-event
 invariant-loop-event g l = record {

@@ -1,11 +1,12 @@
-use Rattle.hub_core.proofs.Words.{[], burst_of, EachFits, hub_of, HubState, map, map-append}
-use Rattle.hub_core.proofs.Words.{mark_of, None, Option, option_and_then, option_map, refl}
-use Rattle.hub_core.proofs.Words.{refusal_of, Session, SessionState, Some, state_of, Text, Took}
-use Rattle.hub_core.proofs.Words.{view_now, ◌++◌, ◌∙◌, ◌∷◌, ◌≡◌}
-use Rattle.hub_core.proofs.Running.{attached_fits, is_ready, runs_with}
-use Rattle.hub_core.{proofs.FoundRoom.found_took, specs.Attaching.Attaches, specs.Attaching.missed}
 use Rattle.hub_core.proofs.hub.Hub.attach.Goals as goal
 use Rattle.hub_core.proofs.hub.Hub.attach.Given
+use Rattle.{history.specs.Marks.mark_of, hub_core.proofs.FoundRoom.found_took}
+use Rattle.hub_core.proofs.{Running.{attached_fits, is_ready, runs_with}, Words.EachFits}
+use Rattle.hub_core.proofs.Words.{HubState, None, Option, Session, SessionState, Some, Text, Took}
+use Rattle.hub_core.proofs.Words.{[], hub_of, map, map-append, option_and_then, option_map, refl}
+use Rattle.hub_core.proofs.Words.{state_of, view_now, ◌++◌, ◌∙◌, ◌∷◌, ◌≡◌}
+use Rattle.hub_core.specs.Attaching.{Attaches, missed, refusal_of}
+use Rattle.welcome.specs.Playback.{burst_of}
 
 module _ (g : Given.Over) (c : goal.After-push_reserved g) where
   abbrev state : Session g.row.O.Denot → SessionState
@@ -42,7 +43,8 @@ module _ (g : Given.Over) (c : goal.After-push_reserved g) where
       (map-append state c.self.inside.sessions.items _)
 
   attaches : Attaches g.O.Outlet.alone old c.args.caps name (g.O.Outlet.state c.args.outlet)
-      c.in-Ok.parts.0 (hub_of g.I.Inlet.taken g.I.Inlet.ahead g.O.Outlet.state record c.self.inside {
+      c.in-Ok.parts.0
+      (hub_of g.I.Inlet.taken g.I.Inlet.ahead g.O.Outlet.state record c.self.inside {
         sessions = c.push_reserved.new.self;
         next = c.number_after-self-inside.result;
         marks = c.make_room.new.marks;

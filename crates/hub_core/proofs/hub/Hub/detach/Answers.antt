@@ -1,10 +1,9 @@
-use Rattle.hub_core.proofs.Words.{ap, Around, Fits, hub_of, HubState, map, map-append, refl}
-use Rattle.hub_core.proofs.Words.{state_of, ◌++◌, ◌∙◌, ◌≡◌}
-use Rattle.hub_core.proofs.Each.{each_at, each_without}
-use Rattle.hub_core.proofs.{Running.runs_with, Splits.around_of, Splits.lacks}
-use Rattle.hub_core.specs.Attaching.{Detaches, marked}
 use Rattle.hub_core.proofs.hub.Hub.detach.Goals as goal
 use Rattle.hub_core.proofs.hub.Hub.detach.Given
+use Rattle.hub_core.proofs.{Each.{each_at, each_without}, Running.runs_with, Splits.around_of}
+use Rattle.hub_core.proofs.{Splits.lacks, Words.{Around, Fits, HubState, ap, hub_of, map}}
+use Rattle.hub_core.proofs.Words.{map-append, refl, state_of, ◌++◌, ◌∙◌, ◌≡◌}
+use Rattle.hub_core.specs.Attaching.{Detaches, marked}
 
 pub returns-in_default-clause-err : goal.returns-in_default-clause-err
 returns-in_default-clause-err g c =
@@ -23,11 +22,6 @@ module _ (g : Given.Over) (c : goal.Joined-gone-2 g) where
   now : map (state_of g.O.Outlet.state) c.remove-gone.new.self.items ≡ around.front ++ around.back
   now = rw c.remove-gone.ensures.items (map-append (state_of g.O.Outlet.state) _ _)
 
-  fits : Fits (g.V.NetworkView.view c.self.inside.view) around.here
-  fits =
-      each_at (Fits _) around.front around.here around.back
-      (rw around.was at c.self.invariant.0.fit)
-
   detaches : Detaches old c.args.id (g.O.Outlet.state c.close.new.self)
       (g.O.Outlet.told c.close.new.self) (hub_of g.I.Inlet.taken g.I.Inlet.ahead g.O.Outlet.state
       record c.self.inside { sessions = c.remove-gone.new.self; marks = c.set_mark.new.marks })
@@ -39,7 +33,8 @@ module _ (g : Given.Over) (c : goal.Joined-gone-2 g) where
     first = around.first;
     number = around.number;
     sent = c.close.ensures.sent;
-    closed = c.close.ensures.first fits.1;
+    closed = c.close.ensures.first (each_at (Fits _) around.front around.here around.back
+        (rw around.was at c.self.invariant.0.fit)).1;
     capacity = c.close.ensures.capacity;
     full = c.close.ensures.full;
     told_so = c.close.ensures.told;

@@ -1,10 +1,9 @@
-use Rattle.hub_core.proofs.Words.{[], Forwards, hub_of, HubState, Inside, is_message, IsSome, None}
-use Rattle.hub_core.proofs.Words.{own_message, refl, rules, sent_up, sym, true, with_upstream, ◌∙◌}
-use Rattle.hub_core.proofs.Words.{◌∷◌, ◌≡◌}
-use Rattle.hub_core.proofs.FoundRoom.{found_took, nobody, sent_from}
-use Rattle.hub_core.proofs.{Kept.sent_more, Kept.unsaid, Running.runs_with}
 use Rattle.hub_core.proofs.hub.Hub.forward.Goals as goal
 use Rattle.hub_core.proofs.hub.Hub.forward.Given
+use Rattle.hub_core.proofs.{FoundRoom.{found_took, nobody, sent_from}, Kept.{sent_more, unsaid}}
+use Rattle.hub_core.proofs.{Running.runs_with, Words.{Forwards, HubState, Inside, IsSome, None, []}}
+use Rattle.hub_core.proofs.Words.{hub_of, is_message, refl, rules, sym, true, ◌∙◌, ◌∷◌, ◌≡◌}
+use Rattle.hub_core.specs.{Saying.{own_message, sent_up}, Upkeep.with_upstream}
 
 abbrev old : (g : Given.Over)
     → Inside g.row.V.Denot g.row.I.Denot g.row.O.Denot g.row.V-Memory.Denot → HubState

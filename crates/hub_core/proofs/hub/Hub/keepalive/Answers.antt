@@ -1,8 +1,8 @@
-use Rattle.hub_core.proofs.Words.{[], hub_of, HubState, inl, Inside, life_asked, refl, sym, Took}
-use Rattle.hub_core.proofs.Words.{◌∙◌, ◌∷◌}
-use Rattle.hub_core.proofs.{FoundRoom.found_took, Kept.sent_more, Running.runs_with}
 use Rattle.hub_core.proofs.hub.Hub.keepalive.Goals as goal
 use Rattle.hub_core.proofs.hub.Hub.keepalive.Given
+use Rattle.hub_core.proofs.{FoundRoom.found_took, Kept.sent_more, Running.runs_with, Words.HubState}
+use Rattle.hub_core.proofs.Words.{Inside, Took, [], hub_of, inl, refl, sym, ◌∙◌, ◌∷◌}
+use Rattle.hub_core.specs.Upkeep.{life_asked}
 
 abbrev old : (g : Given.Over)
     → Inside g.row.V.Denot g.row.I.Denot g.row.O.Denot g.row.V-Memory.Denot → HubState

@@ -1,6 +1,5 @@
-use Rattle.hub_core.proofs.Words.{ap, heard, lost_channels, ◌∙◌}
-use Rattle.hub_core.proofs.LostChannels.{count_is}
 use Rattle.hub_core.proofs.hub.Hub.lost_channel_count.Goals as goal
+use Rattle.hub_core.proofs.{LostChannels.count_is, Words.{ap, heard, lost_channels, ◌∙◌}}
 
 pub returns : goal.returns
 returns g c =

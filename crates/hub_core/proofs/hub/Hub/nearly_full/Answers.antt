@@ -1,6 +1,5 @@
-use Rattle.hub_core.proofs.Words.{refl}
-use Rattle.hub_core.proofs.{Running.runs_with, Walk.fits_freed}
 use Rattle.hub_core.proofs.hub.Hub.nearly_full.Goals as goal
+use Rattle.hub_core.proofs.{Running.runs_with, Walk.fits_freed, Words.refl}
 
 pub invariant_of-self : goal.invariant_of-self
 invariant_of-self g c = (

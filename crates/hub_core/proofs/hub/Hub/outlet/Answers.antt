@@ -1,6 +1,5 @@
-use Rattle.hub_core.proofs.Words.{refl, state_of}
-use Rattle.hub_core.proofs.Splits.{around_of, lacks}
 use Rattle.hub_core.proofs.hub.Hub.outlet.Goals as goal
+use Rattle.hub_core.proofs.{Splits.{around_of, lacks}, Words.{refl, state_of}}
 
 pub returns-in_default : goal.returns-in_default
 returns-in_default g c =

@@ -1,14 +1,14 @@
-use Rattle.hub_core.proofs.Words.{[], ap, Came, came, Delivered, given_but, heard, hub_of, HubState}
-use Rattle.hub_core.proofs.Words.{is_settled, IsSome, joining, lost_channels, map, may_need_memory}
-use Rattle.hub_core.proofs.Words.{None, option_map, packet_for, refl, Session, SessionState, shown}
-use Rattle.hub_core.proofs.Words.{Some, state_of, subst, sym, Takes, true, true_from_ne_false}
-use Rattle.hub_core.proofs.Words.{view_of, view_unchanged, ◌++◌, ◌+◌, ◌∙◌, ◌∷◌, ◌≡◌}
-use Rattle.std.specs.FinMap as fin
-use Rattle.hub_core.proofs.LostChannels.{lost_are, settled_as, sorted_new}
-use Rattle.hub_core.proofs.Prepared.{map_length}
-use Rattle.hub_core.proofs.{Running.goes_on, Running.holds_on, Unread.no_entry, Unread.nothing_kept}
 use Rattle.hub_core.proofs.hub.Hub.pump.Goals as goal
 use Rattle.hub_core.proofs.hub.Hub.pump.Given
+use Rattle.hub_core.proofs.{LostChannels.{lost_are, settled_as, sorted_new}, Prepared.map_length}
+use Rattle.hub_core.proofs.{Running.{goes_on, holds_on}, Unread.{no_entry, nothing_kept}}
+use Rattle.hub_core.proofs.Words.{Came, Delivered, HubState, IsSome, None, Some, [], ap, given_but}
+use Rattle.hub_core.proofs.Words.{heard, hub_of, joining, lost_channels, map, option_map}
+use Rattle.hub_core.proofs.Words.{packet_for, refl, shown, state_of, subst, sym, true, view_of}
+use Rattle.hub_core.{proofs.Words.{◌++◌, ◌∙◌, ◌∷◌, ◌≡◌}, specs.LostChannels.is_settled}
+use Rattle.{hub_core.specs.Pumping.Takes, hub_ends.specs.Came.came}
+use Rattle.net_view.{proofs.StepLaw.view_unchanged, specs.StateLines.may_need_memory}
+use Rattle.std.proofs.lemmas.Bool.{true_from_ne_false}
 
 pub invariant_of-self-in-Err : goal.invariant_of-self-in-Err
 invariant_of-self-in-Err g c = (
@@ -74,9 +74,6 @@ renew-requires-clause-order g c =
     (came (c.in-Some.item, c.in-Some.moment)).0 _ _ c.in-Ok.ensures.made.2
 
 module _ (g : Given.Over) (c : goal.Joined-item g) where
-  abbrev state : Session g.row.O.Denot → SessionState
-  state = state_of g.O.Outlet.state
-
   abbrev old : HubState
   old = hub_of g.I.Inlet.taken g.I.Inlet.ahead g.O.Outlet.state c.self.inside
 
@@ -100,7 +97,7 @@ module _ (g : Given.Over) (c : goal.Joined-item g) where
   item = came (c.in-Some.item, c.in-Some.moment)
 
   delivered : Delivered g.O.Outlet.alone (λ s. packet_for (view_of (heard old)) item s.caps)
-      old.sessions (map state c.deliver-cut.new.sessions.items)
+      old.sessions (map (state_of g.O.Outlet.state) c.deliver-cut.new.sessions.items)
   delivered =
       rw (c.prepare_arrival.ensures.states, c.self.invariant.0.view_is) at
       (c.deliver-cut.ensures.all

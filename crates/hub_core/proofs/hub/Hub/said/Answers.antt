@@ -1,13 +1,12 @@
-use Rattle.hub_core.proofs.Words.{ap, Around, asked, Err, granted, heard, hub_of, HubState, inl}
-use Rattle.hub_core.proofs.Words.{inr, Inside, is_some, map, position, refl, Responds, rules}
-use Rattle.hub_core.proofs.Words.{Session, SessionState, Some, state_of, with_sessions, ℕ, ◌==◌}
-use Rattle.hub_core.proofs.Words.{◌≡◌}
 use Rattle.hub_core.specs.declared.hub.HubError.TheVariants as fault
-use Rattle.hub_core.specs.declared.said.Meant.TheVariants as means
-use Rattle.hub_core.proofs.Running.{runs_with}
-use Rattle.hub_core.proofs.Splits.{answered_by, around_of, fits_answered, item_at, lacks}
 use Rattle.hub_core.proofs.hub.Hub.said.Goals as goal
 use Rattle.hub_core.proofs.hub.Hub.said.Given
+use Rattle.{client_caps.specs.Answers.asked, hub_core.proofs.Running.runs_with}
+use Rattle.hub_core.proofs.Splits.{answered_by, around_of, fits_answered, item_at, lacks}
+use Rattle.hub_core.proofs.Words.{Around, HubState, Inside, Session, SessionState, Some, ap, heard}
+use Rattle.hub_core.proofs.Words.{hub_of, inl, inr, is_some, map, position, refl, rules, state_of}
+use Rattle.hub_core.{proofs.Words.{with_sessions, ℕ, ◌==◌, ◌≡◌}, specs.Saying.{Responds, granted}}
+use Rattle.std.specs.Prelude.{Err}
 
 module _ (g : Given.Over) where
   abbrev state : Session g.row.O.Denot → SessionState
@@ -18,41 +17,31 @@ module _ (g : Given.Over) where
 
   -- the session that was found
   abbrev found : (i : Inside g.row.V.Denot g.row.I.Denot g.row.O.Denot g.row.V-Memory.Denot)
-      (id place : ℕ) → Some place ≡ position (λ s. s.id == id) i.sessions.items
-      → Around (hub i) id
+      (id place : ℕ) → Some place ≡ position (λ s. s.id == id) i.sessions.items → Around (hub i) id
   found i id place e =
       let s = item_at state id i.sessions.items place e in
       around_of state id (hub i) i.sessions.items place s.0 refl e s.1
 
 pub returns-in_default : goal.returns-in_default
 returns-in_default g c =
-    rw (← c.self.view_is)
-    (inl (
-      lacks (state g) c.args.id c.self.inside.sessions.items c.in_default.ensures,
-      refl,
-      refl,
-    ))
+    let none = lacks (state g) c.args.id c.self.inside.sessions.items c.in_default.ensures in
+    rw (← c.self.view_is) (inl (none, refl, refl))
 
 pub returns-in-Quits : goal.returns-in-Quits
 returns-in-Quits g c =
-    rw (← c.self.view_is) (inr (
-      found g c.self.inside c.args.id c.in-Some.place c.in-Some.ensures,
-      rw (← c.in-Quits.ensures) (refl, refl),
-    ))
+    let here = found g c.self.inside c.args.id c.in-Some.place c.in-Some.ensures in
+    rw (← c.self.view_is) (inr (here, rw (← c.in-Quits.ensures) (refl, refl)))
 
 pub returns-in-Nothing : goal.returns-in-Nothing
 returns-in-Nothing g c =
-    rw (← c.self.view_is) (inr (
-      found g c.self.inside c.args.id c.in-Some.place c.in-Some.ensures,
-      rw (← c.in-Nothing.ensures) (refl, refl),
-    ))
+    let here = found g c.self.inside c.args.id c.in-Some.place c.in-Some.ensures in
+    rw (← c.self.view_is) (inr (here, rw (← c.in-Nothing.ensures) (refl, refl)))
 
 pub returns-in-Forwards : goal.returns-in-Forwards
 returns-in-Forwards g c =
-    rw (← c.self.view_is) (inr (
-      found g c.self.inside c.args.id c.in-Some.place c.in-Some.ensures,
-      rw (← c.in-Forwards.ensures) (rw (← c.self.view_is) at c.forward.ensures),
-    ))
+    let here = found g c.self.inside c.args.id c.in-Some.place c.in-Some.ensures in
+    let sent = rw (← c.self.view_is) at c.forward.ensures in
+    rw (← c.self.view_is) (inr (here, rw (← c.in-Forwards.ensures) sent))
 
 module _ (g : Given.Over) (c : goal.In_ok-respond-in-Asks g) where
   abbrev around : Around (hub g c.self.inside) c.args.id
@@ -89,8 +78,10 @@ invariant_of-self-in-Asks g c = (
 pub returns-in_err-respond-in-Asks : goal.returns-in_err-respond-in-Asks
 returns-in_err-respond-in-Asks g c =
     let e : c.from_residual.result ≡ Err fault.OutOfMemory = search rules in
+    let here = found g c.self.inside c.args.id c.in-Some.place c.in-Some.ensures in
     rw (← c.self.view_is) (inr (
-      found g c.self.inside c.args.id c.in-Some.place c.in-Some.ensures,
-      rw (← c.in-Asks.ensures, e) (ap (λ ss. with_sessions (hub g c.self.inside)
-          (map (state g) ss.items)) c.in_err-respond-in-Asks.ensures.err),
+      here,
+      rw (← c.in-Asks.ensures, e)
+          (ap (λ ss. with_sessions (hub g c.self.inside) (map (state g) ss.items))
+          c.in_err-respond-in-Asks.ensures.err),
     ))

@@ -1,13 +1,13 @@
-use Rattle.hub_core.proofs.Words.{[], Came, Delivered, entry_for, Forwards, given_but, heard}
-use Rattle.hub_core.proofs.Words.{hub_of, HubState, IsSome, map, own_line, own_message, packet_for}
-use Rattle.hub_core.proofs.Words.{Parts, Received, refl, sent_up, Session, SessionState, Some}
-use Rattle.hub_core.proofs.Words.{state_of, sym, time_of, time_text_of, unwrap_or, View, view_now}
-use Rattle.hub_core.proofs.Words.{with_entry, ℕ, ◌∷◌, ◌≡◌}
-use Rattle.hub_core.proofs.Kept.{entry_is_message, said_content}
-use Rattle.hub_core.proofs.Unread.{each_fits_unread, given_unread, said_unread}
-use Rattle.hub_core.proofs.{Prepared.map_length, Running.said_on, Taken.online_owned}
 use Rattle.hub_core.proofs.hub.Hub.spread.Goals as goal
 use Rattle.hub_core.proofs.hub.Hub.spread.Given
+use Rattle.hub_core.proofs.{Kept.{entry_is_message, said_content}, Prepared.map_length}
+use Rattle.hub_core.proofs.{Running.said_on, Taken.online_owned, Unread.each_fits_unread}
+use Rattle.hub_core.proofs.{Unread.{given_unread, said_unread}, Words.{Came, Delivered, Forwards}}
+use Rattle.hub_core.proofs.Words.{HubState, IsSome, Parts, Received, Session, SessionState, Some}
+use Rattle.hub_core.proofs.Words.{View, [], entry_for, given_but, heard, hub_of, map, packet_for}
+use Rattle.hub_core.proofs.Words.{refl, state_of, sym, time_text_of, view_now, with_entry, ◌∷◌, ◌≡◌}
+use Rattle.{hub_core.specs.Saying.{own_line, own_message, sent_up}, irc_line.specs.Tags.time_of}
+use Rattle.std.proofs.Common.{unwrap_or}
 
 module _ (g : Given.Over) (c : goal.Joined-own-3 g) where
   abbrev state : Session g.row.O.Denot → SessionState
@@ -18,9 +18,6 @@ module _ (g : Given.Over) (c : goal.Joined-own-3 g) where
 
   abbrev own : Parts
   own = own_line view c.args.line.now
-
-  abbrev moment : ℕ
-  moment = c.args.moment.0
 
   abbrev old : HubState
   old = hub_of g.I.Inlet.taken g.I.Inlet.ahead g.O.Outlet.state c.self.inside
@@ -36,23 +33,23 @@ module _ (g : Given.Over) (c : goal.Joined-own-3 g) where
       }
 
   -- what was made is the message as from us
-  own_said : own_message old c.args.line.now moment ≡ Some (Received own, moment)
+  own_said : own_message old c.args.line.now c.args.moment.0 ≡ Some (Received own, c.args.moment.0)
   own_said = rw (c.requires.message, c.self.invariant.0.view_is) refl
 
   delivered : (v : View) → v ≡ view → Delivered g.O.Outlet.alone
-      (given_but (Some c.args.id) (packet_for v (Received own, moment))) old.sessions
+      (given_but (Some c.args.id) (packet_for v (Received own, c.args.moment.0))) old.sessions
       (map state c.deliver.new.sessions.items)
   delivered v e =
       rw (e, ← c.prepare_item.ensures.states) (c.deliver.ensures.all _
       (rw c.in_ok-from_us.ensures at c.in_ok-entry.ensures.coming))
 
-  made : c.in_ok-entry.entry ≡ entry_for (Received own, moment)
+  made : c.in_ok-entry.entry ≡ entry_for (Received own, c.args.moment.0)
   made = rw c.in_ok-from_us.ensures at c.in_ok-entry.ensures.made
 
-  kept : new.history ≡ with_entry old.history (entry_for (Received own, moment))
+  kept : new.history ≡ with_entry old.history (entry_for (Received own, c.args.moment.0))
   kept = rw (← made) c.in_ok-keep.ensures.ok
 
-  forwards : Forwards g.O.Outlet.alone old c.args.id c.args.line.now moment new
+  forwards : Forwards g.O.Outlet.alone old c.args.id c.args.line.now c.args.moment.0 new
   forwards = record {
     online = rw (← c.self.view_is) at c.requires.online;
     upstream = rw c.requires.packet at c.put_into_room.ensures;
@@ -70,17 +67,17 @@ module _ (g : Given.Over) (c : goal.Joined-own-3 g) where
 
 pub invariant_of-self-2 : goal.invariant_of-self-2
 invariant_of-self-2 g c = (
-  let x : Came = (Received (own g c), moment g c) in
+  let x : Came = (Received (own g c), c.args.moment.0) in
       said_on (old g c) (view g c) c.self.inside.online _ _ _ _ (entry_for x)
       (sent_up c.args.line.now ∷ []) c.self.invariant.0 (kept g c) (forwards g c).upstream.sent
-      (said_content (unwrap_or (time_of (own g c)) (time_text_of (moment g c))) (own g c).source
+      (said_content (unwrap_or (time_of (own g c)) (time_text_of c.args.moment.0)) (own g c).source
       (own g c) c.requires.message (sourced g c))
       (λ some. rw (← c.self.view_is) at c.requires.number) (entry_is_message x)
       (rw (made g c) at c.in_ok-entry.ensures.written)
       (each_fits_unread g.O.Outlet.alone (view g c)
       (given_but (Some c.args.id) (packet_for (view g c) x)) (old g c).sessions _
       (given_unread (Some c.args.id) (packet_for (view g c) x)
-      (λ caps. said_unread (view g c) (own g c) (moment g c) caps c.requires.message))
+      (λ caps. said_unread (view g c) (own g c) c.args.moment.0 caps c.requires.message))
       c.self.invariant.0.fit (delivered g c (view g c) refl)),
   c.self.invariant.1,
 )

@@ -1,6 +1,6 @@
-use Rattle.hub_core.proofs.Words.{AreStateParts, bytes_cmp, empty-shown, joining, rules, subst, sym}
-use Rattle.hub_core.proofs.Running.{started_runs}
 use Rattle.hub_core.proofs.hub.Hub.start.Goals as goal
+use Rattle.hub_core.proofs.{Running.started_runs, Words.{bytes_cmp, empty-shown, joining, rules}}
+use Rattle.hub_core.{proofs.Words.{subst, sym}, specs.StateParts.AreStateParts}
 
 pub invariant_of-result : goal.invariant_of-result
 invariant_of-result g c = (

@@ -1,6 +1,5 @@
-use Rattle.hub_core.proofs.Words.{ap, content_said, filter_map, refl, rules}
-use Rattle.hub_core.proofs.Running.{runs_with}
 use Rattle.hub_core.proofs.hub.Hub.upstream_free.Goals as goal
+use Rattle.hub_core.proofs.{Running.runs_with, Words.{ap, content_said, filter_map, refl, rules}}
 
 pub invariant_of-self : goal.invariant_of-self
 invariant_of-self g c = (

@@ -1,13 +1,13 @@
-use Rattle.hub_core.proofs.Words.{ap, Around, EachFits, Fits, get_or, hub_of, HubState, inl, inr}
-use Rattle.hub_core.proofs.Words.{Inside, map, MemoryOutlet, on_err, position, refl, Session}
-use Rattle.hub_core.proofs.Words.{SessionState, set, Some, state_of, sym, View, with_outlet}
-use Rattle.hub_core.proofs.Words.{with_sessions, ℕ, ◌++◌, ◌==◌, ◌∙◌, ◌∷◌, ◌≡◌}
-use Rattle.hub_core.proofs.Each.{each_at, each_with}
-use Rattle.hub_core.proofs.Splits.{around_of, lacks, set_states, within}
-use Rattle.hub_core.proofs.{FoundRoom.drained, Running.fits_same, Running.runs_with}
-use Rattle.hub_ends.specs.Memory.{state_of as memory_state}
 use Rattle.hub_core.proofs.memory.Hub+V+I+MemoryOutlet.drain_session.Goals as goal
 use Rattle.hub_core.proofs.memory.Hub+V+I+MemoryOutlet.drain_session.Given
+use Rattle.hub_core.proofs.{Each.{each_at, each_with}, FoundRoom.drained, Running.fits_same}
+use Rattle.hub_core.proofs.{Running.runs_with, Splits.{around_of, lacks, set_states, within}}
+use Rattle.hub_core.proofs.Words.{Around, EachFits, Fits, HubState, Inside, Session, SessionState}
+use Rattle.hub_core.proofs.Words.{Some, View, ap, get_or, hub_of, inl, inr, map, position, refl}
+use Rattle.hub_core.proofs.Words.{set, state_of, sym, with_outlet, with_sessions, ℕ, ◌++◌, ◌==◌}
+use Rattle.{hub_core.proofs.Words.{◌∙◌, ◌∷◌, ◌≡◌}, hub_ends.specs.Memory.state_of as memory_state}
+use Rattle.hub_ends.specs.declared.memory_outlet.MemoryOutlet.{MemoryOutlet}
+use Rattle.irc_line.proofs.Outcomes.{on_err}
 
 abbrev state : Session MemoryOutlet → SessionState
 state = state_of memory_state
@@ -32,9 +32,9 @@ module _ (g : Given.Over)
         → EachFits v (map state (set i.sessions.items place record s { outlet = o }))
     fits v sent closed fit =
         let all = rw around.was at fit in
+        let here = each_at (Fits v) around.front around.here around.back all in
         rw now (each_with (Fits v) around.front around.here _ around.back
-        (fits_same v around.here (memory_state o) sent closed
-        (each_at (Fits v) around.front around.here around.back all)) all)
+        (fits_same v around.here (memory_state o) sent closed here) all)
 
 pub returns-in_default-clause-ok : goal.returns-in_default-clause-ok
 returns-in_default-clause-ok g c =

@@ -1,6 +1,5 @@
-use Rattle.hub_core.proofs.Words.{refl}
-use Rattle.hub_core.proofs.FoundRoom.{drained}
 use Rattle.hub_core.proofs.memory.Hub+V+I+MemoryOutlet.drain_upstream.Goals as goal
+use Rattle.hub_core.proofs.{FoundRoom.drained, Words.refl}
 
 pub returns-clause-ok : goal.returns-clause-ok
 returns-clause-ok g c =

@@ -1,8 +1,6 @@
-use Rattle.std.proofs.Common.{◌≡◌, ◌+◌, ◌-◌, ◌≤◌}
-use Rattle.std.specs.Vec.{vec_len, vec_capacity}
-use Rattle.std.specs.VecDeque.{deque_len}
-use Rattle.hub_ends.specs.Memory.{state_of}
 use Rattle.hub_ends.proofs.memory_outlet.MemoryOutlet.drain.Given as goal
+use Rattle.{hub_ends.specs.Memory.state_of, std.proofs.Common.{◌+◌, ◌-◌, ◌≡◌, ◌≤◌}}
+use Rattle.std.specs.{Vec.{vec_capacity, vec_len}, VecDeque.deque_len}
 
 abbrev pub invariant-loop : goal.invariant-loop
 invariant-loop l = record {
