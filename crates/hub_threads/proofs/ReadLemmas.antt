@@ -1,36 +1,28 @@
 -- The lines of a network that was read, and the loss behind them.
-use Rattle.std.proofs.Common.{◌≡◌, ◌∙◌, refl, ap, ap₂, sym, ℕ, List, [], ◌∷◌, ◌++◌}
-use Rattle.std.proofs.Common.{append_assoc, append-nil, Option, map}
-use Rattle.std.proofs.KnownBytes.{Consumes-nil}
-use Rattle.std.proofs.lemmas.List.{map-append}
-use Rattle.std.specs.List.{concat}
-use Rattle.std.specs.Io.KnownBytes.{Consumes}
-use Rattle.std.specs.declared.convert.Infallible.{Infallible}
-use Rattle.irc_line.specs.Input.{WasRead}
-use Rattle.irc_line.specs.Line.{Parts}
-use Rattle.irc_line.specs.Lines.{Pending, fed_all, lines_all}
-use Rattle.irc_line.specs.declared.input.InputEnd.{InputEnd}
 use Rattle.irc_line.specs.declared.input.InputEnd.TheVariants as input
-use Rattle.net_view.specs.Arrival.{Lost, Received}
-use Rattle.hub_ends.specs.Came.{Came, arrivals}
-use Rattle.hub_threads.specs.declared.reading.ReadEnd.{ReadEnd}
 use Rattle.hub_threads.specs.declared.reading.ReadEnd.TheVariants as cause
-use Rattle.hub_threads.specs.Reads.{IsReadCause, IsReadIn, received_at, why_of}
+use Rattle.{hub_ends.specs.Came.{Came, arrivals}, hub_threads.specs.Reads.{IsReadCause, IsReadIn}}
+use Rattle.hub_threads.specs.{Reads.{received_at, why_of}, declared.reading.ReadEnd.ReadEnd}
+use Rattle.irc_line.specs.{Input.WasRead, Line.Parts, Lines.{Pending, fed_all, lines_all}}
+use Rattle.{irc_line.specs.declared.input.InputEnd.InputEnd, net_view.specs.Arrival.Lost}
+use Rattle.{net_view.specs.Arrival.Received, std.proofs.Common.{List, Option, [], append-nil}}
+use Rattle.std.proofs.Common.{append_assoc, map, refl, sym, ℕ, ◌++◌, ◌∷◌, ◌≡◌}
+use Rattle.std.proofs.{KnownBytes.Consumes-nil, lemmas.List.map-append}
+use Rattle.std.specs.{Io.KnownBytes.Consumes, List.concat, declared.convert.Infallible.Infallible}
 
 arrivals_at : (moment : ℕ) (lines : List Parts)
     → arrivals (received_at moment lines) ≡ map Received lines
 arrivals_at moment [] = refl
-arrivals_at moment (line ∷ lines) = ap (λ l. Received line ∷ l) (arrivals_at moment lines)
+arrivals_at moment (line ∷ lines) = rw (arrivals_at moment lines)
 
 -- lines that were put at a moment have arrived, behind others
 pub arrived : (was mid now : List Came) (moment : ℕ) (before lines : List Parts)
     → arrivals mid ≡ arrivals was ++ map Received before → now ≡ mid ++ received_at moment lines
     → arrivals now ≡ arrivals was ++ map Received (before ++ lines)
 arrived was mid now moment before lines first next =
-    ap arrivals next ∙ map-append (λ (c : Came). c.0) mid (received_at moment lines)
-    ∙ ap₂ (λ a b. a ++ b) first (arrivals_at moment lines)
-    ∙ append_assoc (arrivals was) (map Received before) (map Received lines)
-    ∙ ap (λ l. arrivals was ++ l) (sym (map-append Received before lines))
+    let both = map-append (λ (c : Came). c.0) mid (received_at moment lines) in
+    rw (next, both, first, arrivals_at moment lines, map-append Received before lines)
+    (append_assoc (arrivals was) (map Received before) (map Received lines))
 
 -- the lines of these pieces were put, and then the loss
 read_to : (old : Pending) (was now last : List Came) (u w : Option (List ℕ))
@@ -44,7 +36,7 @@ read_to old was now last u w pieces refused ended read put lost why = record {
   pieces = pieces;
   refused = refused;
   read = read;
-  put = lost ∙ ap (λ l. l ++ Lost ∷ []) put ∙ append_assoc (arrivals was) _ (Lost ∷ []);
+  put = rw (lost, put) (append_assoc (arrivals was) _ (Lost ∷ []));
   why = why;
 }
 

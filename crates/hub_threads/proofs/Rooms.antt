@@ -1,7 +1,6 @@
 -- The room of an outlet, over two steps.
-use Rattle.std.proofs.Common.{◌∙◌, List, arith, false}
-use Rattle.irc_line.specs.Line.{Parts}
-use Rattle.hub_ends.specs.Outlets.{FindsRoom, OutletState, Took}
+use Rattle.{hub_ends.specs.Outlets.{FindsRoom, OutletState, Took}, irc_line.specs.Line.Parts}
+use Rattle.std.proofs.Common.{List, arith, false, ◌∙◌}
 
 -- it took a packet, and then more room was found
 pub took_and_found : (o mid new : OutletState) (packet : List Parts) → FindsRoom false mid new

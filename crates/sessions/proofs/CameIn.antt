@@ -1,29 +1,21 @@
 -- A client that came in, from what its login and the check of its claim say.
-use Rattle.std.proofs.Common.{◌≡◌, ℕ, List, inr, map, Option, Some}
-use Rattle.std.specs.Prelude.{slice_get}
-use Rattle.irc_line.specs.Line.{Parts}
-use Rattle.irc_line.specs.Lines.{Pending}
-use Rattle.bnc_config.specs.Settings.{Settings}
-use Rattle.bnc_config.specs.declared.place.Place.{Place}
-use Rattle.sessions.specs.Admission.{Admits, IsUnknown}
-use Rattle.sessions.specs.Claims.{ClaimParts, parts_of}
-use Rattle.sessions.specs.Logins.{LogsIn}
-use Rattle.sessions.specs.Serving.{CameIn, GotNoWayIn}
-use Rattle.sessions.specs.declared.arrival.Ending.{Ending}
-use Rattle.sessions.specs.declared.arrival.Ending.TheVariants.{Claims}
-use Rattle.sessions.specs.declared.claim.Claim.{Claim}
-use Rattle.sessions.proofs.Places.{let_in_by}
+use Rattle.bnc_config.specs.{Settings.Settings, declared.place.Place.Place}
+use Rattle.{irc_line.specs.{Line.Parts, Lines.Pending}, sessions.proofs.Places.let_in_by}
+use Rattle.sessions.specs.{Admission.{Admits, IsUnknown}, Claims.{ClaimParts, parts_of}}
+use Rattle.sessions.specs.{Logins.LogsIn, Serving.{CameIn, GotNoWayIn}}
+use Rattle.sessions.specs.declared.{arrival.Ending.{Ending, TheVariants.Claims}, claim.Claim.Claim}
+use Rattle.std.{proofs.Common.{List, Option, Some, inr, map, ℕ, ◌≡◌}, specs.Prelude.slice_get}
 
 -- its login ended with a claim, and the claim was let in
 pub came_in_by : {N : Type 0} (settings : Settings) (networks : List (Place × N))
-    (began left was now : Option (List ℕ)) (claim : Claim) (n : N) (ending : Ending)
-    (lines : List Parts) (splitter : Pending) → LogsIn began left was now ending lines splitter
+    {began left was now : Option (List ℕ)} {claim : Claim} {n : N} {ending : Ending}
+    {lines : List Parts} {splitter : Pending} → LogsIn began left was now ending lines splitter
     → ending ≡ Claims claim
     → ((place : Place) × (number : ℕ) × Admits settings (parts_of claim) (Some place)
     × (slice_get networks number ≡ Some (place, n)))
     → CameIn settings (map (λ (one : Place × N). one.0) networks) began was
-came_in_by settings networks began left was now claim n ending lines splitter login is let_in =
-    record {
+came_in_by settings networks {left = left} {now = now} {claim = claim} {n = n} {lines = lines}
+    {splitter = splitter} login is let_in = record {
       claim = claim;
       left = left;
       now = now;
@@ -35,14 +27,14 @@ came_in_by settings networks began left was now claim n ending lines splitter lo
 
 -- its login ended with a claim, and no network that is served is known for it
 pub no_way_in_for : {N : Type 0} (turns_away : ClaimParts → Type 0) (settings : Settings)
-    (networks : List (Place × N)) (began left was now : Option (List ℕ)) (claim : Claim)
-    (ending : Ending) (lines : List Parts) (splitter : Pending)
+    (networks : List (Place × N)) {began left was now : Option (List ℕ)} {claim : Claim}
+    {ending : Ending} {lines : List Parts} {splitter : Pending}
     → LogsIn began left was now ending lines splitter → ending ≡ Claims claim
     → ((place : Place) → Admits settings (parts_of claim) (Some place)
     → IsUnknown (map (λ (one : Place × N). one.0) networks) place)
     → GotNoWayIn turns_away settings (map (λ (one : Place × N). one.0) networks) began left was
-no_way_in_for turns_away settings networks began left was now claim ending lines splitter login is
-    none = record {
+no_way_in_for turns_away settings networks {now = now} {claim = claim} {lines = lines}
+    {splitter = splitter} login is none = record {
       ending = Claims claim;
       now = now;
       lines = lines;

@@ -1,84 +1,46 @@
 -- How a login ends.
-use Rattle.std.specs.Prelude.{◌≡◌, ℕ, ◌+◌, Bool, true, false, ◌||◌, ◌==◌, nat_le, length}
-use Rattle.std.specs.Prelude.{List, [], ◌∷◌, ◌++◌, if◌then◌else◌}
-use Rattle.std.specs.List.{list_any}
-use Rattle.std.proofs.Common.{Option, Some, None, ◌⊎◌, inl, inr, refl, sym, ◌∙◌, arith}
-use Rattle.std.proofs.Common.{length-append, append-nil, append_assoc}
-use Rattle.std.proofs.lemmas.Bool.Decides.{nat_tests}
-use Rattle.irc_line.specs.Line.{Parts}
-use Rattle.net_view.proofs.Tests.{or_false}
-use Rattle.sessions.specs.Claims.{ClaimParts}
-use Rattle.sessions.specs.Given.{is_complete, stages}
-use Rattle.sessions.specs.Answers.{answer_to, claim_in, closes, ends_by, has_ended, is_end}
-use Rattle.sessions.specs.Answers.{is_quit, replies, sends}
-use Rattle.sessions.proofs.LookedBack.{any_more, any_stage_more}
+use Rattle.irc_line.proofs.Logic.{or_true}
+use Rattle.{irc_line.specs.Line.Parts, sessions.proofs.LookedBack.{any_more, any_stage_more}}
+use Rattle.sessions.specs.Answers.{answer_to, claim_in, closes, ends_by, has_ended, is_end, is_quit}
+use Rattle.sessions.specs.{Answers.{replies, sends}, Claims.ClaimParts, Given.{is_complete, stages}}
+use Rattle.std.proofs.Common.{None, Option, Some, append-nil, append_assoc, arith, length-append}
+use Rattle.std.{proofs.{Common.{refl, ◌∙◌}, lemmas.Bool.Decides.nat_tests}, specs.List.list_any}
+use Rattle.std.specs.Prelude.{Bool, List, [], false, if◌then◌else◌, length, nat_le, true, ℕ, ◌++◌}
+use Rattle.std.specs.Prelude.{◌+◌, ◌==◌, ◌||◌, ◌∷◌, ◌≡◌}
 
--- a test passes or not
-pub sure : (b : Bool) → (b ≡ true) ⊎ (b ≡ false)
-sure true = inl refl
-sure false = inr refl
-
-pub ended_more : (before : List Parts) (line : Parts) → has_ended (before ++ line ∷ [])
+ended_more : (before : List Parts) (line : Parts) → has_ended (before ++ line ∷ [])
     ≡ ((list_any is_quit before || is_quit line)
     || ((list_any is_complete (stages before) || is_complete (before ++ line ∷ []))
     || nat_le 200 (length before + 1)))
 ended_more before line =
-    rw (
-      any_more is_quit before line,
-      any_stage_more is_complete before line,
-      length-append before (line ∷ []),
-    ) refl
+    rw (any_more is_quit before line, any_stage_more is_complete before line)
+    (rw (length-append before (line ∷ [])))
 
 ends : (claim : Option ClaimParts) → is_end (ends_by claim) ≡ true
 ends (Some claim) = refl
 ends None = refl
 
--- one more line where none had ended it
-step_at : (quit complete : Bool) (n : ℕ) (claim : Option ClaimParts) (lines : List Parts)
-    → nat_le 200 n ≡ false
-    → (quit || (complete || nat_le 200 (n + 1)))
-    ≡ is_end (if quit then closes [] else if complete then ends_by claim else
-    if n == 199 then closes [] else sends lines)
-step_at true complete n claim lines few = refl
-step_at false true n claim lines few = sym (ends claim)
-step_at false false n claim lines few = elim (sure (n == 199)) [
-  | inl last ↦ let high : nat_le 200 (n + 1) ≡ true = grind (arith, nat_tests) in
-      rw (last, high) refl
-  | inr other ↦ let low : nat_le 200 (n + 1) ≡ false = grind (arith, nat_tests) in
-      rw (other, low) refl
-]
-
-or_true : (x : Bool) → (x || true) ≡ true
-or_true true = refl
-or_true false = refl
-
--- what has ended stays so
-pub ended_stays : (before : List Parts) (line : Parts) → has_ended before ≡ true
-    → has_ended (before ++ line ∷ []) ≡ true
-ended_stays before line ended =
-    ended_more before line
-    ∙ still (list_any is_quit before) (is_quit line) (list_any is_complete (stages before))
-    (is_complete (before ++ line ∷ [])) (length before) ended where
-      still : (q r c d : Bool) (n : ℕ) → (q || (c || nat_le 200 n)) ≡ true
-          → ((q || r) || ((c || d) || nat_le 200 (n + 1))) ≡ true
-      still true r c d n h = refl
-      still false r true d n h = or_true r
-      still false r false d n h =
-          let more : nat_le 200 (n + 1) ≡ true = grind (arith, nat_tests) in
-          rw (more, or_true, or_true) refl
+-- one more line, by what had come of each kind
+step_at : (q quit c complete : Bool) (n : ℕ) (claim : Option ClaimParts) (lines : List Parts)
+    → ((q || quit) || ((c || complete) || nat_le 200 (n + 1)))
+    ≡ ((q || (c || nat_le 200 n)) || is_end (if q || (c || nat_le 200 n) then sends [] else
+    if quit then closes [] else if complete then ends_by claim else
+    if n == 199 then closes [] else sends lines))
+step_at q quit c complete n claim lines = grind (arith, nat_tests, ends claim)
 
 -- it has ended after one more line where it had ended, or this line's answer is its end
 pub ended_step : (before : List Parts) (line : Parts)
     → has_ended (before ++ line ∷ []) ≡ (has_ended before || is_end (answer_to before line))
-ended_step before line = elim (sure (has_ended before)) [
-  | inl ended ↦ ended_stays before line ended ∙ rw ended refl
-  | inr going ↦
-      let quit = or_false (list_any is_quit before) _ going in
-      let rest = or_false (list_any is_complete (stages before)) _ (quit.1) in
-      ended_more before line
-      ∙ rw (quit.0, rest.0, rest.1) (step_at (is_quit line) (is_complete (before ++ line ∷ []))
-      (length before) (claim_in (before ++ line ∷ [])) (replies before line) (rest.1))
-]
+ended_step before line =
+    ended_more before line
+    ∙ step_at (list_any is_quit before) (is_quit line) (list_any is_complete (stages before))
+    (is_complete (before ++ line ∷ [])) (length before) (claim_in (before ++ line ∷ []))
+    (replies before line)
+
+-- what has ended stays so
+pub ended_stays : (before : List Parts) (line : Parts) → has_ended before ≡ true
+    → has_ended (before ++ line ∷ []) ≡ true
+ended_stays before line ended = rw (ended_step before line, ended)
 
 ended_for_good : (before after : List Parts) → has_ended before ≡ true
     → has_ended (before ++ after) ≡ true
@@ -91,34 +53,36 @@ ended_for_good before (x ∷ xs) ended =
 pub nothing_more : (before : List Parts) (line : Parts) → is_end (answer_to before line) ≡ true
     → (after : List Parts) (next : Parts) → answer_to (before ++ line ∷ after) next ≡ sends []
 nothing_more before line ends after next =
-    let ended : has_ended (before ++ line ∷ []) ≡ true =
-    ended_step before line ∙ rw ends (or_true (has_ended before)) in
+    let ended : has_ended (before ++ line ∷ []) ≡ true = rw (ended_step before line, ends, or_true)
+    in
     let all : has_ended (before ++ line ∷ after) ≡ true =
     rw (← append_assoc before (line ∷ []) after) (ended_for_good (before ++ line ∷ []) after ended)
     in
-    rw all refl
+    rw all
 
 -- ---- one more line where it has not ended
 
 pub ends_complete : (before : List Parts) (line : Parts)
     → is_complete (before ++ line ∷ []) ≡ true → has_ended (before ++ line ∷ []) ≡ true
 ends_complete before line complete =
-    ended_more before line
-    ∙ rw complete (rw or_true (or_true (list_any is_quit before || is_quit line)))
+    ended_more before line ∙ by_one _ (list_any is_complete (stages before)) _ _ complete where
+      by_one : (a c d e : Bool) → d ≡ true → (a || ((c || d) || e)) ≡ true
+      by_one a c d e h = grind arith
 
 pub ends_at_200 : (before : List Parts) (line : Parts) → length before ≡ 199
     → has_ended (before ++ line ∷ []) ≡ true
 ends_at_200 before line last =
-    let high : nat_le 200 (length before + 1) ≡ true = grind (arith, nat_tests) in
-    ended_more before line
-    ∙ rw (high, or_true) (or_true (list_any is_quit before || is_quit line))
+    ended_more before line ∙ by_count _ _ (length before) last where
+      by_count : (a b : Bool) (n : ℕ) → n ≡ 199 → (a || (b || nat_le 200 (n + 1))) ≡ true
+      by_count a b n h = grind (arith, nat_tests)
 
 pub goes_on : (before : List Parts) (line : Parts) → has_ended before ≡ false
     → is_quit line ≡ false → is_complete (before ++ line ∷ []) ≡ false
     → (length before ≡ 199 → ⊥) → has_ended (before ++ line ∷ []) ≡ false
 goes_on before line going quit complete last =
-    let none = or_false (list_any is_quit before) _ going in
-    let rest = or_false (list_any is_complete (stages before)) _ (none.1) in
-    let few : nat_le 200 (length before) ≡ false = rest.1 in
-    let low : nat_le 200 (length before + 1) ≡ false = grind (arith, nat_tests) in
-    ended_more before line ∙ rw (none.0, rest.0, quit, complete, low) refl
+    ended_more before line
+    ∙ by_none (list_any is_quit before) _ (list_any is_complete (stages before)) _ (length before)
+    going quit complete last where
+      by_none : (q r c d : Bool) (n : ℕ) → (q || (c || nat_le 200 n)) ≡ false → r ≡ false
+          → d ≡ false → (n ≡ 199 → ⊥) → ((q || r) || ((c || d) || nat_le 200 (n + 1))) ≡ false
+      by_none q r c d n going quit complete last = grind (arith, nat_tests)

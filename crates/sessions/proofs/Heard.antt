@@ -1,44 +1,19 @@
 -- A client that is heard until its session ends.
-use Rattle.std.proofs.Common.{◌≡◌, ◌∙◌, refl, ap, ap₂, Bool, true, false, List, [], ◌∷◌, ◌++◌}
-use Rattle.std.proofs.Common.{◌||◌, ℕ, Option, None, Some, append-nil}
-use Rattle.std.proofs.KnownBytes.{Consumes-nil}
-use Rattle.std.specs.Prelude.{IfNone, IfSome}
-use Rattle.std.specs.List.{concat}
-use Rattle.std.specs.Io.KnownBytes.{Consumes}
-use Rattle.irc_line.specs.Input.{WasRead}
-use Rattle.irc_line.specs.Line.{Parts}
-use Rattle.irc_line.specs.Lines.{Pending, fed_all, lines_all}
-use Rattle.irc_line.specs.declared.input.InputEnd.{InputEnd}
 use Rattle.irc_line.specs.declared.input.InputEnd.TheVariants as input
-use Rattle.sessions.specs.Answers.{is_quit}
-use Rattle.sessions.specs.Leaving.{IsLeaveCause, WasHeard, WereSaid, has_quit, leave_at}
-use Rattle.sessions.specs.declared.attending.Leave.{Leave}
 use Rattle.sessions.specs.declared.attending.Leave.TheVariants as leave
-use Rattle.sessions.proofs.LookedBack.{any_append, any_more}
+use Rattle.irc_line.specs.{Input.WasRead, Line.Parts, Lines.{Pending, fed_all, lines_all}}
+use Rattle.{irc_line.specs.declared.input.InputEnd.InputEnd, sessions.specs.Leaving.IsLeaveCause}
+use Rattle.sessions.specs.{Leaving.{WasHeard, WereSaid, leave_at}, declared.attending.Leave.Leave}
+use Rattle.std.proofs.Common.{List, None, Option, Some, [], append-nil, arith, refl, ℕ, ◌++◌, ◌≡◌}
+use Rattle.std.proofs.{KnownBytes.Consumes-nil, lemmas.List.Folds.list_any-append}
+use Rattle.std.specs.{Io.KnownBytes.Consumes, List.concat, Prelude.{IfNone, IfSome}}
 
 -- ---- lines
-
-or_true : (x : Bool) → (x || true) ≡ true
-or_true true = refl
-or_true false = refl
-
-pub none_more : (lines more : List Parts) (line : Parts) → more ≡ lines ++ line ∷ []
-    → has_quit lines ≡ false → is_quit line ≡ false → has_quit more ≡ false
-none_more lines more line is none other =
-    ap has_quit is ∙ any_more is_quit lines line ∙ ap₂ (λ a b. a || b) none other
 
 -- lines behind others, none of which ended the session
 said_more : (before lines : List Parts) (r : Option Leave) → WereSaid before None
     → WereSaid lines r → WereSaid (before ++ lines) r
-said_more before lines None none said =
-    any_append is_quit before lines ∙ ap₂ (λ a b. a || b) none said
-said_more before lines (Some leave.Quit) none said =
-    any_append is_quit before lines ∙ ap (λ b. has_quit before || b) said ∙ or_true _
-said_more before lines (Some leave.Cut) none said = tt
-said_more before lines (Some leave.EndOfInput) none said = absurd said
-said_more before lines (Some leave.ReadFault) none said = absurd said
-said_more before lines (Some leave.TooLong) none said = absurd said
-said_more before lines (Some leave.OutOfMemory) none said = absurd said
+said_more before lines r none said = grind (arith, list_any-append)
 
 pub said_on : (before lines : List Parts) (r : Option Leave) → WereSaid before None
     → WereSaid lines r → IfNone r (WereSaid (before ++ lines) None)
@@ -52,39 +27,6 @@ said_last before lines (Some why) none said = said_more before lines (Some why) 
 
 -- ---- a session
 
--- nothing was read behind what was unread
-pub heard_unread : (splitter : Pending) (unread : List Parts) (began : Option (List ℕ))
-    (why : Leave) → IsLeaveCause splitter unread [] began why
-    → WasHeard splitter unread began began why
-heard_unread splitter unread began why cause = record {
-  pieces = [];
-  refused = [];
-  read = Consumes-nil began;
-  cause = rw append-nil cause;
-}
-
--- it left by a line that was unread
-pub left_unread : (splitter : Pending) (unread : List Parts) (began : Option (List ℕ))
-    (why : Leave) → WereSaid unread (Some why) → WasHeard splitter unread began began why
-left_unread splitter unread began leave.Quit said =
-    heard_unread splitter unread began leave.Quit (refl, said)
-left_unread splitter unread began leave.Cut said = heard_unread splitter unread began leave.Cut tt
-left_unread splitter unread began leave.EndOfInput said = absurd said
-left_unread splitter unread began leave.ReadFault said = absurd said
-left_unread splitter unread began leave.TooLong said = absurd said
-left_unread splitter unread began leave.OutOfMemory said = absurd said
-
-heard : (old : Pending) (unread : List Parts) (u w : Option (List ℕ)) (pieces : List (List ℕ))
-    (why : Leave) → Consumes u w (concat pieces)
-    → IsLeaveCause (fed_all old pieces) (unread ++ lines_all old pieces) [] w why
-    → WasHeard old unread u w why
-heard old unread u w pieces why read cause = record {
-  pieces = pieces;
-  refused = [];
-  read = rw append-nil read;
-  cause = cause;
-}
-
 heard_refused : (old new : Pending) (unread : List Parts) (u w : Option (List ℕ))
     (pieces : List (List ℕ)) (piece : List ℕ) (why : Leave) → Consumes u w (concat pieces ++ piece)
     → new ≡ fed_all old pieces
@@ -96,6 +38,31 @@ heard_refused old new unread u w pieces piece why read held cause = record {
   read = read;
   cause = rw (← held) cause;
 }
+
+heard : (old : Pending) (unread : List Parts) (u w : Option (List ℕ)) (pieces : List (List ℕ))
+    (why : Leave) → Consumes u w (concat pieces)
+    → IsLeaveCause (fed_all old pieces) (unread ++ lines_all old pieces) [] w why
+    → WasHeard old unread u w why
+heard old unread u w pieces why read cause =
+    heard_refused old _ unread u w pieces [] why (rw append-nil read) refl cause
+
+-- nothing was read behind what was unread
+pub heard_unread : (splitter : Pending) (unread : List Parts) (began : Option (List ℕ))
+    (why : Leave) → IsLeaveCause splitter unread [] began why
+    → WasHeard splitter unread began began why
+heard_unread splitter unread began why cause =
+    heard splitter unread began began [] why (Consumes-nil began) (rw append-nil cause)
+
+-- it left by a line that was unread
+pub left_unread : (splitter : Pending) (unread : List Parts) (began : Option (List ℕ))
+    (why : Leave) → WereSaid unread (Some why) → WasHeard splitter unread began began why
+left_unread splitter unread began leave.Quit said =
+    heard_unread splitter unread began leave.Quit (refl, said)
+left_unread splitter unread began leave.Cut said = heard_unread splitter unread began leave.Cut tt
+left_unread splitter unread began leave.EndOfInput said = absurd said
+left_unread splitter unread began leave.ReadFault said = absurd said
+left_unread splitter unread began leave.TooLong said = absurd said
+left_unread splitter unread began leave.OutOfMemory said = absurd said
 
 -- it was read to its end, or left by a line
 pub was_heard : (old new : Pending) (unread : List Parts) (u w : Option (List ℕ))

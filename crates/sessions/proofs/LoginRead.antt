@@ -1,23 +1,16 @@
 -- A login that took the lines of its client, piece by piece and to its end.
-use Rattle.std.proofs.Common.{◌≡◌, ◌∙◌, ◌+◌, refl, sym, ap, subst, ℕ, false, List, [], ◌∷◌, ◌++◌}
-use Rattle.std.proofs.Common.{append_assoc, drop, take, Option, Result, Ok, Err}
-use Rattle.std.specs.Io.KnownBytes.{Appends, Consumes}
-use Rattle.irc_line.specs.Input.{WasReadAnew}
-use Rattle.irc_line.specs.Line.{Parts}
-use Rattle.irc_line.specs.Lines.{Pending}
-use Rattle.irc_line.specs.Writing.{bytes_of}
-use Rattle.irc_line.specs.declared.input.InputEnd.{InputEnd}
 use Rattle.irc_line.specs.declared.input.InputEnd.TheVariants as input
-use Rattle.irc_line.proofs.LinesTaken.{behind, place_parts, place_taken}
-use Rattle.sessions.specs.Answers.{has_ended}
-use Rattle.sessions.specs.Logins.{EndsLogin, GoesOn, IsCauseOf, IsEndAt, LogsIn, outcome_of}
-use Rattle.sessions.specs.Logins.{sent_for}
-use Rattle.sessions.specs.Progress.{Progress}
-use Rattle.sessions.specs.Taken.{HasTaken}
-use Rattle.sessions.specs.declared.arrival.LastLine.{LastLine}
-use Rattle.sessions.specs.declared.fault.LoginFault.{LoginFault}
-use Rattle.sessions.specs.declared.fault.LoginFault.TheVariants.{NoRoom, Read, TooLong}
-use Rattle.sessions.proofs.Sent.{lines_cause, sent_for_more}
+use Rattle.irc_line.{proofs.LinesTaken.{behind, place_parts, place_taken}, specs.Input.WasReadAnew}
+use Rattle.irc_line.specs.{Line.Parts, Lines.Pending, Writing.bytes_of}
+use Rattle.{irc_line.specs.declared.input.InputEnd.InputEnd, sessions.proofs.Sent.lines_cause}
+use Rattle.sessions.{proofs.Sent.sent_for_more, specs.{Answers.has_ended, Logins.EndsLogin}}
+use Rattle.sessions.specs.Logins.{GoesOn, IsCauseOf, IsEndAt, LogsIn, outcome_of, sent_for}
+use Rattle.sessions.specs.{Progress.Progress, Taken.HasTaken, declared.arrival.LastLine.LastLine}
+use Rattle.sessions.specs.declared.fault.LoginFault.{LoginFault, TheVariants.{NoRoom, Read}}
+use Rattle.{sessions.specs.declared.fault.LoginFault.TheVariants.TooLong, std.proofs.Common.Err}
+use Rattle.std.proofs.Common.{List, Ok, Option, Result, [], ap, append_assoc, drop, false, refl}
+use Rattle.std.proofs.Common.{subst, sym, take, ℕ, ◌++◌, ◌+◌, ◌∙◌, ◌∷◌, ◌≡◌}
+use Rattle.std.specs.Io.KnownBytes.{Appends, Consumes}
 
 -- lines more were taken and answered
 pub goes_on : (u v w : Option (List ℕ)) (old new : Progress) (before lines : List Parts)

@@ -1,13 +1,9 @@
 -- Where a place stands, and that it stands nowhere.
-use Rattle.std.proofs.Common.{◌≡◌, ◌∙◌, sym, ap, subst, ℕ, zero, suc, List, [], ◌∷◌, ◌++◌}
-use Rattle.std.proofs.Common.{map, Option, None, Some}
-use Rattle.std.specs.Prelude.{IfNone, slice_get}
-use Rattle.bnc_config.specs.Settings.{Matches, Settings, place_of}
-use Rattle.bnc_config.specs.declared.place.Place.{Place}
-use Rattle.std.specs.Option.{option_map}
-use Rattle.irc_support.specs.Text.{Text}
-use Rattle.sessions.specs.Admission.{Admits, IsLetIn, IsUnknown}
-use Rattle.sessions.specs.Claims.{ClaimParts}
+use Rattle.bnc_config.specs.{Settings.{Matches, Settings, place_of}, declared.place.Place.Place}
+use Rattle.{irc_support.specs.Text.Text, sessions.specs.Admission.{Admits, IsLetIn, IsUnknown}}
+use Rattle.{sessions.specs.Claims.ClaimParts, std.proofs.Common.{List, None, Option, Some, [], ap}}
+use Rattle.std.proofs.Common.{map, subst, suc, sym, zero, ℕ, ◌++◌, ◌∙◌, ◌∷◌, ◌≡◌}
+use Rattle.std.specs.{Option.option_map, Prelude.{IfNone, slice_get}}
 
 -- none of these stands beside the place
 abbrev pub Lacks : {N : Type 0} → List (Place × N) → Place → Type 0

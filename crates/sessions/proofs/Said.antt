@@ -1,61 +1,23 @@
 -- How a session goes on by what its client says.
-use Rattle.std.proofs.Common.{◌≡◌, refl, ℕ, Bool, true, false}
-use Rattle.std.proofs.Common.{Result, Ok, Err, inl, inr}
-use Rattle.std.specs.Prelude.{if◌then◌else◌}
-use Rattle.std.specs.List.{list_any}
-use Rattle.irc_line.specs.Line.{Parts, has_command}
-use Rattle.client_caps.specs.Answers.{asked}
-use Rattle.client_caps.specs.declared.answers.Asked.{Asked}
-use Rattle.client_caps.specs.declared.answers.Asked.TheVariants as ask
-use Rattle.hub_core.specs.Saying.{Says, SaysBy, meant_by, unheard_commands}
-use Rattle.hub_core.specs.States.{HubState}
-use Rattle.hub_core.specs.declared.hub.HubError.{HubError}
-use Rattle.hub_core.specs.declared.hub.HubError.TheVariants as fault
-use Rattle.hub_core.specs.declared.said.Meant.{Meant}
 use Rattle.hub_core.specs.declared.said.Meant.TheVariants as means
-use Rattle.hub_core.specs.declared.said.Said.{Said}
-use Rattle.hub_core.specs.declared.said.Said.TheVariants as said
-use Rattle.sessions.specs.Answers.{is_quit}
-use Rattle.sessions.specs.Leaving.{LeavesBy, leave_by}
+use Rattle.client_caps.specs.{Answers.asked, declared.answers.Asked.Asked}
+use Rattle.hub_core.specs.{Saying.{Says, SaysBy, meant_by, unheard_commands}, States.HubState}
+use Rattle.hub_core.specs.declared.{hub.HubError.HubError, said.{Meant.Meant, Said.Said}}
+use Rattle.{irc_line.specs.Line.{Parts, has_command}, sessions.specs.Answers.is_quit}
+use Rattle.{sessions.specs.Leaving.{LeavesBy, leave_by}, std.proofs.Common.{Bool, Result, arith}}
+use Rattle.std.{proofs.Common.{false, inl, inr, refl, true, ℕ, ◌≡◌}, specs.List.list_any}
+use Rattle.std.specs.Prelude.{if◌then◌else◌}
 
 -- a line that is no QUIT
 goes_on : (m : Meant) (alone : Bool) (old : HubState) (id : ℕ) (line : Parts) (moment : ℕ)
     (answer : Result Said HubError) (new : HubState)
     → (m ≡ means.Quits → ⊥) → is_quit line ≡ false
     → SaysBy m alone old id line moment answer new → LeavesBy line (leave_by answer)
-goes_on means.Quits alone old id line moment answer new other none h = absurd (other refl)
-goes_on means.Nothing alone old id line moment answer new other none h = rw (h.0) none
-goes_on means.Asks alone old id line moment (Ok said.Answered) new other none h = none
-goes_on means.Asks alone old id line moment (Ok said.Cut) new other none h = tt
-goes_on means.Asks alone old id line moment (Ok said.NoSession) new other none h = absurd h
-goes_on means.Asks alone old id line moment (Ok said.Quit) new other none h = absurd h
-goes_on means.Asks alone old id line moment (Ok said.Offline) new other none h = absurd h
-goes_on means.Asks alone old id line moment (Ok said.Busy) new other none h = absurd h
-goes_on means.Asks alone old id line moment (Ok said.Forwarded) new other none h = absurd h
-goes_on means.Asks alone old id line moment (Err fault.OutOfMemory) new other none h = none
-goes_on means.Asks alone old id line moment (Err fault.Spent) new other none h = absurd h
-goes_on means.Forwards alone old id line moment (Ok said.Offline) new other none h = none
-goes_on means.Forwards alone old id line moment (Ok said.Busy) new other none h = none
-goes_on means.Forwards alone old id line moment (Ok said.Forwarded) new other none h = none
-goes_on means.Forwards alone old id line moment (Ok said.NoSession) new other none h = absurd h
-goes_on means.Forwards alone old id line moment (Ok said.Quit) new other none h = absurd h
-goes_on means.Forwards alone old id line moment (Ok said.Answered) new other none h = absurd h
-goes_on means.Forwards alone old id line moment (Ok said.Cut) new other none h = absurd h
-goes_on means.Forwards alone old id line moment (Err e) new other none h = none
-
-no_quit_asked : (a : Asked) → meant_by a ≡ means.Quits → ⊥
-no_quit_asked ask.Nothing h = cc
-no_quit_asked ask.End h = cc
-no_quit_asked ask.Offered h = cc
-no_quit_asked ask.Held h = cc
-no_quit_asked ask.Change h = cc
-no_quit_asked ask.Unknown h = cc
-no_quit_asked ask.Ping h = cc
+goes_on m alone old id line moment answer new other none h = grind arith
 
 no_quit_meant : (unheard : Bool) (a : Asked)
     → (if unheard then means.Nothing else meant_by a) ≡ means.Quits → ⊥
-no_quit_meant true a h = cc
-no_quit_meant false a h = no_quit_asked a h
+no_quit_meant unheard a h = grind arith
 
 by_meaning : (quit : Bool) (alone : Bool) (old : HubState) (id : ℕ) (line : Parts) (moment : ℕ)
     (answer : Result Said HubError) (new : HubState) → is_quit line ≡ quit

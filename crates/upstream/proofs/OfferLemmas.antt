@@ -1,32 +1,20 @@
 -- Capabilities in lists, and in the lines so far.
-use Rattle.std.proofs.Common.{◌≡◌, ◌∙◌, refl, sym, ap, ℕ, Bool, true, false, List, [], ◌∷◌}
-use Rattle.std.proofs.Common.{◌++◌, ◌||◌, ◌==◌, map}
-use Rattle.std.proofs.Common.{filter, Bor, append-nil, codes, inl}
-use Rattle.std.proofs.Common.{inr}
-use Rattle.std.specs.List.{join_by, flat_map, list_all, list_any, slice_split}
-use Rattle.std.proofs.lemmas.List.Folds.{list_all-append, list_any-append}
-use Rattle.upstream.proofs.Writable.{and_left, and_right, both}
-use Rattle.irc_line.specs.Line.{Parts, is_line_byte}
-use Rattle.irc_line.specs.Writing.{is_clean}
+use Rattle.{irc_line.specs.{Line.Parts, Writing.is_clean}, std.proofs.Common.{Bool, Bor, List, []}}
+use Rattle.std.proofs.Common.{append-nil, arith, codes, false, filter, map, refl, true, ℕ, ◌++◌}
+use Rattle.std.proofs.{Common.{◌==◌, ◌||◌, ◌∷◌, ◌≡◌}, Math.Bool.or-false}
+use Rattle.std.proofs.lemmas.List.Folds.{flat_map-map, list_all-append, list_any-append}
+use Rattle.std.specs.List.{flat_map, join_by, list_all, list_any, slice_split}
 use Rattle.upstream.specs.Registration.{is_list, is_offered, is_word_for, last_param, named}
-use Rattle.upstream.specs.Registration.{names_of, offered_by, offers, our_caps}
+use Rattle.upstream.specs.{Registration.{names_of, offered_by, offers, our_caps}, Said.said}
 use Rattle.upstream.specs.declared.offers.Offered.{Offered}
-use Rattle.upstream.proofs.Writable.{sure}
-use Rattle.upstream.specs.Said.{said}
-
-or_false : (x : Bool) → (x || false) ≡ x
-or_false true = refl
-or_false false = refl
 
 -- what one more line offers
-pub offered_more : (name : List ℕ) (before : List Parts) (line : Parts)
+offered_more : (name : List ℕ) (before : List Parts) (line : Parts)
     → is_offered (before ++ line ∷ []) name ≡ (is_offered before name || offers name line)
-offered_more name before line =
-    list_any-append (offers name) before (line ∷ [])
-    ∙ ap (λ x. is_offered before name || x) (or_false (offers name line))
+offered_more name before line = rw (list_any-append (offers name) before (line ∷ []), or-false)
 
 -- which are offered after one more line
-pub offered_by_more : (before : List Parts) (line : Parts) (offered : Offered)
+offered_by_more : (before : List Parts) (line : Parts) (offered : Offered)
     → offered ≡ offered_by before
     → offered_by (before ++ line ∷ []) ≡ record {
       multi_prefix = offered.multi_prefix || offers (codes "multi-prefix") line;
@@ -35,28 +23,18 @@ pub offered_by_more : (before : List Parts) (line : Parts) (offered : Offered)
       away_notify = offered.away_notify || offers (codes "away-notify") line;
       server_time = offered.server_time || offers (codes "server-time") line;
     }
-offered_by_more before line offered at =
-    rw (
-      offered_more (codes "multi-prefix") before line,
-      offered_more (codes "extended-join") before
-          line,
-      offered_more (codes "account-notify") before line,
-      offered_more (codes "away-notify") before
-          line,
-      offered_more (codes "server-time") before line,
-      at,
-    ) refl
+offered_by_more before line offered at = rw at (simp offered_more)
 
 -- a line that has no list offers nothing
 pub offers_nothing : (before : List Parts) (line : Parts) (offered : Offered)
     → is_list (said line) ≡ false
     → offered ≡ offered_by before → offered ≡ offered_by (before ++ line ∷ [])
 offers_nothing before line offered none at =
-    sym (offered_by_more before line offered at ∙ rw none (simp or_false))
+    rw (offered_by_more before line offered at, none) (simp or-false)
 
 filter_first : (p : List ℕ → Bool) (x : List ℕ) (xs : List (List ℕ))
     → filter p (x ∷ xs) ≡ named (p x) x ++ filter p xs
-filter_first p x xs = elim (sure (p x)) [ inl is ↦ rw is refl | inr is ↦ rw is refl ]
+filter_first p x xs = grind arith
 
 -- the names of those that lines offered are ours that they offered
 pub names_are_offered : (lines : List Parts)
@@ -67,31 +45,20 @@ names_are_offered lines = simp filter_first (simp append-nil)
 tail_is_clean : (names : List (List ℕ)) → list_all is_clean names ≡ true
     → is_clean (flat_map (λ y. (32 ∷ []) ++ y) names) ≡ true
 tail_is_clean [] h = refl
-tail_is_clean (x ∷ xs) h =
-    list_all-append is_line_byte x (flat_map (λ y. (32 ∷ []) ++ y) xs)
-    ∙ both (is_clean x) _ (and_left (is_clean x) _ h)
-    (tail_is_clean xs (and_right (is_clean x) _ h))
+tail_is_clean (x ∷ xs) h = grind (arith, list_all-append, tail_is_clean xs)
 
 pub joined_is_clean : (names : List (List ℕ)) → list_all is_clean names ≡ true
     → is_clean (join_by (λ n. n) (32 ∷ []) names) ≡ true
 joined_is_clean [] h = refl
-joined_is_clean (x ∷ xs) h =
-    list_all-append is_line_byte x (flat_map (λ y. (32 ∷ []) ++ y) xs)
-    ∙ both (is_clean x) _ (and_left (is_clean x) _ h)
-    (tail_is_clean xs (and_right (is_clean x) _ h))
-
-joined_tail : (names : List (Bor (List ℕ)))
-    → flat_map (λ (b : Bor (List ℕ)). (32 ∷ []) ++ b.now) names
-    ≡ flat_map (λ y. (32 ∷ []) ++ y) (map (λ (b : Bor (List ℕ)). b.now) names)
-joined_tail [] = refl
-joined_tail (b ∷ bs) = ap (λ t. (32 ∷ b.now) ++ t) (joined_tail bs)
+joined_is_clean (x ∷ xs) h = grind (arith, list_all-append, tail_is_clean xs)
 
 -- the names are joined as they are lent
 pub joined_as_lent : (names : List (Bor (List ℕ)))
     → join_by (λ (b : Bor (List ℕ)). b.now) (32 ∷ []) names
     ≡ join_by (λ n. n) (32 ∷ []) (map (λ (b : Bor (List ℕ)). b.now) names)
 joined_as_lent [] = refl
-joined_as_lent (b ∷ bs) = ap (λ t. b.now ++ t) (joined_tail bs)
+joined_as_lent (b ∷ bs) =
+    rw (flat_map-map (λ (y : List ℕ). 32 ∷ y) (λ (b : Bor (List ℕ)). b.now) bs)
 
 -- which are offered after one more line that has a list
 pub offers_listed : (before : List Parts) (line : Parts) (offered : Offered) (list : List ℕ)
@@ -110,4 +77,4 @@ pub offers_listed : (before : List Parts) (line : Parts) (offered : Offered) (li
       server_time = offered.server_time || e;
     }) (offered_by (before ++ line ∷ []))
 offers_listed before line offered list a b c d e listed at is p q r s t =
-    sym (offered_by_more before line offered at ∙ rw (p, q, r, s, t, is, listed) refl)
+    rw (offered_by_more before line offered at, p, q, r, s, t, is, listed)

@@ -1,27 +1,20 @@
 -- A registration that took the lines of its network, piece by piece and to its end.
-use Rattle.std.proofs.Common.{◌≡◌, ◌∙◌, ◌+◌, refl, sym, ap, subst, ℕ, false, List, [], ◌∷◌, ◌++◌}
-use Rattle.std.proofs.Common.{append_assoc, drop, take, Option, Result, Ok, Err}
-use Rattle.std.specs.Io.KnownBytes.{Appends, Consumes}
-use Rattle.std.proofs.KnownBytes.{Consumes-nil}
-use Rattle.irc_line.specs.Input.{WasReadAnew}
-use Rattle.irc_line.specs.Line.{Parts}
-use Rattle.irc_line.specs.Lines.{Pending, fed, is_too_long, lines_of, start}
-use Rattle.irc_line.specs.Writing.{bytes_of}
-use Rattle.irc_line.specs.declared.input.InputEnd.{InputEnd}
 use Rattle.irc_line.specs.declared.input.InputEnd.TheVariants as input
-use Rattle.irc_line.proofs.LinesTaken.{behind, place_parts, place_taken}
-use Rattle.bnc_config.specs.Settings.{NetworkSettings}
-use Rattle.upstream.specs.Handshake.{Begins, EndsSo, GoesOn, IsCauseOf, IsEnded, IsGoing}
-use Rattle.upstream.specs.Handshake.{IsLinesCause, IsWelcomeAt, IsWelcomed, outcome_of, sent_for}
-use Rattle.upstream.specs.Progress.{Progress}
-use Rattle.upstream.specs.Registration.{has_ended}
-use Rattle.upstream.specs.Taken.{HasTaken}
-use Rattle.upstream.specs.declared.handshake.DialFault.{DialFault}
-use Rattle.upstream.specs.declared.handshake.DialFault.TheVariants.{Memory, Read, Write, TooLong}
-use Rattle.upstream.specs.declared.handshake.DialFault.TheVariants.{Register}
+use Rattle.{bnc_config.specs.Settings.NetworkSettings, irc_line.proofs.LinesTaken.behind}
+use Rattle.irc_line.{proofs.LinesTaken.{place_parts, place_taken}, specs.Input.WasReadAnew}
+use Rattle.irc_line.specs.{Line.Parts, Lines.{Pending, fed, is_too_long, lines_of, start}}
+use Rattle.irc_line.specs.{Writing.bytes_of, declared.input.InputEnd.InputEnd}
+use Rattle.std.proofs.Common.{Err, List, Ok, Option, Result, [], append_assoc, drop, false, refl}
+use Rattle.std.proofs.{Common.{sym, take, ℕ, ◌++◌, ◌+◌, ◌∙◌, ◌∷◌, ◌≡◌}, KnownBytes.Consumes-nil}
+use Rattle.{std.specs.Io.KnownBytes.{Appends, Consumes}, upstream.proofs.BegunLemmas.begins_all}
+use Rattle.upstream.proofs.BegunLemmas.{begins_none, begun_in, piece_more}
+use Rattle.upstream.{proofs.SentLemmas.{all_lines_cause, sent_for_more}, specs.Handshake.Begins}
+use Rattle.upstream.specs.Handshake.{EndsSo, GoesOn, IsCauseOf, IsEnded, IsGoing, IsLinesCause}
+use Rattle.upstream.specs.Handshake.{IsWelcomeAt, IsWelcomed, outcome_of, sent_for}
+use Rattle.upstream.specs.{Progress.Progress, Registration.has_ended, Taken.HasTaken}
+use Rattle.upstream.specs.declared.handshake.DialFault.{DialFault, TheVariants.{Memory, Read}}
+use Rattle.upstream.specs.declared.handshake.DialFault.TheVariants.{Register, TooLong, Write}
 use Rattle.upstream.specs.declared.handshake.FromWelcome.{FromWelcome}
-use Rattle.upstream.proofs.BegunLemmas.{begins_all, begins_none, begun_in, piece_more}
-use Rattle.upstream.proofs.SentLemmas.{all_lines_cause, sent_for_more}
 
 -- ---- lines more
 
@@ -50,8 +43,7 @@ ends_so network u v w old before lines i end h at next rest =
       at.0,
       drop (i + 1) lines,
       record {
-        whole = ap (λ t. before ++ t) (place_parts lines i at.0 at.2)
-            ∙ sym (append_assoc before (take i lines) (at.0 ∷ drop (i + 1) lines));
+        whole = rw (append_assoc, ← place_parts lines i at.0 at.2);
         answer = at.3;
       },
       rest ∙ at.2,
@@ -63,15 +55,9 @@ cause_behind : (network : NetworkSettings) (before lines : List Parts) (f : Dial
     → IsLinesCause network before lines f → IsLinesCause network [] (before ++ lines) f
 cause_behind network before lines Memory h = tt
 cause_behind network before lines Write h = tt
-cause_behind network before lines (Register f) h = (
-  before ++ h.0,
-  h.1,
-  h.2,
-  ap (λ t. before ++ t) h.3 ∙ sym (append_assoc before h.0 (h.1 ∷ h.2)),
-  h.4,
-)
-cause_behind network before lines Read h = absurd h
-cause_behind network before lines TooLong h = absurd h
+cause_behind network before lines (Register f) h =
+    (before ++ h.0, h.1, h.2, rw (append_assoc, ← h.3), h.4)
+cause_behind network before lines _ h = absurd h
 
 -- one of them could not be answered
 pub fails_so : (network : NetworkSettings) (u v w : Option (List ℕ)) (old : Progress)
@@ -107,15 +93,10 @@ welcomed {u = u} {w = w} {was = was} {now = now} {t = t} (input.Answered (Ok end
       r.why.1.0,
       λ network taken.
           let why = r.why.1.1 network taken in
-          subst (λ (l : FromWelcome). WasWelcomed network u w was now l.lines.items t) same
+          rw (← same)
           (r.bytes, why.0, why.1, why.2, r.why.0, why.3, why.4, r.held, why.5),
     )
-welcomed (input.Answered (Err fault)) last r is = absurd cc
-welcomed input.EndOfInput last r is = absurd cc
-welcomed (input.ReadFault error) last r is = absurd cc
-welcomed input.ReadsSpent last r is = absurd cc
-welcomed input.TooLong last r is = absurd cc
-welcomed input.OutOfMemory last r is = absurd cc
+welcomed _ last r is = absurd cc
 
 -- what is known of the bytes up to a fault
 abbrev pub FailsBy : NetworkSettings → Option (List ℕ) → Option (List ℕ) → Option (List ℕ)
@@ -133,23 +114,32 @@ by_fault : (network : NetworkSettings) (u w was now : Option (List ℕ)) (f faul
     → ◌≡◌ {A = Result FromWelcome DialFault} (Err f) (Err fault)
     → FailsBy network u w was now f → FailsBy network u w was now fault
 by_fault network u w was now f fault is h =
-    let same : f ≡ fault = cc in subst (FailsBy network u w was now) same h
-
--- behind the bytes whose lines were answered stands a piece that was refused
-begun_before : (network : NetworkSettings) (bytes piece : List ℕ) (was now : Option (List ℕ))
-    → Appends was now (bytes_of (sent_for network [] (lines_of bytes)))
-    → Begins was now (bytes_of (sent_for network [] (lines_of (bytes ++ piece))))
-begun_before network bytes piece was now sent =
-    let more = piece_more bytes piece in
-    begun_in network [] (lines_of bytes) more.0 (lines_of (bytes ++ piece)) was now now more.1 sent
-    (begins_none now _)
+    let same : f ≡ fault = cc in rw (← same) h
 
 -- the input ended, or could not be read
 at_read : (network : NetworkSettings) (u w was now : Option (List ℕ)) (bytes : List ℕ)
-    (register : Progress) → Consumes u w bytes → is_too_long bytes ≡ false
-    → IsGoing network was now register (lines_of bytes) → FailsBy network u w was now Read
-at_read network u w was now bytes register read short h =
+    (register : Progress) (fault : DialFault) → Consumes u w bytes → is_too_long bytes ≡ false
+    → ◌≡◌ {A = Result FromWelcome DialFault} (Err Read) (Err fault)
+    → IsGoing network was now register (lines_of bytes) → FailsBy network u w was now fault
+at_read network u w was now bytes register fault read short is h =
+    by_fault network u w was now Read fault is
     (bytes, read, (short, h.going), begins_all was now _ h.sent)
+
+-- behind the bytes whose lines were answered stands a piece that was refused
+at_piece : (network : NetworkSettings) (u w was now : Option (List ℕ)) (bytes piece : List ℕ)
+    (register : Progress) (f fault : DialFault) → Consumes u w (bytes ++ piece)
+    → IsCauseOf network (bytes ++ piece) f
+    → ◌≡◌ {A = Result FromWelcome DialFault} (Err f) (Err fault)
+    → IsGoing network was now register (lines_of bytes) → FailsBy network u w was now fault
+at_piece network u w was now bytes piece register f fault read cause is h =
+    let more = piece_more bytes piece in
+    by_fault network u w was now f fault is (
+      bytes ++ piece,
+      read,
+      cause,
+      begun_in network [] (lines_of bytes) more.0 (lines_of (bytes ++ piece)) was now now more.1
+          h.sent (begins_none now _),
+    )
 
 pub not_welcomed : {N : Type 0} {u w was now : Option (List ℕ)} {first login : Progress}
     {t : Pending} (end : InputEnd (Result FromWelcome DialFault)) (fault : DialFault)
@@ -163,43 +153,33 @@ not_welcomed (input.Answered (Err f)) fault r is = (
   r.why.1.0,
   λ network taken.
       let why = r.why.1.1 network taken in
-      by_fault network _ _ _ _ f fault is (
-        r.bytes,
-        r.why.0,
-        all_lines_cause network r.bytes [] (lines_of r.bytes) f r.short refl why.0,
-        why.1,
-      ),
+      by_fault network _ _ _ _ f fault is
+      (r.bytes, r.why.0, all_lines_cause network r.bytes f r.short why.0, why.1),
 )
 not_welcomed input.EndOfInput fault r is = (
   r.why.2.0,
-  λ network taken. by_fault network _ _ _ _ Read fault is
-      (at_read network _ _ _ _ r.bytes _ r.why.0 r.short (r.why.2.1 network taken)),
+  λ network taken.
+      at_read network _ _ _ _ r.bytes _ fault r.why.0 r.short is (r.why.2.1 network taken),
 )
 not_welcomed (input.ReadFault error) fault r is = (
   r.why.1.0,
-  λ network taken. by_fault network _ _ _ _ Read fault is
-      (at_read network _ _ _ _ r.bytes _ r.why.0 r.short (r.why.1.1 network taken)),
+  λ network taken.
+      at_read network _ _ _ _ r.bytes _ fault r.why.0 r.short is (r.why.1.1 network taken),
 )
 not_welcomed input.ReadsSpent fault r is = (
   r.why.1.0,
-  λ network taken. by_fault network _ _ _ _ Read fault is
-      (at_read network _ _ _ _ r.bytes _ r.why.0 r.short (r.why.1.1 network taken)),
+  λ network taken.
+      at_read network _ _ _ _ r.bytes _ fault r.why.0 r.short is (r.why.1.1 network taken),
 )
 not_welcomed input.TooLong fault r is = (
   r.why.3.0,
-  λ network taken. by_fault network _ _ _ _ TooLong fault is (
-    r.bytes ++ r.why.0,
-    r.why.1,
-    r.why.2,
-    begun_before network r.bytes r.why.0 _ _ (r.why.3.1 network taken).sent,
-  ),
+  λ network taken.
+      at_piece network _ _ _ _ r.bytes r.why.0 _ TooLong fault r.why.1 r.why.2 is
+      (r.why.3.1 network taken),
 )
 not_welcomed input.OutOfMemory fault r is = (
   r.why.3.0,
-  λ network taken. by_fault network _ _ _ _ Memory fault is (
-    r.bytes ++ r.why.0,
-    r.why.1,
-    tt,
-    begun_before network r.bytes r.why.0 _ _ (r.why.3.1 network taken).sent,
-  ),
+  λ network taken.
+      at_piece network _ _ _ _ r.bytes r.why.0 _ Memory fault r.why.1 tt is
+      (r.why.3.1 network taken),
 )

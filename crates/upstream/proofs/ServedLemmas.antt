@@ -1,24 +1,16 @@
 -- A connection to a network, put together from its parts.
-use Rattle.std.proofs.Common.{◌≡◌, ◌∷◌, ◌++◌, [], ℕ, List, subst, sym}
-use Rattle.std.specs.Prelude.{Bool, Option, Result}
-use Rattle.std.specs.Io.KnownBytes.{Appends, Consumes}
-use Rattle.irc_line.specs.Line.{Parts}
-use Rattle.irc_line.specs.Lines.{Pending, fed, lines_of, start}
-use Rattle.irc_line.specs.Writing.{bytes_of}
-use Rattle.bnc_config.specs.Settings.{NetworkSettings}
-use Rattle.hub_ends.specs.Came.{Came}
-use Rattle.hub_threads.specs.Rings.{items_of, put_of}
-use Rattle.hub_threads.specs.Writes.{IsWritten}
-use Rattle.hub_threads.specs.declared.queued.Queued.{Queued}
-use Rattle.hub_threads.specs.declared.reading.ReadEnd.{ReadEnd}
-use Rattle.hub_threads.specs.declared.writing.WriteFault.{WriteFault}
-use Rattle.upstream.specs.Handshake.{IsWelcomed, all_sent}
-use Rattle.upstream.specs.Served.{IsEndedBy, IsRead, IsRegistered, WasServed}
-use Rattle.upstream.specs.declared.link.Link.{Link}
 use Rattle.upstream.specs.declared.serving.NetworkEnd.TheVariants as end
+use Rattle.{bnc_config.specs.Settings.NetworkSettings, hub_ends.specs.Came.Came}
+use Rattle.hub_threads.specs.{Rings.{items_of, put_of}, Writes.IsWritten}
+use Rattle.hub_threads.specs.declared.{queued.Queued.Queued, reading.ReadEnd.ReadEnd}
+use Rattle.{hub_threads.specs.declared.writing.WriteFault.WriteFault, irc_line.specs.Line.Parts}
+use Rattle.irc_line.specs.{Lines.{Pending, fed, lines_of, start}, Writing.bytes_of}
+use Rattle.std.{proofs.Common.{List, [], sym, ℕ, ◌++◌, ◌∷◌, ◌≡◌}, specs.Io.KnownBytes.Appends}
+use Rattle.std.specs.{Io.KnownBytes.Consumes, Prelude.{Bool, Option, Result}}
+use Rattle.upstream.specs.{Handshake.{IsWelcomed, all_sent}, Served.{IsRead, IsRegistered}}
+use Rattle.upstream.specs.{Served.WasServed, declared.dialled.Duplex.Duplex}
+use Rattle.upstream.specs.declared.{handshake.Welcomed.Welcomed, link.Link.Link}
 use Rattle.upstream.specs.declared.serving.Served.{Served}
-use Rattle.upstream.specs.declared.dialled.Duplex.{Duplex}
-use Rattle.upstream.specs.declared.handshake.Welcomed.{Welcomed}
 
 -- a registration over a stream, from what `begin` and `finish` say of it
 pub registered_by : {R W : Type 0} (rem : R → Option (List ℕ)) (con : W → Option (List ℕ))
@@ -58,9 +50,9 @@ pub was_served : {I W : Type 0} (remaining : I → Option (List ℕ)) (contents 
     IsWritten (items_of link.outlet) items begun got fresh outcome →
     WasServed remaining contents network stream link s
 was_served remaining contents network stream link s ended left sent begun after got lines splitter
-    put items outcome fresh end_is put_is items_are after_is got_is outcome_is registered keeper read
-    written =
-    subst (λ e. IsEndedBy remaining contents network stream link e s) (sym end_is) (record {
+    put items outcome fresh end_is put_is items_are after_is got_is outcome_is registered keeper
+    read written =
+    rw end_is (record {
       left = left;
       sent = sent;
       begun = begun;
@@ -68,17 +60,6 @@ was_served remaining contents network stream link s ended left sent begun after 
       splitter = splitter;
       registered = registered;
       of_the_keeper = keeper;
-      read = subst (λ p. IsRead (put_of link.inlet) p lines splitter left (remaining
-          s.stream.reader) ended) (sym put_is)
-          (subst (λ a. IsRead (put_of link.inlet) put lines splitter left a ended) (sym after_is)
-          read);
-      written = (
-        fresh,
-        subst (λ i. IsWritten (items_of link.outlet) i begun (contents
-            s.stream.writer) fresh s.written) (sym items_are)
-            (subst (λ o. IsWritten (items_of link.outlet) items begun (contents s.stream.writer) fresh
-            o) (sym outcome_is)
-            (subst (λ o. IsWritten (items_of link.outlet) items begun o fresh outcome) (sym got_is)
-            written)),
-      );
+      read = rw (put_is, after_is) read;
+      written = (fresh, rw (items_are, outcome_is, got_is) written);
     })

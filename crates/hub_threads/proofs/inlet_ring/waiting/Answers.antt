@@ -1,8 +1,6 @@
-use Rattle.std.proofs.Common.{ap, sym, ◌∙◌, map}
-use Rattle.std.proofs.lemmas.List.{length-map, map-append}
-use Rattle.rtrb.specs.Ring.{received, known_items}
-use Rattle.hub_ends.specs.Came.{came}
 use Rattle.hub_threads.proofs.inlet_ring.waiting.Goals as goal
+use Rattle.{hub_ends.specs.Came.came, rtrb.specs.Ring.{known_items, received}, std.proofs.Common.ap}
+use Rattle.std.proofs.{Common.{map, sym, ◌∙◌}, lemmas.List.{length-map, map-append}}
 
 pub returns-clause-waiting : goal.returns-clause-waiting
 returns-clause-waiting c =

@@ -1,7 +1,5 @@
-use Rattle.std.proofs.Common.{◌≡◌, ◌++◌}
-use Rattle.hub_threads.specs.Reads.{received_at}
-use Rattle.hub_threads.specs.Rings.{put_of}
 use Rattle.hub_threads.proofs.reading.put_unrung.Given as goal
+use Rattle.{hub_threads.specs.{Reads.received_at, Rings.put_of}, std.proofs.Common.{◌++◌, ◌≡◌}}
 
 abbrev pub invariant-loop-line : goal.invariant-loop-line
 invariant-loop-line g l = record {

@@ -1,7 +1,5 @@
-use Rattle.std.proofs.Common.{◌≡◌}
-use Rattle.hub_ends.specs.Came.{came}
-use Rattle.hub_threads.specs.Rings.{put_of}
 use Rattle.hub_threads.proofs.reading.put_waiting.Given as goal
+use Rattle.{hub_ends.specs.Came.came, hub_threads.specs.Rings.put_of, std.proofs.Common.◌≡◌}
 
 abbrev pub invariant-loop : goal.invariant-loop
 invariant-loop g l = record {

@@ -1,7 +1,6 @@
-use Rattle.std.proofs.Common.{◌∙◌}
-use Rattle.hub_threads.specs.Rings.{put_of}
-use Rattle.hub_threads.proofs.ReadLemmas.{not_read, read_in}
 use Rattle.hub_threads.proofs.reading.read_in.Goals as goal
+use Rattle.hub_threads.{proofs.ReadLemmas.{not_read, read_in}, specs.Rings.put_of}
+use Rattle.std.proofs.Common.{◌∙◌}
 
 pub returns-in_default : goal.returns-in_default
 returns-in_default g c =

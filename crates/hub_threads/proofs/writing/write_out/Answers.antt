@@ -1,7 +1,6 @@
-use Rattle.hub_threads.specs.Backlogs.{rest_of}
-use Rattle.hub_threads.specs.Rings.{items_of}
-use Rattle.hub_threads.proofs.Bytes.{under_way_first, under_way_more, under_way_still, ends_early}
 use Rattle.hub_threads.proofs.writing.write_out.Goals as goal
+use Rattle.hub_threads.proofs.Bytes.{ends_early, under_way_first, under_way_more, under_way_still}
+use Rattle.hub_threads.specs.{Backlogs.rest_of, Rings.items_of}
 
 pub loop-init : goal.loop-init
 loop-init g c = rw c.lend_buffer.ensures.end (under_way_first (items_of c.args.end)

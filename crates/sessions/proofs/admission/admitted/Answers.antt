@@ -1,7 +1,5 @@
-use Rattle.std.proofs.Common.{rules}
-use Rattle.sessions.specs.Claims.{parts_of}
-use Rattle.sessions.proofs.Places.{admits_by}
 use Rattle.sessions.proofs.admission.admitted.Goals as goal
+use Rattle.{sessions.{proofs.Places.admits_by, specs.Claims.parts_of}, std.proofs.Common.rules}
 
 pub returns : goal.returns
 returns c =

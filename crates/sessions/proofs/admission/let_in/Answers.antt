@@ -1,6 +1,5 @@
-use Rattle.sessions.specs.Claims.{parts_of}
-use Rattle.sessions.proofs.Places.{none_for}
 use Rattle.sessions.proofs.admission.let_in.Goals as goal
+use Rattle.sessions.{proofs.Places.none_for, specs.Claims.parts_of}
 
 pub returns-clause-none : goal.returns-clause-none
 returns-clause-none g c =

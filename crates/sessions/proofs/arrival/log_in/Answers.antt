@@ -1,10 +1,7 @@
-use Rattle.std.proofs.Common.{◌∙◌, refl, subst, sym, ℕ, List}
-use Rattle.std.specs.Io.KnownBytes.{Consumes}
-use Rattle.irc_line.proofs.Outcomes.{refused_by}
-use Rattle.irc_line.proofs.Sent.{appends_nothing}
-use Rattle.sessions.specs.Logins.{IsCauseOf, LogsIn}
-use Rattle.sessions.proofs.LoginRead.{logged_in, not_logged_in}
 use Rattle.sessions.proofs.arrival.log_in.Goals as goal
+use Rattle.irc_line.proofs.{Outcomes.refused_by, Sent.appends_nothing}
+use Rattle.sessions.{proofs.LoginRead.{logged_in, not_logged_in}, specs.Logins.{IsCauseOf, LogsIn}}
+use Rattle.std.{proofs.Common.{List, refl, subst, sym, ℕ, ◌∙◌}, specs.Io.KnownBytes.Consumes}
 
 pub read_from_start-end-requires-clause-begins : goal.read_from_start-end-requires-clause-begins
 read_from_start-end-requires-clause-begins g c = (

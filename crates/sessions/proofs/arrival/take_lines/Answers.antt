@@ -1,9 +1,7 @@
-use Rattle.std.proofs.Common.{◌≡◌, ◌+◌, ◌++◌, sym, subst, take, arith}
-use Rattle.std.proofs.lemmas.List.{take_all}
-use Rattle.sessions.specs.Taken.{HasTaken}
-use Rattle.irc_line.proofs.LinesTaken.{behind, from_place, up_to}
-use Rattle.sessions.proofs.Sent.{sent_step, still_going}
 use Rattle.sessions.proofs.arrival.take_lines.Goals as goal
+use Rattle.{irc_line.proofs.LinesTaken.{behind, from_place, up_to}, sessions.proofs.Sent.sent_step}
+use Rattle.{sessions.{proofs.Sent.still_going}, std.proofs.Common.arith}
+use Rattle.std.proofs.{Common.{take, ◌++◌, ◌+◌, ◌≡◌}, lemmas.List.take_all}
 
 pub returns-in-Some-clause-some : goal.returns-in-Some-clause-some
 returns-in-Some-clause-some g c = λ before taken going.
@@ -34,8 +32,7 @@ loop-place-preserved g c = λ before taken going.
     let goes = c.in_ok-ending.ensures.going (before ++ take i lines) so_far.taken in
     let sent = c.in_ok-ending.ensures.sent (before ++ take i lines) so_far.taken in
     record {
-      taken = subst (λ t. HasTaken t c.take_line.new.login) (sym all)
-          (c.in_ok-ending.ensures.taken (before ++ take i lines) so_far.taken);
+      taken = rw all (c.in_ok-ending.ensures.taken (before ++ take i lines) so_far.taken);
       going = rw all
           (still_going (before ++ take i lines) line so_far.going
           (rw c.in_default.is at goes));

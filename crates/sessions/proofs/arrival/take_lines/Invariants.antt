@@ -1,11 +1,7 @@
-use Rattle.std.proofs.Common.{◌≡◌, ◌++◌, false, List, take}
-use Rattle.std.specs.Io.KnownBytes.{Appends}
-use Rattle.irc_line.specs.Line.{Parts}
-use Rattle.irc_line.specs.Writing.{bytes_of}
-use Rattle.sessions.specs.Answers.{has_ended}
-use Rattle.sessions.specs.Logins.{sent_for}
-use Rattle.sessions.specs.Taken.{HasTaken}
 use Rattle.sessions.proofs.arrival.take_lines.Given as goal
+use Rattle.{irc_line.specs.{Line.Parts, Writing.bytes_of}, sessions.specs.Answers.has_ended}
+use Rattle.{sessions.specs.{Logins.sent_for, Taken.HasTaken}, std.proofs.Common.{List, false, take}}
+use Rattle.std.{proofs.Common.{◌++◌, ◌≡◌}, specs.Io.KnownBytes.Appends}
 
 abbrev pub invariant-loop-place : goal.invariant-loop-place
 invariant-loop-place g l = (before : List Parts) → HasTaken before l.fn.login

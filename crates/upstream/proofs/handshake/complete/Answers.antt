@@ -1,9 +1,8 @@
-use Rattle.std.proofs.Common.{◌∙◌, refl, subst, sym}
-use Rattle.irc_line.proofs.Outcomes.{refused_by}
-use Rattle.irc_line.proofs.Sent.{appends_nothing}
-use Rattle.upstream.proofs.Registered.{FailsBy, WasWelcomed, not_read, not_welcomed, welcomed}
-use Rattle.upstream.specs.declared.handshake.DialFault.TheVariants.{Memory}
 use Rattle.upstream.proofs.handshake.complete.Goals as goal
+use Rattle.{irc_line.proofs.{Outcomes.refused_by, Sent.appends_nothing}, std.proofs.Common.refl}
+use Rattle.{std.proofs.Common.{subst, sym, ◌∙◌}, upstream.proofs.Registered.{FailsBy, not_read}}
+use Rattle.upstream.proofs.Registered.{not_welcomed, welcomed}
+use Rattle.upstream.specs.declared.handshake.DialFault.TheVariants.{Memory}
 
 pub read_from_start-end-requires-clause-begins : goal.read_from_start-end-requires-clause-begins
 read_from_start-end-requires-clause-begins g c = (
@@ -35,11 +34,8 @@ returns-in_err-lines-clause-err g c = λ network taken.
 
 pub returns-clause-ok : goal.returns-clause-ok
 returns-clause-ok g c = λ network taken.
-    let left = g.R.Read.remaining in
     let read = c.read_from_start-end in
     let last = c.in_ok-lines.field-0 in
     let known = welcomed read.result.0 last read.ensures
     (sym c.outcome.ensures ∙ c.in_ok-lines.was) in
-    subst (λ w. WasWelcomed network (left c.args.reader.now) (left read.new.reader)
-    (g.W.Write.contents c.args.writer.now) (g.W.Write.contents w) last.lines.items read.result.1)
-    (sym (c.writer-1.given.1 (sym known.0))) (known.1 network taken)
+    rw (c.writer-1.given.1 (sym known.0)) (known.1 network taken)

@@ -1,13 +1,9 @@
-use Rattle.std.proofs.Common.{◌++◌, ◌∷◌, [], ℕ, List}
-use Rattle.std.specs.Io.KnownBytes.{Consumes}
-use Rattle.std.proofs.KnownBytes.{Consumes-nil}
-use Rattle.irc_line.proofs.Outcomes.{err_more, ok_more, refused_by}
-use Rattle.irc_line.specs.Lines.{lines_of}
-use Rattle.irc_line.specs.Writing.{bytes_of}
-use Rattle.upstream.specs.Handshake.{Begins, IsCauseOf, all_sent}
-use Rattle.upstream.proofs.BegunLemmas.{begun_all, begun_first, cause_of_none}
-use Rattle.upstream.proofs.SentLemmas.{all_sent_is}
 use Rattle.upstream.proofs.handshake.register.Goals as goal
+use Rattle.irc_line.{proofs.Outcomes.{err_more, ok_more, refused_by}, specs.Lines.lines_of}
+use Rattle.{irc_line.specs.Writing.bytes_of, std.proofs.Common.{List, [], ℕ, ◌++◌, ◌∷◌}}
+use Rattle.std.{proofs.KnownBytes.Consumes-nil, specs.Io.KnownBytes.Consumes}
+use Rattle.upstream.proofs.BegunLemmas.{begun_all, begun_first, cause_of_none}
+use Rattle.upstream.{proofs.SentLemmas.all_sent_is, specs.Handshake.{Begins, IsCauseOf, all_sent}}
 
 pub returns-clause-ok : goal.returns-clause-ok
 returns-clause-ok g c =

@@ -1,11 +1,7 @@
-use Rattle.std.proofs.Common.{ap, sym}
-use Rattle.upstream.specs.Handshake.{lines_in}
-use Rattle.upstream.specs.Registration.{answer_to}
-use Rattle.upstream.proofs.BegunLemmas.{begins_none, begun_by}
-use Rattle.upstream.proofs.SentLemmas.{welcome_is}
+use Rattle.upstream.proofs.handshake.take_line.Goals as goal
+use Rattle.upstream.proofs.{BegunLemmas.begins_none, SentLemmas.welcome_is}
 use Rattle.upstream.proofs.handshake.take_line.Goals.{else-not-is_empty}
 use Rattle.upstream.proofs.handshake.take_line.Goals.{then-not-is_empty+in_ok-send-in-Send}
-use Rattle.upstream.proofs.handshake.take_line.Goals as goal
 
 pub returns-in_ok-send-in-Done-clause-ended : goal.returns-in_ok-send-in-Done-clause-ended
 returns-in_ok-send-in-Done-clause-ended g c = λ network before taken.
@@ -14,21 +10,15 @@ returns-in_ok-send-in-Done-clause-ended g c = λ network before taken.
 
 pub returns-after-not-is_empty-clause-begun : goal.returns-after-not-is_empty-clause-begun
 returns-after-not-is_empty-clause-begun g c = λ network before taken.
-    let lines = c.in-Send.lines.items in
     let answer = rw c.in-Send.is at (c.in_ok-lines.ensures.answer network before taken) in
     elim c.if-not-is_empty.branch [
       | then-not-is_empty+in_ok-send-in-Send w ↦
-          rw w.writer-is (begun_by (answer_to network before c.args.line.now) lines
-          w.as_slice.result.now _ _ w.as_slice.ensures.value (sym (ap lines_in answer))
-          w.in_ok-send-in-Send.ensures.begun)
+          rw (w.writer-is, ← answer, ← w.as_slice.ensures.value) w.in_ok-send-in-Send.ensures.begun
       | else-not-is_empty w ↦
           rw w.writer-is (begins_none (g.W.Write.contents c.args.writer.now) _)
     ]
 
 pub returns-in_ok-send-in-Done-clause-begun : goal.returns-in_ok-send-in-Done-clause-begun
 returns-in_ok-send-in-Done-clause-begun g c = λ network before taken.
-    let lines = c.in-Done.lines.items in
     let answer = rw c.in-Done.is at (c.in_ok-lines.ensures.answer network before taken) in
-    begun_by (answer_to network before c.args.line.now) lines
-    c.as_slice-in-Done.result.now _ _ c.as_slice-in-Done.ensures.value (sym (ap lines_in answer))
-    c.in_ok-send-in-Done.ensures.begun
+    rw (← answer, ← c.as_slice-in-Done.ensures.value) c.in_ok-send-in-Done.ensures.begun

@@ -1,12 +1,8 @@
-use Rattle.std.proofs.Common.{◌≡◌, ◌++◌, false, List, take}
-use Rattle.std.specs.Io.KnownBytes.{Appends}
-use Rattle.irc_line.specs.Line.{Parts}
-use Rattle.bnc_config.specs.Settings.{NetworkSettings}
-use Rattle.irc_line.specs.Writing.{bytes_of}
-use Rattle.upstream.specs.Handshake.{sent_for}
-use Rattle.upstream.specs.Registration.{has_ended}
-use Rattle.upstream.specs.Taken.{HasTaken}
 use Rattle.upstream.proofs.handshake.take_lines.Given as goal
+use Rattle.{bnc_config.specs.Settings.NetworkSettings, irc_line.specs.Line.Parts}
+use Rattle.{irc_line.specs.Writing.bytes_of, std.proofs.Common.{List, false, take, ◌++◌, ◌≡◌}}
+use Rattle.{std.specs.Io.KnownBytes.Appends, upstream.specs.Handshake.sent_for}
+use Rattle.upstream.specs.{Registration.has_ended, Taken.HasTaken}
 
 abbrev pub invariant-loop-place : goal.invariant-loop-place
 invariant-loop-place g l = (network : NetworkSettings) (before : List Parts)

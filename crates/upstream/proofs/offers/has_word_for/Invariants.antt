@@ -1,7 +1,6 @@
-use Rattle.std.proofs.Common.{◌≡◌, ◌==◌, length}
-use Rattle.std.specs.List.{list_any, slice_split}
-use Rattle.upstream.specs.Registration.{is_word_for}
 use Rattle.upstream.proofs.offers.has_word_for.Given as goal
+use Rattle.std.{proofs.Common.{length, ◌==◌, ◌≡◌}, specs.List.{list_any, slice_split}}
+use Rattle.upstream.specs.Registration.{is_word_for}
 
 abbrev pub invariant-loop-word : goal.invariant-loop-word
 invariant-loop-word l =

@@ -1,6 +1,5 @@
-use Rattle.std.proofs.Common.{rules}
-use Rattle.upstream.proofs.Writable.{nick_is_clean, word_is_clean}
 use Rattle.upstream.proofs.sending.first_lines.Goals as goal
+use Rattle.{std.proofs.Common.rules, upstream.proofs.Writable.{nick_is_clean, word_is_clean}}
 
 pub push_command-requires-in-Some : goal.push_command-requires-in-Some
 push_command-requires-in-Some c = word_is_clean c.in-Some.password.now c.in-Some.ensures.clean

@@ -1,6 +1,5 @@
-use Rattle.std.proofs.Common.{ap, subst, sym}
-use Rattle.upstream.proofs.ServedLemmas.{was_served}
 use Rattle.upstream.proofs.serving.serve_network.Goals as goal
+use Rattle.{std.proofs.Common.{ap}, upstream.proofs.ServedLemmas.was_served}
 
 pub returns-in-Ok-spawn_stoppable : goal.returns-in-Ok-spawn_stoppable
 returns-in-Ok-spawn_stoppable g c =

@@ -1,13 +1,8 @@
-use Rattle.std.proofs.Common.{◌∙◌, ap, arith, subst}
-use Rattle.irc_line.proofs.Outcomes.{not_ok, refused_by}
-use Rattle.irc_line.proofs.Sent.{appends_kept}
-use Rattle.std.specs.Io.KnownBytes.{Appends}
-use Rattle.std.proofs.lemmas.List.{take_all}
-use Rattle.irc_line.specs.Writing.{bytes_of}
-use Rattle.upstream.specs.Handshake.{IsSendCause}
 use Rattle.upstream.specs.declared.handshake.DialFault.TheVariants as fault
-use Rattle.upstream.proofs.BegunLemmas.{begins_none}
 use Rattle.upstream.proofs.writing.send.Goals as goal
+use Rattle.irc_line.proofs.{Outcomes.{not_ok, refused_by}, Sent.appends_kept}
+use Rattle.{irc_line.specs.Writing.bytes_of, std.proofs.{Common.arith, lemmas.List.take_all}}
+use Rattle.upstream.{proofs.BegunLemmas.begins_none, specs.Handshake.IsSendCause}
 
 pub returns-in_err-write-clause-sent : goal.returns-in_err-write-clause-sent
 returns-in_err-write-clause-sent g c =
@@ -21,11 +16,8 @@ pub returns-clause-sent : goal.returns-clause-sent
 returns-clause-sent g c =
     let all = take_all c.loop-line.line-index c.args.lines.now
     (omega (arith, c.loop-line-test.false)) in
-    subst
-    (λ t. Appends (g.W.Write.contents c.args.writer.now) (g.W.Write.contents c.flush.new.self) t)
-    (c.as_slice.ensures.value ∙ c.loop-line.invariant ∙ ap bytes_of all)
-    (appends_kept _ _ _ c.as_slice.result.now
-    c.in_ok-write_whole.ensures.whole
+    rw (c.as_slice.ensures.value, c.loop-line.invariant, all)
+    at (appends_kept _ _ _ c.as_slice.result.now c.in_ok-write_whole.ensures.whole
     c.flush.ensures.bytes)
 
 pub returns-in_err-write-clause-begun : goal.returns-in_err-write-clause-begun

@@ -1,6 +1,5 @@
-use Rattle.std.proofs.Common.{◌≤◌, length, take}
-use Rattle.std.specs.Io.KnownBytes.{Appends}
 use Rattle.upstream.proofs.writing.write_whole.Given as goal
+use Rattle.std.{proofs.Common.{length, take, ◌≤◌}, specs.Io.KnownBytes.Appends}
 
 abbrev pub invariant-loop : goal.invariant-loop
 invariant-loop g l =

@@ -1,6 +1,5 @@
-use Rattle.hub_threads.specs.Backlogs.{bytes_in}
-use Rattle.hub_threads.proofs.Bytes.{wrote_before, wrote_part}
 use Rattle.hub_threads.proofs.backlog.Backlog.write_batch.Goals as goal
+use Rattle.hub_threads.{proofs.Bytes.{wrote_before, wrote_part}, specs.Backlogs.bytes_in}
 
 pub returns : goal.returns
 returns g c = rw c.requires (wrote_before _ _ c.args.self.now.batch.items c.remove.new.batch.items

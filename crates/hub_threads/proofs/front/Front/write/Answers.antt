@@ -1,6 +1,5 @@
-use Rattle.irc_line.specs.Writing.{bytes_of}
-use Rattle.hub_threads.proofs.Bytes.{wrote_from}
 use Rattle.hub_threads.proofs.front.Front.write.Goals as goal
+use Rattle.{hub_threads.proofs.Bytes.wrote_from, irc_line.specs.Writing.bytes_of}
 
 pub returns : goal.returns
 returns g c = wrote_from _ _ (bytes_of c.args.self.packet) c.args.self.at

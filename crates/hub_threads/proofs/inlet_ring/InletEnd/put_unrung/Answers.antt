@@ -1,6 +1,5 @@
-use Rattle.std.proofs.lemmas.Grind.{common_steps}
-use Rattle.std.proofs.Common.{rules, arith}
 use Rattle.hub_threads.proofs.inlet_ring.InletEnd.put_unrung.Goals as goal
+use Rattle.std.proofs.{Common.{arith, rules}, lemmas.Grind.common_steps}
 
 pub returns-in-Ok-clause-ok : goal.returns-in-Ok-clause-ok
 returns-in-Ok-clause-ok c = grind (arith, common_steps)

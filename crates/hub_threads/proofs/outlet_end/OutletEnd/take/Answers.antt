@@ -1,10 +1,8 @@
-use Rattle.std.proofs.Common.{rules, ap, sym, ◌∙◌, append-nil, List}
-use Rattle.rtrb.specs.Ring.{received}
-use Rattle.hub_threads.specs.declared.queued.Queued.{Queued}
-use Rattle.hub_threads.specs.Queues.{packets_in}
-use Rattle.hub_threads.proofs.Lists.{packets_in_lines, packets_in_closing, one_more, at_end}
-use Rattle.hub_threads.proofs.Lists.{stale_now, as_fresh}
 use Rattle.hub_threads.proofs.outlet_end.OutletEnd.take.Goals as goal
+use Rattle.hub_threads.proofs.Lists.{as_fresh, at_end, one_more, packets_in_closing}
+use Rattle.hub_threads.{proofs.Lists.{packets_in_lines, stale_now}, specs.Queues.packets_in}
+use Rattle.{hub_threads.specs.declared.queued.Queued.Queued, rtrb.specs.Ring.received}
+use Rattle.std.proofs.Common.{List, ap, append-nil, rules, sym, ◌∙◌}
 
 pub invariant_of-self-in-Ok-Lines : goal.invariant_of-self-in-Ok-Lines
 invariant_of-self-in-Ok-Lines c =

@@ -1,10 +1,7 @@
-use Rattle.std.proofs.Common.{rules, ap, sym, ◌∙◌, List}
-use Rattle.rtrb.specs.Ring.{sent}
-use Rattle.hub_threads.specs.declared.queued.Queued.{Queued}
-use Rattle.hub_threads.specs.Queues.{packets_in}
-use Rattle.hub_threads.proofs.Lists.{packets_in_lines}
-use Rattle.hub_threads.proofs.Rooms.{took_and_found}
 use Rattle.hub_threads.proofs.outlet_ring.RingOutlet.send.Goals as goal
+use Rattle.hub_threads.proofs.{Lists.packets_in_lines, Rooms.took_and_found}
+use Rattle.hub_threads.specs.{Queues.packets_in, declared.queued.Queued.Queued}
+use Rattle.{rtrb.specs.Ring.sent, std.proofs.Common.{List, ap, rules, sym, ◌∙◌}}
 
 pub returns-in-Ok-clause-taken : goal.returns-in-Ok-clause-taken
 returns-in-Ok-clause-taken c =

@@ -1,11 +1,9 @@
-use Rattle.std.proofs.Common.{rules, ◌∙◌, ap, List}
-use Rattle.std.proofs.lemmas.Bool.{false≢true}
-use Rattle.rtrb.specs.Ring.{sent}
-use Rattle.hub_threads.specs.declared.queued.Queued.{Queued}
-use Rattle.hub_threads.specs.Queues.{packets_in, is_closed}
-use Rattle.hub_threads.proofs.Lists.{packets_in_closing, closing_told, slot_free}
 use Rattle.hub_threads.proofs.outlet_ring.RingOutlet.shut.Goals as goal
-use Rattle.hub_threads.proofs.outlet_ring.RingOutlet.shut.Goals.{in-Ok, in-Err}
+use Rattle.hub_threads.proofs.Lists.{closing_told, packets_in_closing, slot_free}
+use Rattle.hub_threads.proofs.outlet_ring.RingOutlet.shut.Goals.{in-Err, in-Ok}
+use Rattle.hub_threads.specs.{Queues.{is_closed, packets_in}, declared.queued.Queued.Queued}
+use Rattle.{rtrb.specs.Ring.sent, std.proofs.Common.{List, ap, rules, ◌∙◌}}
+use Rattle.std.proofs.lemmas.Bool.{false≢true}
 
 pub returns-clause-sent : goal.returns-clause-sent
 returns-clause-sent c =

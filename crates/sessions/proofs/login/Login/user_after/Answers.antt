@@ -1,12 +1,7 @@
-use Rattle.std.proofs.Common.{◌∙◌, ap, sym, codes}
-use Rattle.std.specs.Option.{option_or}
-use Rattle.sessions.specs.Given.{given}
-use Rattle.sessions.specs.Progress.{Progress}
-use Rattle.sessions.proofs.LookedBack.{last_more}
 use Rattle.sessions.proofs.login.Login.user_after.Goals as goal
+use Rattle.{sessions.{proofs.LookedBack.last_more, specs.Given.given}, std.proofs.Common.codes}
 
 pub returns : goal.returns
 returns c = λ before at.
-    let had = ap (λ (p : Progress). p.user) c.self.view_is ∙ at.user in
-    c.latest.ensures ∙ ap (option_or (given (codes "USER") c.args.line.now)) had
-    ∙ sym (last_more (given (codes "USER")) before c.args.line.now)
+    let so_far = rw (← c.self.view_is) at at.user in
+    rw (c.latest.ensures, so_far, last_more (given (codes "USER")) before c.args.line.now)

@@ -1,6 +1,5 @@
-use Rattle.std.proofs.Common.{◌++◌, ◌∷◌, []}
-use Rattle.upstream.proofs.SentLemmas.{all_sent_is}
 use Rattle.upstream.proofs.dialled.Registering.finish.Goals as goal
+use Rattle.{std.proofs.Common.{[], ◌++◌, ◌∷◌}, upstream.proofs.SentLemmas.all_sent_is}
 
 pub returns-in-Ok-clause-ok : goal.returns-in-Ok-clause-ok
 returns-in-Ok-clause-ok g c = λ network dialled taken first.

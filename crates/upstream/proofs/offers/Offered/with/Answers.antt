@@ -1,18 +1,14 @@
-use Rattle.std.proofs.Common.{◌≡◌, ◌⊎◌, refl, false, true, inl, inr}
-use Rattle.upstream.specs.Registration.{is_list}
-use Rattle.upstream.specs.declared.said.Said.{Said}
 use Rattle.upstream.specs.declared.said.Said.TheVariants as says
-use Rattle.upstream.proofs.OfferLemmas.{offers_listed, offers_nothing}
 use Rattle.upstream.proofs.offers.Offered.with.Goals as goal
+use Rattle.std.proofs.Common.{arith, false, true, ◌≡◌, ◌⊎◌}
+use Rattle.upstream.{proofs.OfferLemmas.{offers_listed, offers_nothing}, specs.Registration.is_list}
+use Rattle.upstream.specs.declared.said.Said.{Said}
 
 no_list : (s : Said) → (s ≡ says.List → ⊥) → (s ≡ says.LastList → ⊥) → is_list s ≡ false
-no_list says.List a b = absurd (a refl)
-no_list says.LastList a b = absurd (b refl)
-no_list _ a b = refl
+no_list s a b = grind arith
 
 listed : (s : Said) → (s ≡ says.List) ⊎ (s ≡ says.LastList) → is_list s ≡ true
-listed s (inl is) = rw is refl
-listed s (inr is) = rw is refl
+listed s is = grind arith
 
 pub returns-in-List : goal.returns-in-List
 returns-in-List c = λ before at.
