@@ -1,15 +1,12 @@
 -- Digests whose bytes are all compared.
-use Rattle.std.proofs.Common.{◌≡◌, refl, sym, ap, ◌∙◌, ℕ, List, [], ◌∷◌, length, bit_or, arith}
-use Rattle.std.proofs.lemmas.Nat.{le_or_l, le_or_r}
-use Rattle.std.specs.Int.Bits.{bit_xor, xor_assoc, xor_self, xor_zero_l, xor_zero_r}
-use Rattle.std.specs.List.{fold, zip}
-use Rattle.bnc_config.specs.Digest.{difference_of}
+use Rattle.{bnc_config.specs.Digest.difference_of, std.proofs.Common.{List, [], arith, bit_or}}
+use Rattle.std.proofs.{Common.{length, refl, ℕ, ◌∷◌, ◌≡◌}, lemmas.Nat.{le_or_l, le_or_r}}
+use Rattle.std.specs.{Int.Bits.{bit_xor, xor_assoc, xor_self, xor_zero_l, xor_zero_r}, List.fold}
+use Rattle.std.specs.List.{zip}
 
 -- two numbers that differ in no bit are equal
 same_from_xor : (a b : ℕ) → bit_xor a b ≡ 0 → a ≡ b
-same_from_xor a b none =
-    sym (xor_zero_r a) ∙ ap (bit_xor a) (sym (xor_self b)) ∙ sym (xor_assoc a b b)
-    ∙ ap (λ n. bit_xor n b) none ∙ xor_zero_l b
+same_from_xor a b none = cc (xor_zero_r a, xor_self b, xor_assoc a b b, xor_zero_l b)
 
 abbrev with_pair : ℕ → ℕ × ℕ → ℕ
 with_pair difference pair = bit_or difference (bit_xor pair.0 pair.1)
@@ -21,11 +18,7 @@ none_before found [] (y ∷ ys) same none = absurd (omega arith)
 none_before found (x ∷ xs) [] same none = absurd (omega arith)
 none_before found (x ∷ xs) (y ∷ ys) same none =
     let rest = none_before (bit_or found (bit_xor x y)) xs ys (omega arith) none in
-    let left = le_or_l found (bit_xor x y) in
-    let right = le_or_r found (bit_xor x y) in
-    let here : x ≡ y = same_from_xor x y (omega (arith, rest.0)) in
-    let others : xs ≡ ys = rest.1 in
-    (omega (arith, rest.0), cc)
+    grind (arith, le_or_l found, le_or_r found, same_from_xor x y)
 
 -- bytes with no difference are equal
 pub same_from_difference : (a b : List ℕ) → length a ≡ length b → difference_of a b ≡ 0 → a ≡ b

@@ -1,12 +1,9 @@
 -- A port as `parse` reads it.
-use Rattle.std.proofs.Common.{◌≡◌, refl, sym, ℕ, ◌<◌, ◌^◌, true, false, List, [], ◌∷◌, Err, rules}
-use Rattle.std.proofs.Common.{arith}
-use Rattle.std.proofs.lemmas.Bool.Decides.{nat_tests}
-use Rattle.std.proofs.lemmas.Str.Parse.{IsNumeralModel, numerals_by_value, parse_digits}
-use Rattle.std.specs.Char.{is_ascii_digit}
-use Rattle.std.specs.List.{list_all}
-use Rattle.std.specs.Str.Parse.{digits_value, ParsesUnsigned}
-use Rattle.bnc_config.specs.Text.{is_port}
+use Rattle.{bnc_config.specs.Text.is_port, std.proofs.Common.{Err, List, [], arith, false, refl}}
+use Rattle.std.proofs.Common.{rules, sym, true, ℕ, ◌<◌, ◌^◌, ◌∷◌, ◌≡◌}
+use Rattle.std.proofs.lemmas.{Bool.Decides.nat_tests, Str.Parse.{IsNumeralModel, numerals_by_value}}
+use Rattle.std.{proofs.lemmas.Str.Parse.parse_digits, specs.{Char.is_ascii_digit, List.list_all}}
+use Rattle.std.specs.Str.Parse.{ParsesUnsigned, digits_value}
 
 own : IsNumeralModel (λ ds. list_all is_ascii_digit ds ≡ true) (digits_value 10)
 own = numerals_by_value _ (search rules)

@@ -1,38 +1,26 @@
 -- The messages of a transcript that is read line by line.
-use Rattle.std.proofs.Common.{◌≡◌, ℕ, append-nil, lit<}
-use Rattle.std.proofs.Common.{codes, true, false, cond, List, [], ◌∷◌, ◌++◌, Option}
-use Rattle.std.proofs.Common.{Some, None, refl, sym, ap, ◌∙◌}
-use Rattle.std.specs.List.{cons_option, filter_map, list_all}
-use Rattle.std.specs.Option.{option_and_then}
-use Rattle.std.proofs.lemmas.List.Elements.{filter_map-append}
-use Rattle.std.proofs.lemmas.Option.{same_Some}
-use Rattle.irc_line.specs.Line.{Parts}
-use Rattle.irc_line.specs.Tags.{has_form, time_form, time_of, time_value, value_behind, is_tag_byte}
-use Rattle.net_view.specs.Arrival.{Arrival}
-use Rattle.history.specs.Entry.{EntryParts}
-use Rattle.history.specs.Messages.{Messages, history_of, no_messages, with_message}
-use Rattle.history.proofs.LastMessages.{none, one_more}
-use Rattle.client_caps.proofs.PartsWritten.{formed}
-use Rattle.std.specs.Prelude.{length, filter, ◌&&◌}
-use Rattle.std.proofs.lemmas.Bool.{le-ltb}
-use Rattle.std.specs.List.{enumerate_from}
-use Rattle.std.specs.Option.{option_map_or}
-use Rattle.std.proofs.Common.{arith}
-use Rattle.history.specs.Messages.{missed_by, missed_of, target_key, target_limit}
-use Rattle.history.specs.Retained.{is_held, is_retained, is_to, retained, was_held}
-use Rattle.history.proofs.Retained.{nothing_passes}
-use Rattle.commands.specs.Attach.{IsKept, kept_of, last_messages, message_in, room_of}
+use Rattle.{client_caps.proofs.PartsWritten.formed, commands.specs.Attach.{IsKept, kept_of}}
+use Rattle.commands.specs.Attach.{last_messages, message_in, room_of}
+use Rattle.history.{proofs.{LastMessages.one_more, Retained.nothing_passes}, specs.Entry.EntryParts}
+use Rattle.history.specs.Messages.{Messages, missed_by, missed_of, target_key, target_limit}
+use Rattle.history.specs.{Messages.with_message, Retained.{is_held, is_retained, is_to, retained}}
+use Rattle.{history.specs.Retained.was_held, irc_line.specs.{Line.Parts, Tags.has_form}}
+use Rattle.irc_line.specs.Tags.{is_tag_byte, time_form, time_of, time_value, value_behind}
+use Rattle.{net_view.specs.Arrival.Arrival, std.proofs.Common.{Bool, List, None, Option, Some, []}}
+use Rattle.std.proofs.Common.{ap, append-nil, arith, codes, cond, refl, sym, true, ℕ, ◌++◌, ◌∷◌}
+use Rattle.std.proofs.{Common.◌≡◌, lemmas.{Bool.le-ltb, List.Elements.filter_map-append}}
+use Rattle.std.specs.List.{cons_option, enumerate_from, filter_map, list_all}
+use Rattle.std.specs.{Option.{option_and_then, option_map_or}, Prelude.{filter, length, ◌&&◌}}
 
 -- the time of a line is made of what a tag's value is made of
 value_tagged : (value time : List ℕ) → time_value value ≡ Some time
     → list_all is_tag_byte time ≡ true
 value_tagged value time e =
-    elim (has_form time_form value) as (λ b. has_form time_form value ≡ b
-    → cond b (Some value) None ≡ Some time → list_all is_tag_byte time ≡ true) [
-      | true ↦ λ h e. ap (list_all is_tag_byte) (sym (same_Some value time e))
-          ∙ formed time_form value refl h
-      | false ↦ λ h e. cc
-    ] refl e
+    tested (has_form time_form value) (formed time_form value refl) e
+  where
+    tested : (b : Bool) → (b ≡ true → list_all is_tag_byte value ≡ true)
+        → cond b (Some value) None ≡ Some time → list_all is_tag_byte time ≡ true
+    tested b tagged e = grind arith
 
 pub time_tagged : (line : Parts) (time : List ℕ) → time_of line ≡ Some time
     → list_all is_tag_byte time ≡ true
@@ -60,19 +48,13 @@ pub message_more : (n : ℕ) (items : List Arrival) (x : Arrival) (entry : Entry
     (held : Messages) → held ≡ kept_of n items → held.next ≡ Some number
     → message_in x ≡ Some entry → with_message number entry held ≡ kept_of n (items ++ x ∷ [])
 message_more n items x entry number held is next e =
-    ap (with_message number entry) is
-    ∙ one_more n 1 number (filter_map message_in items) entry
-    (ap (λ (h : Messages). h.next) (sym is) ∙ next)
-    ∙ ap (history_of n 1) (ap (λ o. filter_map message_in items ++ cons_option o []) (sym e)
-    ∙ sym (messages_on items x))
+    rw (is, messages_on items x, e)
+    (one_more n 1 number (filter_map message_in items) entry (rw is at next))
 
 -- a line that is none
 pub no_message : (n : ℕ) (items : List Arrival) (x : Arrival) (held : Messages)
     → held ≡ kept_of n items → message_in x ≡ None → held ≡ kept_of n (items ++ x ∷ [])
-no_message n items x held is e =
-    is ∙ ap (history_of n 1) (sym (append-nil (filter_map message_in items))
-    ∙ ap (λ o. filter_map message_in items ++ cons_option o []) (sym e)
-    ∙ sym (messages_on items x))
+no_message n items x held is e = rw (is, messages_on items x, e, append-nil)
 
 -- where none is to be kept, none is
 none_passes : (ms : List (ℕ × EntryParts)) → retained target_key target_limit 0 ms ≡ []
@@ -88,7 +70,3 @@ pub retained_then : (recent : Option Messages) (items : List Arrival) → IsKept
 retained_then None items kept =
     sym (ap (missed_of None) (none_passes (enumerate_from 1 (filter_map message_in items))))
 retained_then (Some h) items kept = ap (missed_by None) kept.0
-
--- none yet
-pub none_yet : (n : ℕ) → no_messages n 1 ≡ kept_of n []
-none_yet n = none n 1 (lit< tt)

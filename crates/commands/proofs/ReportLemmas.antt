@@ -1,19 +1,12 @@
 -- The lines of a report, member by member and place by place.
-use Rattle.std.proofs.Common.{◌≡◌, ℕ, ◌+◌, List, [], ◌++◌, Option, Some, None, refl, sym, ap, ◌∙◌}
-use Rattle.std.proofs.Common.{map, take, append_assoc, append-nil}
-use Rattle.std.specs.Prelude.{option_to_list}
-use Rattle.std.specs.List.{flat_map, slice_get}
-use Rattle.std.specs.Option.{option_map, option_map_or}
-use Rattle.std.specs.FinMap.{entries}
-use Rattle.std.proofs.lemmas.Grind.{flat_map-append}
-use Rattle.std.proofs.lemmas.Simd.{map-map}
-use Rattle.irc_line.specs.Lines.{with_lf}
-use Rattle.net_view.specs.Text.{Text}
-use Rattle.net_view.specs.View.{Channel, View}
-use Rattle.net_view.specs.Readers.{MemberParts, channel_shown, member_parts}
-use Rattle.net_view.specs.Walks.{member_parts_at}
-use Rattle.welcome.proofs.Places.{flat_next}
-use Rattle.commands.specs.Report.{member_line, member_lines, channel_lines, text_of}
+use Rattle.commands.specs.Report.{channel_lines, member_line, member_lines, text_of}
+use Rattle.{irc_line.specs.Lines.with_lf, net_view.specs.Readers.{MemberParts, channel_shown}}
+use Rattle.net_view.specs.{Readers.member_parts, Text.Text, View.{Channel, View}}
+use Rattle.{net_view.specs.Walks.member_parts_at, std.proofs.Common.{List, None, Option, Some, []}}
+use Rattle.std.proofs.Common.{ap, append-nil, append_assoc, map, refl, take, ℕ, ◌++◌, ◌+◌, ◌≡◌}
+use Rattle.std.{proofs.lemmas.{Grind.flat_map-append, Simd.map-map}, specs.FinMap.entries}
+use Rattle.std.specs.{List.{flat_map, slice_get}, Option.{option_map, option_map_or}}
+use Rattle.{std.specs.Prelude.option_to_list, welcome.proofs.Places.flat_next}
 
 -- the lines of members
 abbrev pub members_text : View → List MemberParts → List ℕ
@@ -35,16 +28,14 @@ channels_before v i =
     text_of (flat_map (λ (e : Text × Channel). channel_lines v e.1) (take i (entries v.channels)))
 
 -- the next channel
-pub channels_more : (v : View) (i : ℕ) → channels_before v (i + 1)
+channels_more : (v : View) (i : ℕ) → channels_before v (i + 1)
     ≡ channels_before v i
     ++ option_map_or (λ (ch : Channel). text_of (channel_lines v ch)) (channel_shown v i) []
 channels_more v i =
     let lines = λ (e : Text × Channel). channel_lines v e.1 in
     let es = entries v.channels in
-    ap text_of (flat_next lines es i)
-    ∙ flat_map-append with_lf (flat_map lines (take i es))
-    (flat_map lines (option_to_list (slice_get es i)))
-    ∙ ap (λ t. channels_before v i ++ t) (one (slice_get es i)) where
+    rw (flat_next lines es i, flat_map-append with_lf (flat_map lines (take i es)))
+    (ap (λ t. channels_before v i ++ t) (one (slice_get es i))) where
       one : (o : Option (Text × Channel))
           → text_of (flat_map (λ (e : Text × Channel). channel_lines v e.1) (option_to_list o))
           ≡ option_map_or (λ (ch : Channel). text_of (channel_lines v ch)) (option_map (λ e. e.1) o)
@@ -55,8 +46,4 @@ channels_more v i =
 pub channel_pushed : (v : View) (i : ℕ) (before now : List ℕ) → now ≡ before ++ channels_before v i
     → now ++ option_map_or (λ (ch : Channel). text_of (channel_lines v ch)) (channel_shown v i) []
     ≡ before ++ channels_before v (i + 1)
-channel_pushed v i before now is =
-    let next =
-    option_map_or (λ (ch : Channel). text_of (channel_lines v ch)) (channel_shown v i) [] in
-    ap (λ t. t ++ next) is ∙ append_assoc before (channels_before v i) next
-    ∙ ap (λ t. before ++ t) (sym (channels_more v i))
+channel_pushed v i before now is = rw (is, channels_more v i, append_assoc)

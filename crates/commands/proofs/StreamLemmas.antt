@@ -1,11 +1,9 @@
 -- An input that was read.
-use Rattle.std.proofs.Common.{◌≡◌, ◌∙◌, ℕ, List, ap, false, zero-add}
-use Rattle.irc_line.specs.Lines.{Pending, counted, fed, is_too_long, skipped_of, start}
-use Rattle.commands.specs.Faults.{reading_fault}
-use Rattle.commands.specs.Stream.{IsRefusal}
-use Rattle.commands.specs.declared.fault.Fault.{Fault}
-use Rattle.std.specs.declared.io.ErrorKind.{ErrorKind}
 use Rattle.std.specs.declared.io.ErrorKind.TheVariants as kind
+use Rattle.commands.specs.{Faults.reading_fault, Stream.IsRefusal, declared.fault.Fault.Fault}
+use Rattle.irc_line.specs.Lines.{Pending, counted, fed, is_too_long, skipped_of, start}
+use Rattle.std.proofs.Common.{List, ap, false, zero-add, ℕ, ◌∙◌, ◌≡◌}
+use Rattle.std.specs.declared.io.ErrorKind.{ErrorKind}
 
 -- how many lines a splitter has skipped in all
 pub skipped_in : (s : Pending) (bytes : List ℕ) (n : ℕ) → n ≡ s.skipped → s ≡ fed start bytes

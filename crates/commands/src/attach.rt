@@ -85,6 +85,7 @@ impl<V: NetworkView> Taker for Attaching<V> {
 }
 
 /// The messages that are retained, the oldest first.
+#[tactic(auto, using(crate::proofs::AttachLemmas::retained_then))]
 fn retained(alloc: Global, recent: &Option<History>) -> Result<Vec<&Entry>, OutOfMemory>
     ensures missed { (items : List Arrival) → IsKept recent.now items → IfOk result (λ entries.
         map (λ entry. entry.now) entries.items ≡ last_messages (room_of recent.now) items) }
@@ -152,6 +153,7 @@ pub fn attach_input<V: NetworkView, R: Read, W: Write>(
 ///                             :bnc 353 Me = #c Me
 ///                             :bnc 366 Me #c :End of NAMES list
 /// ```
+#[tactic(auto, using(net_view::proofs::StepLaw::view_start))]
 pub fn run_attach<R: Read, W: Write>(
     alloc: Global,
     reader: &mut R,

@@ -76,6 +76,7 @@ pub fn report_input<V: NetworkView, R: Read, W: Write>(
 /// :s MODE #c +o bob           member Me
 /// :bob!b@h AWAY :lunch
 /// ```
+#[tactic(auto, using(net_view::proofs::StepLaw::view_start))]
 pub fn run_view<R: Read, W: Write>(alloc: Global, reader: &mut R, out: &mut W) -> Result<(), Fault>
     ensures written { OnOk result ((bytes : List ℕ)
         × Consumes (R.remaining reader.old) (R.remaining reader.new) bytes

@@ -1,7 +1,6 @@
-use Rattle.std.proofs.Common.{◌≡◌, length, ◌∙◌, sym, arith}
-use Rattle.std.proofs.lemmas.Bool.Decides.{nat_tests}
-use Rattle.bnc_config.proofs.DigestLemmas.{same_from_difference, difference_of-self}
 use Rattle.bnc_config.proofs.digest.are_equal.Goals as goal
+use Rattle.bnc_config.proofs.DigestLemmas.{difference_of-self, same_from_difference}
+use Rattle.std.proofs.{Common.{arith, length, sym, ◌∙◌, ◌≡◌}, lemmas.Bool.Decides.nat_tests}
 
 pub returns : goal.returns
 returns c = (

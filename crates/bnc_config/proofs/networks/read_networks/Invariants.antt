@@ -1,16 +1,11 @@
-use Rattle.std.proofs.Common.{◌≡◌, ◌++◌, [], drop, map}
-use Rattle.toml.specs.View.{items_view}
-use Rattle.bnc_config.specs.Document.{network_in, networks_fault, tables_of}
-use Rattle.bnc_config.specs.Names.{AreNames}
-use Rattle.bnc_config.specs.Settings.{NetworkSettings}
 use Rattle.bnc_config.proofs.networks.read_networks.Given as goal
+use Rattle.bnc_config.proofs.ItemsLemmas.{IsReadTo}
+use Rattle.bnc_config.specs.Document.{network_in, network_fault, networks_fault}
+use Rattle.bnc_config.specs.{Names.AreNames, Settings.NetworkSettings}
+use Rattle.std.proofs.Common.{map}
 
 abbrev pub invariant-loop-value : goal.invariant-loop-value
 invariant-loop-value l = record {
   named : AreNames l.names (map (λ (n : NetworkSettings). n.name) l.networks.items);
-  fault : networks_fault [] (tables_of (items_view l.values))
-      ≡ networks_fault (map (λ (n : NetworkSettings). n.name) l.networks.items)
-      (tables_of (items_view (drop l.value-index l.values)));
-  done : map network_in (tables_of (items_view l.values))
-      ≡ l.networks.items ++ map network_in (tables_of (items_view (drop l.value-index l.values)));
+  read : IsReadTo network_in (λ (n : NetworkSettings). n.name) network_fault networks_fault l.values l.value-index l.networks.items;
 }

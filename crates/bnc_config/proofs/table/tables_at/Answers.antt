@@ -1,6 +1,5 @@
-use Rattle.std.proofs.Common.{inr}
-use Rattle.bnc_config.proofs.ItemsLemmas.{fault_at-other_list}
 use Rattle.bnc_config.proofs.table.tables_at.Goals as goal
+use Rattle.{bnc_config.proofs.ItemsLemmas.fault_at-other_list, std.proofs.Common.inr}
 
 pub returns-then-not-are_tables : goal.returns-then-not-are_tables
 returns-then-not-are_tables c =

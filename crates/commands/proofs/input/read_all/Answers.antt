@@ -1,20 +1,18 @@
-use Rattle.std.proofs.Common.{◌≡◌, [], subst, sym}
-use Rattle.std.specs.IoError.{error_kind}
-use Rattle.commands.specs.Stream.{transcript_of}
-use Rattle.commands.proofs.StreamLemmas.{reading_refusal, skipped_in}
 use Rattle.commands.proofs.input.read_all.Goals as goal
+use Rattle.{commands.proofs.StreamLemmas.{reading_refusal, skipped_in}, std.proofs.Common.{[], sym}}
+use Rattle.std.specs.IoError.{error_kind}
 
 pub returns-in-EndOfInput-clause-read : goal.returns-in-EndOfInput-clause-read
 returns-in-EndOfInput-clause-read g c =
     let r = c.read_from_start-end.ensures in
     let why = rw c.in-EndOfInput.is at r.why in
-    let now = sym (c.taker-1.given.1 (sym why.2.0)) in (
+    let now = c.taker-1.given.1 (sym why.2.0) in (
       r.bytes,
       why.0,
       why.1,
       r.short,
-      subst (λ t. g.T.Taker.is_after t (transcript_of r.bytes)) now (why.2.2 [] c.requires.new),
-      subst (λ t. g.T.Taker.room t ≡ g.T.Taker.room c.args.taker.now) now why.2.1,
+      rw now (why.2.2 [] c.requires.new),
+      rw now why.2.1,
       skipped_in c.read_from_start-end.result.1 r.bytes c.skipped.result c.skipped.ensures r.held,
     )
 

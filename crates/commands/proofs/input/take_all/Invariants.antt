@@ -1,6 +1,5 @@
-use Rattle.std.proofs.Common.{◌≡◌, List, ◌++◌, map}
-use Rattle.net_view.specs.Arrival.{Arrival, Received}
 use Rattle.commands.proofs.input.take_all.Given as goal
+use Rattle.{net_view.specs.Arrival.{Arrival, Received}, std.proofs.Common.{List, map, ◌++◌, ◌≡◌}}
 
 abbrev pub invariant-loop-line : goal.invariant-loop-line
 invariant-loop-line g l = record {

@@ -1,6 +1,5 @@
-use Rattle.std.proofs.Common.{◌∙◌}
-use Rattle.commands.proofs.ReportLemmas.{channel_pushed}
 use Rattle.commands.proofs.report.push_channels.Goals as goal
+use Rattle.{commands.proofs.ReportLemmas.channel_pushed, std.proofs.Common.◌∙◌}
 
 pub loop-i-preserved : goal.loop-i-preserved
 loop-i-preserved g c =

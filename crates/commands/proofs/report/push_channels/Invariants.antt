@@ -1,6 +1,5 @@
-use Rattle.std.proofs.Common.{◌≡◌, ◌++◌}
-use Rattle.commands.proofs.ReportLemmas.{channels_before}
 use Rattle.commands.proofs.report.push_channels.Given as goal
+use Rattle.{commands.proofs.ReportLemmas.channels_before, std.proofs.Common.{◌++◌, ◌≡◌}}
 
 abbrev pub invariant-loop-i : goal.invariant-loop-i
 invariant-loop-i g l =

@@ -1,7 +1,6 @@
-use Rattle.std.proofs.Common.{◌≡◌, ◌++◌, length}
-use Rattle.net_view.specs.Walks.{modes_at}
-use Rattle.commands.specs.Report.{letters_of}
 use Rattle.commands.proofs.report.push_letters.Given as goal
+use Rattle.{commands.specs.Report.letters_of, net_view.specs.Walks.modes_at}
+use Rattle.std.proofs.Common.{length, ◌++◌, ◌≡◌}
 
 abbrev pub invariant-loop-letter : goal.invariant-loop-letter
 invariant-loop-letter g l =

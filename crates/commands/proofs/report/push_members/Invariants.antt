@@ -1,7 +1,6 @@
-use Rattle.std.proofs.Common.{◌≡◌, ◌++◌, length}
-use Rattle.net_view.specs.Walks.{member_parts_at}
-use Rattle.commands.proofs.ReportLemmas.{members_text}
 use Rattle.commands.proofs.report.push_members.Given as goal
+use Rattle.{commands.proofs.ReportLemmas.members_text, net_view.specs.Walks.member_parts_at}
+use Rattle.std.proofs.Common.{length, ◌++◌, ◌≡◌}
 
 abbrev pub invariant-loop-member : goal.invariant-loop-member
 invariant-loop-member g l =

@@ -1,7 +1,6 @@
-use Rattle.std.proofs.Common.{◌≡◌, ◌++◌, length}
-use Rattle.net_view.specs.Walks.{modes_at}
-use Rattle.commands.specs.Report.{params_of}
 use Rattle.commands.proofs.report.push_params.Given as goal
+use Rattle.{commands.specs.Report.params_of, net_view.specs.Walks.modes_at}
+use Rattle.std.proofs.Common.{length, ◌++◌, ◌≡◌}
 
 abbrev pub invariant-loop-param : goal.invariant-loop-param
 invariant-loop-param g l =

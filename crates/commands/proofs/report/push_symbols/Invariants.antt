@@ -1,8 +1,6 @@
-use Rattle.std.proofs.Common.{◌≡◌, ◌++◌, ◌<◌}
-use Rattle.net_view.specs.Ranks.{has_rank, ranks_that}
-use Rattle.irc_support.specs.Written.{symbols_of}
-use Rattle.commands.proofs.MemberLemmas.{ranks_before}
 use Rattle.commands.proofs.report.push_symbols.Given as goal
+use Rattle.{commands.proofs.MemberLemmas.ranks_before, irc_support.specs.Written.symbols_of}
+use Rattle.{net_view.specs.Ranks.{has_rank, ranks_that}, std.proofs.Common.{◌++◌, ◌<◌, ◌≡◌}}
 
 abbrev pub invariant-loop-rank : goal.invariant-loop-rank
 invariant-loop-rank g l = record {

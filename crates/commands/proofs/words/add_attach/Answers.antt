@@ -1,7 +1,6 @@
-use Rattle.std.proofs.Common.{◌≡◌, ap, ap₂, ◌∙◌, codes, rules}
-use Rattle.clap.specs.Words.{App, app_of, new_app, with_rule, with_subcommand}
-use Rattle.commands.specs.Command.{attach_app}
 use Rattle.commands.proofs.words.add_attach.Goals as goal
+use Rattle.clap.specs.Words.{App, app_of, new_app, with_rule, with_subcommand}
+use Rattle.{commands.specs.Command.attach_app, std.proofs.Common.{ap, ap₂, codes, rules, ◌∙◌, ◌≡◌}}
 
 pub returns : goal.returns
 returns c =

@@ -1,8 +1,7 @@
-use Rattle.std.proofs.Common.{◌≡◌, refl, ap, sym, ◌∙◌, codes, None, option_map}
-use Rattle.clap.proofs.WalkLemmas.{first_value-rows}
-use Rattle.clap.specs.Words.{first_of, found_of, rows_of}
-use Rattle.commands.proofs.WordsLemmas.{no_attach, no_text, one_list, one_number}
 use Rattle.commands.proofs.words.read_attach.Goals as goal
+use Rattle.clap.{proofs.WalkLemmas.first_value-rows, specs.Words.{first_of, found_of, rows_of}}
+use Rattle.commands.proofs.WordsLemmas.{no_attach, no_text, one_list, one_number}
+use Rattle.std.proofs.Common.{None, ap, codes, option_map, refl, sym, ◌∙◌, ◌≡◌}
 
 pub returns-in_default-clause-refused : goal.returns-in_default-clause-refused
 returns-in_default-clause-refused c =

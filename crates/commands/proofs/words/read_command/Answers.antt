@@ -1,8 +1,7 @@
-use Rattle.std.proofs.Common.{ap, sym, ◌∙◌, codes, Some}
-use Rattle.clap.proofs.WalkLemmas.{first_value-rows}
-use Rattle.clap.specs.Words.{found_of, rows_of}
-use Rattle.commands.proofs.WordsLemmas.{no_check, no_serve}
 use Rattle.commands.proofs.words.read_command.Goals as goal
+use Rattle.clap.{proofs.WalkLemmas.first_value-rows, specs.Words.{found_of, rows_of}}
+use Rattle.{commands.proofs.WordsLemmas.{no_check, no_serve}, std.proofs.Common.{Some, ap, codes}}
+use Rattle.std.proofs.Common.{sym, ◌∙◌}
 
 pub returns-in_ok-from_str-in-Some-clause-read : goal.returns-in_ok-from_str-in-Some-clause-read
 returns-in_ok-from_str-in-Some-clause-read c = (

@@ -1,9 +1,8 @@
-use Rattle.std.proofs.Common.{ap, ◌∙◌, List, ℕ, map, Bor}
-use Rattle.clap.specs.Words.{Text, app_of, is_simple, is_simple_and_free, found_of, kind_of}
-use Rattle.clap.specs.Words.{rows_of}
-use Rattle.commands.proofs.WordsLemmas.{asked_at, cause_at, is_simple-bnc_app, is_free-bnc_app}
-use Rattle.commands.proofs.WordsLemmas.{pair_of_halves, words_ask, words_cause}
 use Rattle.commands.proofs.words.read_words.Goals as goal
+use Rattle.clap.specs.Words.{Text, app_of, found_of, is_simple, is_simple_and_free, kind_of}
+use Rattle.{clap.specs.Words.rows_of, commands.proofs.WordsLemmas.{asked_at, cause_at}}
+use Rattle.commands.proofs.WordsLemmas.{is_free-bnc_app, is_simple-bnc_app, words_ask, words_cause}
+use Rattle.std.proofs.Common.{Bor, List, ap, map, ℕ, ◌∙◌}
 
 pub returns-in-Some-clause-read : goal.returns-in-Some-clause-read
 returns-in-Some-clause-read c =
@@ -11,9 +10,9 @@ returns-in-Some-clause-read c =
     let rows = rows_of (found_of c.in-Some.inner.now) in
     let given =
     (c.in-Ok.ensures.matches (ap is_simple c.in_ok-grammar.ensures ∙ is_simple-bnc_app)).1 in
-    let pair = pair_of_halves _ _ _ _ _ c.in-Some.ensures.name c.in-Some.ensures.rows in
     words_ask words c.in-Some.name.now rows c.read_command.result
-    (asked_at (app_of c.in_ok-grammar.field-0) words _ _ rows c.in_ok-grammar.ensures given pair)
+    (asked_at (app_of c.in_ok-grammar.field-0) words _ _ _ _ rows c.in_ok-grammar.ensures given
+    c.in-Some.ensures.name c.in-Some.ensures.rows)
     c.read_command.ensures.read
 
 pub returns-in-Some-clause-refused : goal.returns-in-Some-clause-refused
@@ -22,9 +21,9 @@ returns-in-Some-clause-refused c =
     let rows = rows_of (found_of c.in-Some.inner.now) in
     let given =
     (c.in-Ok.ensures.matches (ap is_simple c.in_ok-grammar.ensures ∙ is_simple-bnc_app)).1 in
-    let pair = pair_of_halves _ _ _ _ _ c.in-Some.ensures.name c.in-Some.ensures.rows in
     words_cause words c.in-Some.name.now rows c.read_command.result
-    (asked_at (app_of c.in_ok-grammar.field-0) words _ _ rows c.in_ok-grammar.ensures given pair)
+    (asked_at (app_of c.in_ok-grammar.field-0) words _ _ _ _ rows c.in_ok-grammar.ensures given
+    c.in-Some.ensures.name c.in-Some.ensures.rows)
     c.read_command.ensures.refused
 
 pub returns-in-Err-clause-refused : goal.returns-in-Err-clause-refused

@@ -1,8 +1,6 @@
-use Rattle.std.proofs.Common.{rules, inl, inr}
-use Rattle.std.proofs.lemmas.Result.{err_from_is_err_and}
-use Rattle.toml.specs.View.{table_view}
-use Rattle.bnc_config.proofs.FaultLemmas.{fault_of_tree}
 use Rattle.bnc_config.proofs.config.Config.read.Goals as goal
+use Rattle.{bnc_config.proofs.FaultLemmas.fault_of_tree, std.proofs.Common.{inl, inr, rules}}
+use Rattle.{std.proofs.lemmas.Result.err_from_is_err_and, toml.specs.View.table_view}
 
 pub returns-in_err-users : goal.returns-in_err-users
 returns-in_err-users c =

@@ -1,7 +1,5 @@
-use Rattle.std.proofs.Common.{sym}
-use Rattle.std.proofs.lemmas.Result.{on_ok_weaker}
-use Rattle.net_view.specs.Arrival.{Received}
 use Rattle.commands.proofs.attach.AttachingTaker.take_line.Goals as goal
+use Rattle.{net_view.specs.Arrival.Received, std.proofs.{Common.sym, lemmas.Result.on_ok_weaker}}
 
 pub returns-clause-taken : goal.returns-clause-taken
 returns-clause-taken g c items known =
