@@ -1,42 +1,22 @@
 -- It refuses where the count says so, and else answers what the inner allocator answers. Assumes `Logic`.
-use Rattle.std.proofs.Common.{Bool, ◌≡◌, ℕ, ◌+◌, ◌^◌, ◌<◌, true, false, List, [], ◌∷◌, Ok, Err, refl, w64, Bor, ap}
 use seplogic.Ra.Ura.{Ura}
-use mir.Syntax.{Ty, Args, Fn, a_type, dnil, dcons}
-use mir.Val.{Val, vbool, vint, vptr}
-use mir.MapTy.{inst_fn}
-use base.Logic.{SProp, ent, id⊢, ex, sep, guard}
-use base.Fml.{Lft, Share, ftrue, flft, fsep}
-use prog.Memory.{Memory, size, align, capped, up}
-use prog.Routine.{Routine}
-use prog.Wp.{WpFn, Tables}
-use types.Logic.{Logic, sem}
-use contract.BorrowLft.{◌⊑◌, ⊑_trans}
-use contract.Monad.{Fun, fact}
-use contract.Running.{tables, tables_of}
+use mir.{Syntax.{Ty, Args, Fn, a_type, dnil, dcons}, Val.{Val, vbool, vint, vptr}, MapTy.inst_fn}
+use base.{Logic.{SProp, ent, id⊢, ex, sep, guard}, Fml.{Lft, Share, ftrue, flft, fsep}}
+use prog.{Memory.{Memory, size, align, capped, up}, Routine.Routine, Wp.{WpFn, Tables}}
+use types.{Logic.{Logic, sem}, Part.agg, Run.{lit, first, branches, skips, exec, returns_within}}
+use types.{Run.{stop, fld, addr, no_more, and_then, returns, enter}, Kit.{at_ret, some, pick, by}}
+use types.Kit.{Item, ⋆, ‵, raw, ◌⊛◌, later, given, learn, ◌$◌, ◌∵◌, !, qed, move, keep, drop, use0}
+use types.Kit.{use1, use2, split, split3, join, fsplit, fjoin, suffices, await, done, show, feq_i}
+use types.{Kit.{feq_l, check, updating, now as at_once}, ByLocal.{env, alloc_all, pass_all}}
+use types.ByLocal.{free_all, look_at, get, through, sets, lands_as}
+use contract.{BorrowLft.{◌⊑◌, ⊑_trans}, Monad.{Fun, fact}, Running.{tables, tables_of}}
 use sound.WpLaws.{fm_of, WpFn-mono}
-use types.Part.{agg}
-use types.Run.{lit, first, branches, skips, exec, returns_within, stop, fld, addr, no_more, and_then, returns, enter}
-use denote.Exit.{yes}
-use denote.RattleType.{owns, RattleType}
-use denote.Ref.{shr_vals}
-use denote.Opens.{unhide}
-use denote.Param.{bounded, param}
-use denote.Plain.{uint_vals, uint_Tells}
-use denote.Signature.{Slot, plain, types_at}
-use denote.Steps.{heard, nothing, only}
-use denote.Triple.Clauses.{Ended, Clauses}
-use denote.Triple.Spec.{triple_of}
-use denote.Triple.Statement.{Triple, Contract}
-use denote.Triple.Table.{entered, cited}
-use denote.Triple.Walked.{Stays, stay_dropped, walk_of, ends_at, walked, Goes-dropped, walk_Meets}
-use types.Kit.{at_ret, some, pick, by, Item, ⋆, ‵, raw, ◌⊛◌, later, given, learn, ◌$◌, ◌∵◌, !, qed, move, keep, drop, use0, use1, use2, split, split3, join, fsplit, fjoin, suffices, await, done, show, feq_i, feq_l, check, updating, now as at_once}
-use Rattle.std.specs.Allocator.{block_if_ok}
-use Rattle.std.proofs.VecSteps.Shapes.{after}
-use types.ByLocal.{env, alloc_all, pass_all, free_all, look_at, get, through, sets, lands_as}
-use denote.RawPtr.{block_ptr}
-use denote.Builtin.{usize, RefOf, u64, bool}
-use denote.Triple.Call.{calls_at}
-use Rattle.std.proofs.alloc.Calls.{Al, α, seen, Answer, answer_val, Answer-typed, Answer-Ok, Answer-err, takes_key, Takes, at_takes, Answered, Takes-goes, Takes-gives, answers, token}
+use denote.{Builtin.{RefOf, bool, u64, usize}, Exit.yes, Memory.hidden_shr, Opens.unhide}
+use denote.{Param.{bounded, param}, Plain.{uint_Tells, uint_vals}, RattleType.{RattleType, owns}}
+use denote.{RawPtr.block_ptr, Ref.shr_vals, Signature.{Slot, plain, types_at}, Steps.heard}
+use denote.{Steps.{nothing, only}, Triple.{Call.calls_at, Clauses.{Clauses, Ended}, Spec.triple_of}}
+use denote.Triple.{Statement.{Contract, Triple}, Table.{cited, entered}, Walked.Goes-dropped}
+use denote.Triple.Walked.{Stays, ends_at, stay_dropped, walk_Meets, walk_of, walked}
 use Rattle.transcripts.proofs.refusing.refuses.Symbol as c_sym
 use Rattle.transcripts.proofs.refusing.refuses.Met as c_met
 use Rattle.transcripts.specs.contracts.refusing.Refusing as wrapper
@@ -44,9 +24,13 @@ use Rattle.transcripts.specs.contracts.refusing.RefusingAllocator.allocate as F
 use Rattle.transcripts.specs.contracts.refusing.RefusingAllocator.allocate.Key as key
 use Rattle.transcripts.proofs.refusing.RefusingAllocator.allocate.Statement as stated
 use Rattle.transcripts.proofs.refusing.RefusingAllocator.allocate.Code as code
-use denote.Memory.{hidden_shr}
 use Rattle.std.specs.contracts.cell.Cell as CE
 use Rattle.transcripts.specs.contracts.refusing.refuses as TK
+use Rattle.std.proofs.Common.{Bool, Bor, Err, List, Ok, [], ap, false, refl, true, w64, ℕ, ◌+◌, ◌<◌}
+use Rattle.std.proofs.{Common.{◌^◌, ◌∷◌, ◌≡◌}, VecSteps.Shapes.after, alloc.Calls.{Al, Answer}}
+use Rattle.std.proofs.alloc.Calls.{Answer-Ok, Answer-err, Answer-typed, Answered, Takes}
+use Rattle.std.proofs.alloc.Calls.{Takes-gives, Takes-goes, answer_val, answers, at_takes, seen}
+use Rattle.std.{proofs.alloc.Calls.{takes_key, token, α}, specs.Allocator.block_if_ok}
 
 abbrev Calls : RattleType
 Calls = CE.the_row u64

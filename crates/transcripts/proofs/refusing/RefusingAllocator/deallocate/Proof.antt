@@ -1,48 +1,28 @@
 -- It gives the block back to the inner allocator. Assumes `Logic`.
-use Rattle.std.proofs.Common.{◌≡◌, ℕ, ◌+◌, ◌^◌, ◌<◌, List, [], ◌∷◌, refl, w64, Bor}
 use seplogic.Ra.Ura.{Ura}
-use mir.Syntax.{Ty, Args, Fn, a_type, dnil, dcons}
-use mir.Val.{Val, vint, vptr}
-use mir.MapTy.{inst_fn}
-use base.Logic.{SProp, ent, id⊢}
-use base.Fml.{Lft, Share, ftrue, flft}
-use prog.Memory.{Memory, size, align, capped, up}
-use prog.Routine.{Routine}
-use prog.Wp.{WpFn, Tables}
-use types.Logic.{Logic}
-use contract.BorrowLft.{◌⊑◌, ⊑_trans}
-use contract.Monad.{Fun, fact}
-use contract.Running.{tables, tables_of}
-use sound.WpLaws.{fm_of, WpFn-mono}
-use types.Run.{stop, fld, addr, no_more, and_then, of_opd, returns, enter}
-use denote.Exit.{yes}
-use denote.RattleType.{owns}
-use denote.Ref.{shr_vals}
-use denote.Opens.{unhide}
-use denote.Param.{bounded, param}
-use denote.Plain.{uint_vals, uint_Tells}
-use denote.Signature.{Slot, plain, types_at}
-use denote.Steps.{heard, nothing}
-use denote.Triple.Clauses.{Ended, Clauses}
-use denote.Triple.Spec.{triple_of}
-use denote.Triple.Statement.{Triple}
-use denote.Triple.Table.{entered}
-use denote.Triple.Walked.{Stays, stay_dropped, walk_of, ends_at, walked, Goes-dropped, walk_Meets}
-use mir.Val.{vunit}
-use base.Logic.{never_e}
-use base.Fml.{ffalse, fsep, froom}
-use types.Kit.{Item, ‵, raw, ◌⊛◌, later, given, ◌$◌, ◌∵◌, !, qed, by, move, keep, use1, split, split3, join, learn, fsplit, fjoin, feq_i, suffices, await, done}
-use types.Run.{unit_lit}
+use mir.{MapTy.inst_fn, Syntax.{Args, Fn, Ty, a_type, dcons, dnil}, Val.{Val, vint, vptr, vunit}}
+use base.{Fml.{Lft, Share, ffalse, flft, froom, fsep, ftrue}, Logic.{SProp, ent, id⊢, never_e}}
+use prog.{Memory.{Memory, size, align, capped, up}, Routine.Routine, Wp.{WpFn, Tables}}
+use types.{Logic.Logic, Run.{stop, fld, addr, no_more, and_then, of_opd, returns, enter}, Kit.Item}
+use types.Kit.{‵, raw, ◌⊛◌, later, given, ◌$◌, ◌∵◌, !, qed, by, move, keep, use1, split, split3}
+use types.{Kit.{join, learn, fsplit, fjoin, feq_i, suffices, await, done}, Run.unit_lit}
 use types.ByLocal.{alloc_all, pass_all, free_all, look_at, get, through, sets, lands_as}
-use denote.RawPtr.{Ptr, block_ptr, null_ptr, ptr_val, rawptr_vals, rawptr_Tells}
-use denote.Builtin.{usize, RawPtr, RefOf}
-use denote.Triple.Call.{calls_at}
-use Rattle.std.proofs.alloc.Calls.{Al, α, seen, token, gives_key, Gives, at_gives, Gives-goes, Gives-Gives}
+use contract.{BorrowLft.{◌⊑◌, ⊑_trans}, Monad.{Fun, fact}, Running.{tables, tables_of}}
+use sound.WpLaws.{fm_of, WpFn-mono}
+use denote.{Builtin.{RawPtr, RefOf, usize}, Exit.yes, Opens.unhide, Param.{bounded, param}}
+use denote.{Plain.{uint_Tells, uint_vals}, RattleType.owns, RawPtr.{Ptr, block_ptr, null_ptr}}
+use denote.{RawPtr.{ptr_val, rawptr_Tells, rawptr_vals}, Ref.shr_vals, Signature.{Slot, plain}}
+use denote.{Signature.types_at, Steps.{heard, nothing}, Triple.{Call.calls_at, Clauses.Clauses}}
+use denote.Triple.{Clauses.Ended, Spec.triple_of, Statement.Triple, Table.entered}
+use denote.Triple.Walked.{Goes-dropped, Stays, ends_at, stay_dropped, walk_Meets, walk_of, walked}
 use Rattle.transcripts.specs.contracts.refusing.Refusing as wrapper
 use Rattle.transcripts.specs.contracts.refusing.RefusingAllocator.deallocate as F
 use Rattle.transcripts.specs.contracts.refusing.RefusingAllocator.deallocate.Key as key
 use Rattle.transcripts.proofs.refusing.RefusingAllocator.deallocate.Statement as stated
 use Rattle.transcripts.proofs.refusing.RefusingAllocator.deallocate.Code as code
+use Rattle.std.proofs.Common.{Bor, List, [], refl, w64, ℕ, ◌+◌, ◌<◌, ◌^◌, ◌∷◌, ◌≡◌}
+use Rattle.std.proofs.alloc.Calls.{Al, Gives, Gives-Gives, Gives-goes, at_gives, gives_key, seen}
+use Rattle.std.proofs.alloc.Calls.{token, α}
 
 module _ (Z : Al) where
   abbrev args : Args

@@ -1,7 +1,6 @@
-use Rattle.std.proofs.Common.{◌≡◌, ◌∙◌, [], ap}
-use Rattle.net_view.specs.View.{empty_view, view_back, view_of}
-use Rattle.net_view.proofs.StepLaw.{view_start}
 use Rattle.transcripts_sessions.proofs.hub_rows.scripts.searching_view.Goals as goal
+use Rattle.net_view.{proofs.StepLaw.view_start, specs.View.{empty_view, view_back, view_of}}
+use Rattle.std.proofs.Common.{[], ap, ◌∙◌, ◌≡◌}
 
 start : view_back [] ≡ empty_view
 unfolding view_of

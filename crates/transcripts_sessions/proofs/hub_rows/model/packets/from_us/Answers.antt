@@ -1,6 +1,5 @@
-use Rattle.client_caps.proofs.AnswerTexts.{own_nameable}
-use Rattle.hub_core.proofs.Unread.{own_part}
 use Rattle.transcripts_sessions.proofs.hub_rows.model.packets.from_us.Goals as goal
+use Rattle.{client_caps.proofs.AnswerTexts.own_nameable, hub_core.proofs.Unread.own_part}
 
 pub copy_as_in-requires-clause-source : goal.copy_as_in-requires-clause-source
 copy_as_in-requires-clause-source g c =
