@@ -64,7 +64,7 @@ pub fn burst<V: NetworkView, A: Allocator + Copy, B: Allocator>(
 /// if no message was missed, and else its bytes and the playback's in one packet.
 ///
 /// `OutOfMemory` is told where an allocation was refused, and for no other cause.
-#[tactic(auto, using(crate::proofs::Words::burst_of, crate::proofs::PlaybackWhole::empty_list, crate::proofs::PlaybackWhole::nothing_missed))]
+#[tactic(auto, using(crate::proofs::PlaybackWhole::empty_list, crate::proofs::PlaybackWhole::nothing_missed))]
 pub fn burst_from<V: NetworkView, A: Allocator + Copy, B: Allocator>(
     alloc: A,
     state: &Packet<A>,
