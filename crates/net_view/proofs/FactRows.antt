@@ -16,7 +16,8 @@ abbrev two_channels : List String
 two_channels = joined ++ ":Me!m@h JOIN #d" ∷ ":bob!b@h JOIN #c bobacc :Bob" ∷ ":bob!b@h JOIN #d"
     ∷ ":bob!b@h PART #c" ∷ []
 
-what_is_known : (topic (joined ++ ":s 332 Me #c :Hi" ∷ ":s TOPIC #c" ∷ []) ≡ Some (codes "Hi"))
+what_is_known : (topic (joined ++ ":s 332 Me #c :Hello all" ∷ ":s TOPIC #c" ∷ [])
+    ≡ Some (codes "Hello all"))
     × (topic (joined ++ ":s 332 Me #c :Hello all" ∷ ":s 331 Me #c :No topic is set" ∷ []) ≡ None)
     × (topic (joined ++ ":s TOPIC #c :Hello" ∷ ":s TOPIC #c :" ∷ []) ≡ None)
     -- 324 lists what is on, and all else is off; a change without the parameter that it needs tells

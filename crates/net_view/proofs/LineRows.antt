@@ -14,13 +14,15 @@ named key spelled = record { key = codes key; spelled = codes spelled }
 
 what_lines_tell : (tells ":s 001 Me :hi" ≡ Welcomed (codes "Me"))
     × (tells ":s 001 @me :hi" ≡ Silent)
-    × (tells ":s 005 Me A=1 -B :a b" ≡ Supports (map codes ("Me" ∷ "A=1" ∷ "-B" ∷ "a b" ∷ [])))
+    × (tells ":s 005 Me A=1 -B :are supported"
+    ≡ Supports (map codes ("Me" ∷ "A=1" ∷ "-B" ∷ "are supported" ∷ [])))
     × (tells ":s 376 Me :end" ≡ Settles)
     × (tells ":s 422 Me :none" ≡ Settles)
     × (tells ":Bob!b@h join #C" ≡ Joined (named "#c" "#C") true (named "bob" "Bob") None)
     × (tells ":bob!b@h JOIN #c bobacc :Bob B"
     ≡ Joined (named "#c" "#c") true (named "bob" "bob") (Some (Some (codes "bobacc"))))
-    × (tells ":bob@h JOIN #c * :B" ≡ Joined (named "#c" "#c") true (named "bob" "bob") (Some None))
+    × (tells ":bob!b@h JOIN #c * :Bob B"
+    ≡ Joined (named "#c" "#c") true (named "bob" "bob") (Some None))
     × (tells ":bob!b@h JOIN c" ≡ Joined (named "c" "c") false (named "bob" "bob") None)
     -- a JOIN fixes the settings also where it tells nothing else
     × (tells ":@bob!b@h JOIN #c" ≡ Settles)
