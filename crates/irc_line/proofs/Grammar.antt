@@ -142,15 +142,6 @@ spelled-read line text s =
     let front =
     token-front line.command s.params (command-all line.command s.with_command).0
     (params-stop line.params s.params s.with_params) in
-    rw (
-      trimmed-gap text s.indent (s.tags ++ z) s.whole s.indented (grind arith),
-      tags.is,
-      tags.after,
-      source.is,
-      source.after,
-      front.0,
-      front.1,
-      all-clean text s.clean,
-      s.with_command,
-      params-read line.params s.params s.with_params,
-    )
+    rw (trimmed-gap text s.indent (s.tags ++ z) s.whole s.indented (grind arith), tags.is)
+    (rw (tags.after, source.is, source.after, front.0, front.1, all-clean text s.clean)
+    (rw (s.with_command, params-read line.params s.params s.with_params)))

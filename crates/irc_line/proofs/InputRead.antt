@@ -37,8 +37,7 @@ lines_all_more s (p ∷ ps) piece =
 pub more_read : {P P' : List Parts → Type 0} {old s t : Pending} {u v w : Option (List ℕ)}
     (piece : List ℕ) (r : IsReadSoFar P old s u v) → Consumes v w piece → t ≡ fed s piece
     → is_too_long (s.rest ++ piece) ≡ false
-    → P' (lines_all old r.pieces ++ lines_of (s.rest ++ piece))
-    → IsReadSoFar P' old t u w
+    → P' (lines_all old r.pieces ++ lines_of (s.rest ++ piece)) → IsReadSoFar P' old t u w
 more_read {P} {P'} {old} {s} {t} {u} {v} {w} piece r read fed_is short taken = record {
   pieces = r.pieces ++ piece ∷ [];
   read = rw (concat_more r.pieces piece) (Consumes-trans u v w _ piece r.read read);
@@ -53,8 +52,7 @@ more_read {P} {P'} {old} {s} {t} {u} {v} {w} piece r read fed_is short taken = r
 pub last_read : {A : Type 0} {P P' : List Parts → Type 0} {Q : List Parts → A → Type 0}
     {old s t : Pending} {u v w : Option (List ℕ)} (piece : List ℕ) (end : InputEnd A)
     (r : IsReadSoFar P old s u v) → Consumes v w piece
-    → IsTaken P' Q (lines_all old r.pieces) s piece t (Some end)
-    → WasRead P' Q old t u w end
+    → IsTaken P' Q (lines_all old r.pieces) s piece t (Some end) → WasRead P' Q old t u w end
 last_read {Q = Q} piece (cause.Answered answer) r read h =
     let all = more_read {P' = λ lines. Q lines answer} piece r read h.0 h.1 h.2 in record {
       pieces = all.pieces;

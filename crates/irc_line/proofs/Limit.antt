@@ -21,11 +21,8 @@ pub is_too_long-behind : (held bytes : List ℕ) → HasNoLf held →
     is_too_long (held ++ bytes) ≡ is_over (length held) (segments_of bytes)
 is_too_long-behind held bytes clean =
     let s = segments-some bytes in
-    rw (
-      segments-behind held bytes s.first s.others clean s.whole,
-      s.whole,
-      length-append held s.first,
-    )
+    rw (segments-behind held bytes s.first s.others clean s.whole, s.whole)
+    (rw (length-append held s.first))
 
 -- an LF within reach
 over-lf : (held : ℕ) (bytes : List ℕ) → held ≤ line_limit →
@@ -67,8 +64,8 @@ last-short : (first : List ℕ) (others : List (List ℕ)) → list_any is_long 
 last-short first [] e = grind (arith, nat_tests)
 last-short first (next ∷ others) e = grind (arith, last-short next others)
 
-pub rest-short : (bytes : List ℕ) → is_too_long bytes ≡ false → length (rest_of bytes) ≤ line_limit
-rest-short bytes e = let s = segments-some bytes in grind (arith, last-short)
+pub rest_short : (bytes : List ℕ) → is_too_long bytes ≡ false → length (rest_of bytes) ≤ line_limit
+rest_short bytes e = let s = segments-some bytes in grind (arith, last-short)
 
 -- bytes none of which is an LF, by their places
 pub no-lf : (bytes : List ℕ) → ((k : ℕ) → k < length bytes → (get_or bytes k 0 == 10) ≡ false) →

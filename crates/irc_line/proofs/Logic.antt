@@ -40,17 +40,8 @@ pub not_zero : (n : ℕ) → (suc n == 0) ≡ false
 not_zero n = grind (arith, nat_tests)
 
 -- for `search` and `simp`, which do not split cases; `grind` proves all this by itself
-pub ruleset logic = (
-  and_first,
-  and_second,
-  or_first,
-  or_second,
-  not-true,
-  not-false,
-  and_false,
-  or_false,
-  or_true,
-  or_none,
-  none_of_is_some,
-  not_zero,
-)
+pub ruleset parts = (and_first, and_second, or_first, or_second, not-true, not-false)
+
+pub ruleset ends = (and_false, or_false, or_true, or_none, none_of_is_some, not_zero)
+
+pub ruleset logic = (parts, ends)

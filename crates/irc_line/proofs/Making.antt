@@ -6,8 +6,8 @@ use Rattle.irc_line.specs.{Grammar.{SpellsMarked, SpellsParams}, Line.{Parts, is
 use Rattle.irc_line.specs.{Line.is_line_byte, Reading.{is_line, line_of, parts_of}}
 use Rattle.irc_line.specs.Writing.{are_params, is_part, is_word, is_writable, marked_text}
 use Rattle.irc_line.specs.Writing.{param_text, retagged, text_of, untagged_line}
-use Rattle.std.proofs.Common.{List, None, Option, Some, [], append-nil, arith, inl, inr, refl, true}
-use Rattle.std.proofs.{Common.{ℕ, ◌++◌, ◌↔◌, ◌∷◌, ◌≡◌}, lemmas.List.Folds.list_all-append}
+use Rattle.std.proofs.Common.{◌++◌, ◌↔◌, ◌∷◌, ◌≡◌, List, None, Option, Some, [], append-nil, arith}
+use Rattle.std.proofs.{Common.{inl, inr, refl, true, ℕ}, lemmas.List.Folds.list_all-append}
 use Rattle.std.specs.List.{flat_map, list_all}
 
 -- FROM THE TEST: a text that spells the parts
@@ -16,10 +16,6 @@ part-spells : (mark : ℕ) (part : Option (List ℕ)) → is_part part ≡ true 
     SpellsMarked mark part (marked_text mark part)
 part-spells mark None e = refl
 part-spells mark (Some part) e = (token-from part (grind arith), 32 ∷ [], (refl, tt), refl)
-
-part-clean : (mark : ℕ) (part : Option (List ℕ)) → is_line_byte mark ≡ true →
-    is_part part ≡ true → list_all is_line_byte (marked_text mark part) ≡ true
-part-clean mark part m e = grind (arith, list_all-append)
 
 word-spells : (param text : List ℕ) (params : List (List ℕ)) → is_word param ≡ true →
     SpellsParams params text → SpellsParams (param ∷ params) (param_text param ++ text)
@@ -61,7 +57,7 @@ writable-spells line e =
       with_command = command;
       with_params = params-spell line.params (grind arith);
       clean =
-          clean-all (text_of line) (grind (arith, list_all-append, part-clean, params-clean));
+          clean-all (text_of line) (grind (arith, list_all-append, list_all-append, params-clean));
     }
 
 -- TO THE TEST: what some text spells can be written
@@ -104,22 +100,22 @@ made-is text line can same =
     record { is = grind arith; parts = grind arith }
 
 -- the value of a text that is a line can be written
-pub value-writable : (text : List ℕ) (line : Parts) → is_line text ≡ true → parts_of text ≡ line →
+pub value_writable : (text : List ℕ) (line : Parts) → is_line text ≡ true → parts_of text ≡ line →
     is_writable line ≡ true
-value-writable text line is same =
+value_writable text line is same =
     rw (← same) (spells-writable (parts_of text) text (read-spelled text is))
 
 -- and is read again
-pub value-again : (text : List ℕ) (line : Parts) → is_line text ≡ true → parts_of text ≡ line →
+pub value_again : (text : List ℕ) (line : Parts) → is_line text ≡ true → parts_of text ≡ line →
     line_of (text_of line) ≡ Some line
-value-again text line is same = (writable-again line).0 (value-writable text line is same)
+value_again text line is same = (writable-again line).0 (value_writable text line is same)
 
 -- what is written of a line in hand, with other tags
 pub retagged-is : (held : List ℕ) (line : Parts) (tags : Option (List ℕ)) (text : List ℕ) →
     is_line held ≡ true → parts_of held ≡ line → is_part tags ≡ true →
     text ≡ text_of (retagged line tags) → IsLineOf text (retagged line tags)
 retagged-is held line tags text is same t written =
-    let can = value-writable held line is same in made-is text _ (grind arith) written
+    let can = value_writable held line is same in made-is text _ (grind arith) written
 
 -- and with another source and command, without tags
 pub renamed-is : (held : List ℕ) (line : Parts) (source : Option (List ℕ)) (command text : List ℕ) →
@@ -127,4 +123,4 @@ pub renamed-is : (held : List ℕ) (line : Parts) (source : Option (List ℕ)) (
     is_command command ≡ true → text ≡ text_of (untagged_line source command line.params) →
     IsLineOf text (untagged_line source command line.params)
 renamed-is held line source command text is same s c written =
-    let can = value-writable held line is same in made-is text _ (grind arith) written
+    let can = value_writable held line is same in made-is text _ (grind arith) written

@@ -11,8 +11,7 @@ module _ {T E : Type 0} where
   pub ok_more : (A B : T → Type 0) (r : Result T E) → ((x : T) → A x → B x) → IfOk r A → IfOk r B
   ok_more A B r f h = grind arith
 
-  pub err_more : (A B : E → Type 0) (r : Result T E) → ((e : E) → A e → B e) → IfErr r A
-      → IfErr r B
+  pub err_more : (A B : E → Type 0) (r : Result T E) → ((e : E) → A e → B e) → IfErr r A → IfErr r B
   err_more A B r f h = grind arith
 
   pub on_err : {A : Type 0} (r : Result T E) → A → OnErr r A

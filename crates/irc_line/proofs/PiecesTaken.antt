@@ -17,9 +17,5 @@ any_but_last (x ∷ y ∷ others) h = grind (arith, any_but_last (y ∷ others))
 pub long_more : (s : Pending) (a b : List ℕ) → s ≡ fed start a → is_too_long a ≡ false
     → is_too_long (a ++ b) ≡ is_too_long (s.rest ++ b)
 long_more s a b at h =
-    rw (
-      at,
-      segments-append a b,
-      list_any-append is_long (ended_of a),
-      any_but_last (segments_of a) h,
-    )
+    rw (at, segments-append a b, list_any-append is_long (ended_of a))
+    (rw (any_but_last (segments_of a) h))

@@ -16,9 +16,8 @@ module _ (rest piece head after : List ℕ) (clean : HasNoLf rest)
       all ≡ first ++ lines_of after → all ≡ old ++ lines_of (rest ++ piece)
   lines-on old first all f a = rw (lines-at _ _ after joined, ← append_assoc old, ← f) a
 
-  pub rest-on : (held tail all left : List ℕ) (done : ℕ) → done ≡ length held →
-      tail ≡ rest_of after → all ≡ held ++ tail → left ≡ drop done all →
-      left ≡ rest_of (rest ++ piece)
+  pub rest-on : (held tail all left : List ℕ) (done : ℕ) → done ≡ length held → tail
+      ≡ rest_of after → all ≡ held ++ tail → left ≡ drop done all → left ≡ rest_of (rest ++ piece)
   rest-on held tail all left done d t a l =
       rw (rest-at _ _ after joined, ← t, l, a) (drop_at held tail done (sym d))
 
@@ -51,11 +50,10 @@ pub record IsReadTo (old : List Parts) (bytes : List ℕ) (out : List Parts) (re
 
 -- a segment more
 pub read_more : (old out new : List Parts) (bytes rest segment after : List ℕ) (skipped now : ℕ)
-    (skips : Bool) → IsReadTo old bytes out rest skipped
-    → segments_of rest ≡ segment ∷ segments_of after → length segment + 1 + length after ≡ length rest
-    → new ≡ out ++ option_to_list (line_of (without_cr segment))
-    → skips ≡ is_skipped (without_cr segment) → now ≡ skipped + cond skips 1 0
-    → IsReadTo old bytes new after now
+    (skips : Bool) → IsReadTo old bytes out rest skipped → segments_of rest
+    ≡ segment ∷ segments_of after → length segment + 1 + length after ≡ length rest → new
+    ≡ out ++ option_to_list (line_of (without_cr segment)) → skips ≡ is_skipped (without_cr segment)
+    → now ≡ skipped + cond skips 1 0 → IsReadTo old bytes new after now
 read_more old out new bytes rest segment after skipped now skips r cut shorter added skips_is now_is =
     let more = option_to_list (line_of (without_cr segment)) in
     let count : skipped_of rest ≡ cond skips 1 0 + skipped_of after =

@@ -52,9 +52,9 @@ segments-append [] b = refl
 segments-append (c ∷ cs) b = let s = segments-some cs in grind (arith, segments-append cs b)
 
 -- what stands behind the last LF has none
-pub rest-clean : (bytes : List ℕ) → HasNoLf (rest_of bytes)
-rest-clean [] = tt
-rest-clean (b ∷ bs) = let s = segments-some bs in grind (arith, rest-clean bs)
+pub rest_clean : (bytes : List ℕ) → HasNoLf (rest_of bytes)
+rest_clean [] = tt
+rest_clean (b ∷ bs) = let s = segments-some bs in grind (arith, rest_clean bs)
 
 -- what the segments before a place give
 
@@ -76,11 +76,8 @@ module _ (bytes part after : List ℕ) (cut : segments_of bytes ≡ part ∷ seg
 
   pub skipped-at : skipped_of bytes ≡ cond (is_skipped (without_cr part)) 1 0 + skipped_of after
   skipped-at =
-      rw (
-        cut,
-        ended-cons part (segments_of after) (segments-some after),
-        sum_by-cons (λ p. cond (is_skipped (without_cr p)) 1 0),
-      )
+      rw (cut, ended-cons part (segments_of after) (segments-some after))
+      (rw (sum_by-cons (λ p. cond (is_skipped (without_cr p)) 1 0)))
 
 -- No LF: these bytes are one segment.
 module _ (bytes : List ℕ) (one : segments_of bytes ≡ bytes ∷ []) where

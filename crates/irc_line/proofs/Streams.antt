@@ -22,9 +22,8 @@ one-more segment bytes clean =
     grind (arith, append_assoc, append-nil)
 
 pub made-of : (ended : List (List ℕ)) (rest : List ℕ) → AllByRecursion HasNoLf ended →
-    HasNoLf rest →
-    (ended_of (flat_map with_lf ended ++ rest) ≡ ended) ×
-    (rest_of (flat_map with_lf ended ++ rest) ≡ rest)
+    HasNoLf rest → (ended_of (flat_map with_lf ended ++ rest) ≡ ended)
+    × (rest_of (flat_map with_lf ended ++ rest) ≡ rest)
 made-of [] rest clean last =
     let one : segments_of rest ≡ rest ∷ [] =
     rw append-nil at (segments-behind rest [] [] [] last refl) in

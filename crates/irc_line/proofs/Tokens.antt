@@ -78,11 +78,11 @@ EndsIn-body text =
 pub EndsIn-length : (text end : List ℕ) → EndsIn text end → length end ≤ length text
 EndsIn-length text end e = grind (arith, length-append)
 
-pub body-length : (text : List ℕ) → length (body text) ≤ length text
-body-length text = EndsIn-length text (body text) (EndsIn-body text)
+pub body_length : (text : List ℕ) → length (body text) ≤ length text
+body_length text = EndsIn-length text (body text) (EndsIn-body text)
 
-pub body-drop : (text : List ℕ) → drop (length text - length (body text)) text ≡ body text
-body-drop text =
+pub body_drop : (text : List ℕ) → drop (length text - length (body text)) text ≡ body text
+body_drop text =
     let e = EndsIn-body text in
     let at : length text - length (body text) ≡ length e.front =
     omega (arith, length-append e.front (body text), ap length e.whole) in

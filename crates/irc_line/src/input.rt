@@ -121,6 +121,7 @@ pub fn read_lines<A, T: LineTaker<A>, R: Read>(
 
 /// Reads an input from its start as `read_lines` does; hands back the splitter too, with the bytes
 /// behind the last line.
+#[tactic(auto, using(crate::proofs::InputRead::read_anew))]
 pub fn read_from_start<A, T: LineTaker<A>, R: Read>(
     alloc: Global,
     taker: &mut T,

@@ -73,6 +73,7 @@ impl From<OutOfMemory> for MakeError {
 }
 
 /// Where the command begins.
+#[tactic(auto, using(crate::proofs::Tokens::body_drop, crate::proofs::Tokens::body_length))]
 fn body_place(text: &[u8]) -> usize
     ensures within { result ≤ length text.now }
     ensures at { drop result text.now ≡ body text.now }
@@ -250,6 +251,7 @@ impl<A: Allocator> Line<A> {
     }
 
     /// The command, in the letters in which it came.
+    #[tactic(auto, using(crate::proofs::Making::value_writable))]
     pub fn command(&self) -> &[u8]
         ensures value { result.now ≡ self.now.command }
         // A line in hand can be written: lines of its parts can be made.
@@ -333,6 +335,7 @@ impl<A: Allocator> Line<A> {
 
     /// Appends the line and CR LF. A colon stands before the last parameter only where that is
     /// empty, begins with a colon or holds a space. After an error `out` is unchanged.
+    #[tactic(auto, using(crate::proofs::Making::value_again))]
     pub fn write<B: Allocator>(&self, out: &mut Vec<u8, B>) -> Result<(), OutOfMemory>
         ensures ok { OnOk result (out.new.items ≡ out.old.items ++ written self.now) }
         ensures err { OnErr result (out.new.items ≡ out.old.items) }

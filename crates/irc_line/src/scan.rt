@@ -22,6 +22,7 @@ pub fn trim(text: &[u8]) -> &[u8]
 }
 
 /// Where the first such byte stands.
+#[tactic(auto, using(crate::proofs::First::first_position))]
 pub fn place_of(byte: u8, text: &[u8]) -> Option<usize>
     ensures place { result ≡ position (λ b. b == byte) text.now }
     ensures within { IfSome result (λ place. place < length text.now) }

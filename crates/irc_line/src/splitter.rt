@@ -222,6 +222,7 @@ impl<A: Allocator + Copy> Splitter<A> {
     /// `TooLong` comes exactly where more than `LINE_LIMIT` bytes stand without LF, and before
     /// memory is asked for. After an error splitter and list are unchanged. Each byte is searched
     /// for LF once, however small the pieces are, and each line takes one allocation.
+    #[tactic(auto, using(crate::proofs::Limit::rest_short, crate::proofs::Segments::rest_clean))]
     pub fn feed<B: Allocator>(
         &mut self,
         piece: &[u8],
