@@ -41,10 +41,9 @@ module _ {X Z : Type 0} where
         (cc (append_assoc c.items (x ∷ []) n.items)))
 
     -- an item that moves leaves a gap, and fills the one before
-    pub short_moved : (len : ℕ) → IsShort bs len h → g < length bs → g ≢ h
-        → deque_len n + 1 ≡ deque_len b → deque_len m ≡ deque_len c + 1
-        → deque_capacity n ≡ deque_capacity b → deque_capacity m ≡ deque_capacity c
-        → IsShort (set (set bs g n) h m) len g
+    pub short_moved : (len : ℕ) → IsShort bs len h → g < length bs → g ≢ h → deque_len n + 1
+        ≡ deque_len b → deque_len m ≡ deque_len c + 1 → deque_capacity n ≡ deque_capacity b
+        → deque_capacity m ≡ deque_capacity c → IsShort (set (set bs g n) h m) len g
     short_moved len s l apart less more same still =
         record {
           roomy = λ i d k. grind (sets, cases_eq i g, cases_eq i h, s.roomy, s.inside);

@@ -1,7 +1,7 @@
 -- What a binary search has found so far.
 use Rattle.block_list.proofs.Words
-use Words.{◌≡◌, ◌⊎◌, ℕ, ◌+◌, ◌<◌, ◌≤◌, List, length, refl, sym, ap, subst, ◌∙◌, arith, inl, inr}
-use Words.{HoldsAt}
+use Words.{◌+◌, ◌<◌, ◌∙◌, ◌≡◌, ◌≤◌, ◌⊎◌, HoldsAt, List, ap, arith, inl, inr, length, refl, subst}
+use Words.{sym, ℕ}
 use Rattle.std.{proofs.Common.Err, specs.List.{AllWithin, Sorted.IsBinarySearchResult}}
 use Rattle.std.specs.{List.Sorted.IsNonDecreasingBy, Ordering.{is_gt, ordering_index}}
 use Rattle.std.specs.{Prelude.{false, true}, declared.cmp.Ordering.{Ordering, TheVariants.Greater}}
@@ -9,12 +9,6 @@ use Rattle.std.specs.declared.cmp.Ordering.TheVariants.{Less}
 
 top : (o : Ordering) → 2 ≤ ordering_index o → o ≡ Greater
 top o h = grind arith
-
-bottom : (o : Ordering) → ordering_index o ≤ 0 → o ≡ Less
-bottom o h = grind arith
-
-is_Greater : (o : Ordering) → is_gt o ≡ true → o ≡ Greater
-is_Greater o h = grind arith
 
 module _ {X : Type 0} (ord : X → Ordering) (xs : List X) where
   -- what is looked for is not before low, and before high
@@ -67,7 +61,7 @@ module _ {X : Type 0} {answers : X → Ordering → Type 0} {xs : List X} where
     lower {place} {o} a e ord f = record {
       below = (found ord f).below;
       above =
-          from_Greater ord xs place (λ d. answered answers xs _ a ord f d ∙ is_Greater o (sym e));
+          from_Greater ord xs place (λ d. answered answers xs _ a ord f d ∙ (grind arith));
     }
 
     pub upper : {place : ℕ} {o : Ordering} (new : ℕ) → Answered answers xs place o
@@ -84,7 +78,7 @@ module _ {X : Type 0} {answers : X → Ordering → Type 0} {xs : List X} where
       λ k d a0 b.
           let rises = up k low d (omega arith) in' in
           let here = ap ordering_index (answered answers xs _ a ord f d) in
-          bottom _ (omega (arith, rises, here)),
+          (grind arith),
       λ k d a b. (found ord f).above up k d (omega arith) b,
     )
 

@@ -1,14 +1,14 @@
 -- Where an item of a list in blocks stands, and what a change of one block makes of the list.
 use Rattle.block_list.proofs.Words
-use Words.{◌≡◌, ◌∙◌, ℕ, suc, ◌+◌, ◌*◌, ◌-◌, ◌/◌, ◌%◌, ◌<◌, ◌≤◌, List, [], ◌∷◌, ◌++◌, length, refl}
-use Words.{sym, ap, arith, get_or, set, take, drop, insert, remove, length-append, VecDeque}
-use Words.{deque_len, Shelf, shelf, items_of, share, IsTiled}
-use Rattle.std.proofs.{Common.{length-set, min}, lemmas.List.Concat.flat_map-append}
+use Words.{◌%◌, ◌*◌, ◌++◌, ◌+◌, ◌-◌, ◌/◌, ◌<◌, ◌∙◌, ◌∷◌, ◌≡◌, ◌≤◌, IsTiled, List, Shelf, VecDeque}
+use Words.{[], ap, arith, deque_len, drop, get_or, insert, items_of, length, length-append, refl}
+use Words.{remove, set, share, shelf, suc, sym, take, ℕ}
+use Rattle.std.proofs.{Common.{length-set, min}, lemmas.List.{get_or-append_right, get_or-take}}
+use Rattle.std.proofs.lemmas.List.{get_or_append_left, get_or_read, length-take, set-append_left}
+use Rattle.std.proofs.lemmas.List.{set-append_right, set-get_or, set_split, Concat.flat_map-append}
 use Rattle.std.proofs.lemmas.List.Edits.{insert-append_left, insert-append_right}
 use Rattle.std.proofs.lemmas.List.Edits.{remove-append_left, remove-append_right}
-use Rattle.std.proofs.lemmas.List.{get_or-append_right, get_or-take, get_or_append_left}
-use Rattle.std.proofs.lemmas.List.{get_or_read, length-take, set-append_left, set-append_right}
-use Rattle.std.{proofs.lemmas.List.{set-get_or, set_split}, specs.VecDeque.deque_with_item}
+use Rattle.std.specs.VecDeque.{deque_with_item}
 
 module _ {X Z : Type 0} where
   -- how many items blocks have that have their share
@@ -18,10 +18,6 @@ module _ {X Z : Type 0} where
   long (b ∷ bs) len filled =
       let rest = long bs (len - 128) (λ i d l. omega (arith, filled (suc i) d (omega arith))) in
       omega (arith, length-append b.items (items_of bs), filled 0 b (omega arith), b.ok.0, rest)
-
-  pub tiled_long : (bs : List (VecDeque X Z)) (len : ℕ) → IsTiled bs len
-      → length (items_of bs) ≡ len
-  tiled_long bs len t = omega (arith, long bs len t.filled, t.within)
 
   -- the block at a place, behind blocks that are full
   pub record IsBlock (bs : List (VecDeque X Z)) (i : ℕ) (b : VecDeque X Z) : Type 0 where
@@ -69,10 +65,9 @@ module _ {X Z : Type 0} where
         cc (items_are, there, right, get_or_append_left b.items after d o l)
 
     -- an edit of the block is one of the list
-    edited : (edit : List X → ℕ → List X) (n : VecDeque X Z)
-        → edit (before ++ rest) place ≡ before ++ edit rest (place - i * 128)
-        → edit rest o ≡ edit b.items o ++ after → n.items ≡ edit b.items o
-        → items_of (set bs i n) ≡ edit (items_of bs) place
+    edited : (edit : List X → ℕ → List X) (n : VecDeque X Z) → edit (before ++ rest) place
+        ≡ before ++ edit rest (place - i * 128) → edit rest o ≡ edit b.items o ++ after → n.items
+        ≡ edit b.items o → items_of (set bs i n) ≡ edit (items_of bs) place
     edited edit n right left e = cc (set_is n, items_are, there)
 
     written_in : (n : VecDeque X Z) (x : X) → o < length b.items → n.items ≡ set b.items o x
@@ -104,7 +99,7 @@ module _ {X Z : Type 0} {bs : List (VecDeque X Z)} {len : ℕ} {s : Shelf X} (t 
   whole = ap (λ (s : Shelf X). s.items) e
 
   pub counted : length s.items ≡ len
-  counted = ap length (sym whole) ∙ tiled_long bs len t
+  counted = ap length (sym whole) ∙ (omega (arith, long bs len t.filled, t.within))
 
   pub inside : (place : ℕ) → place < length s.items → place / 128 < length bs
   inside place p = omega (arith, counted, t.within)

@@ -47,6 +47,7 @@ impl<T, A: Allocator> Blocks<T, A> {
     }
 
     /// How many items there are.
+    #[tactic(auto, using(crate::proofs::Places::counted))]
     pub fn len(&self) -> usize
         ensures { result ≡ length self.now.items }
     {
@@ -54,6 +55,7 @@ impl<T, A: Allocator> Blocks<T, A> {
     }
 
     /// The item at a place.
+    #[tactic(auto, using(crate::proofs::Places::inside, crate::proofs::Places::item_at, crate::proofs::Places::offset))]
     pub fn at(&self, place: usize) -> &T
         requires { place < length self.now.items }
         ensures { result.now ≡ slice_index_or self.now.items place result.now }
@@ -62,6 +64,7 @@ impl<T, A: Allocator> Blocks<T, A> {
     }
 
     /// The item at a place, to write to.
+    #[tactic(auto, using(crate::proofs::Places::inside, crate::proofs::Places::item_at, crate::proofs::Places::lent, crate::proofs::Places::offset))]
     pub fn at_mut(&mut self, place: usize) -> &mut T
         requires { place < length self.old.items }
         ensures* writes_back { sem 𝓛 (lends_item T.row A.row A.Allocator self.entry place result) }
@@ -74,6 +77,7 @@ impl<T, A: Allocator> Blocks<T, A> {
 
 impl<T: Drop, A: Allocator> Blocks<T, A> {
     /// Makes room for more items, so that an insertion takes no memory.
+    #[tactic(auto, using(crate::proofs::Gaps::items_more, crate::proofs::Gaps::tiled_more))]
     pub fn reserve(&mut self, more: usize) -> Result<(), OutOfMemory>
     where
         A: Copy,

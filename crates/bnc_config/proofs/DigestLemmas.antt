@@ -1,6 +1,6 @@
 -- Digests whose bytes are all compared.
-use Rattle.{bnc_config.specs.Digest.difference_of, std.proofs.Common.{List, [], arith, bit_or}}
-use Rattle.std.proofs.{Common.{length, refl, ℕ, ◌∷◌, ◌≡◌}, lemmas.Nat.{le_or_l, le_or_r}}
+use Rattle.{bnc_config.specs.Digest.difference_of, std.proofs.Common.{◌∷◌, ◌≡◌, List, [], arith}}
+use Rattle.std.proofs.{Common.{bit_or, length, refl, ℕ}, lemmas.Nat.{le_or_l, le_or_r}}
 use Rattle.std.specs.{Int.Bits.{bit_xor, xor_assoc, xor_self, xor_zero_l, xor_zero_r}, List.fold}
 use Rattle.std.specs.List.{zip}
 
@@ -24,11 +24,7 @@ none_before found (x ∷ xs) (y ∷ ys) same none =
 pub same_from_difference : (a b : List ℕ) → length a ≡ length b → difference_of a b ≡ 0 → a ≡ b
 same_from_difference a b same none = (none_before 0 a b same none).1
 
-none_more : (found : ℕ) (a : List ℕ) → found ≡ 0 → fold with_pair found (zip a a) ≡ 0
+pub none_more : (found : ℕ) (a : List ℕ) → found ≡ 0 → fold with_pair found (zip a a) ≡ 0
 none_more found [] none = none
 none_more found (x ∷ xs) none =
     none_more (bit_or found (bit_xor x x)) xs (rw (none, xor_self x) refl)
-
--- bytes do not differ from themselves
-pub difference_of-self : (a : List ℕ) → difference_of a a ≡ 0
-difference_of-self a = none_more 0 a refl

@@ -1,12 +1,13 @@
 -- Faults of a tree.
 use Rattle.bnc_config.specs.Document.{IsFaultOf, IsTree, fault_at, first_fault, keys_fault}
-use Rattle.bnc_config.specs.Document.{networks_fault, text_at, twice_fault, user_fault, users_fault}
+use Rattle.bnc_config.specs.Document.{networks_fault, text_at, twice_fault, users_fault}
 use Rattle.bnc_config.specs.declared.fault.ConfigFault.{ConfigFault, TheVariants.BadValue}
 use Rattle.bnc_config.specs.declared.fault.ConfigFault.TheVariants.{Missing, NotToml, OutOfMemory}
 use Rattle.bnc_config.specs.declared.{fault.ConfigFault.TheVariants.Twice, key.Key.Key}
 use Rattle.bnc_config.specs.declared.key.Key.TheVariants.{NetworkName, UserName}
-use Rattle.std.proofs.Common.{Bool, List, None, Option, Some, [], arith, if◌then◌else◌, ℕ, ◌++◌}
-use Rattle.{std.{proofs.Common.{◌∷◌, ◌≡◌}, specs.Option.option_or}, toml.specs.Data.{Data, Members}}
+use Rattle.std.proofs.Common.{◌++◌, ◌∷◌, ◌≡◌, Bool, List, None, Option, Some, [], arith}
+use Rattle.{std.{proofs.Common.{if◌then◌else◌, ℕ}, specs.Option.option_or}, toml.specs.Data.Data}
+use Rattle.toml.specs.Data.{Members}
 
 -- the fault, if there is one, is of a tree
 IsOfTree : Option ConfigFault → Type 0
@@ -53,15 +54,12 @@ networks_of_tree earlier (tree ∷ trees) =
     let rest = networks_of_tree (earlier ++ text_at NetworkName tree ∷ []) trees in
     search (either_of_tree, keys_of_tree, twice_of_tree)
 
-user_of_tree : (earlier : List (List ℕ)) (tree : Members) → IsOfTree (user_fault earlier tree)
-user_of_tree earlier tree = search (either_of_tree, keys_of_tree, twice_of_tree, networks_of_tree)
-
 users_of_tree : (earlier : List (List ℕ)) (trees : List Members)
     → IsOfTree (users_fault earlier trees)
 users_of_tree earlier [] = none_of_tree
 users_of_tree earlier (tree ∷ trees) =
     let rest = users_of_tree (earlier ++ text_at UserName tree ∷ []) trees in
-    search (either_of_tree, user_of_tree)
+    search (either_of_tree, either_of_tree, keys_of_tree, twice_of_tree, networks_of_tree)
 
 first_of_tree : (tree : Members) → IsOfTree (first_fault tree)
 first_of_tree tree = search (either_of_tree, keys_of_tree, users_of_tree)

@@ -28,9 +28,8 @@ as_table_is : (d : Data) (tree : Members) → Some tree ≡ as_table d → d ≡
 as_table_is d tree h = grind arith
 
 -- a list with an item that is no table is a bad value
-pub fault_at-other_list : (key : Key) (found : Option Data) (d : Data) (vs : List Value)
-    → Some d ≡ found → Some (items_view vs) ≡ as_array d
-    → false ≡ list_all (λ v. is_table (view v)) vs
+pub fault_at-other_list : (key : Key) (found : Option Data) (d : Data) (vs : List Value) → Some d
+    ≡ found → Some (items_view vs) ≡ as_array d → false ≡ list_all (λ v. is_table (view v)) vs
     → fault_at key true (is_list_where is_table) found ≡ Some (BadValue key)
 fault_at-other_list key found d vs here list other =
     rw (← here, as_array_is d (items_view vs) list, all_items_view is_table vs, ← other) refl

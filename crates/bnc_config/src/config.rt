@@ -50,6 +50,7 @@ impl Model for Config {
 impl Config {
     /// Reads a settings file: the settings that it means, else its first fault. Keys that are not
     /// named here are not looked at.
+    #[tactic(auto, using(crate::proofs::FaultLemmas::fault_of_tree))]
     pub fn read(alloc: Global, text: &[u8]) -> Result<Config, ConfigFault>
         ensures { MatchResult result (Means text.now) (IsFaultOf text.now) }
     {

@@ -74,9 +74,8 @@ module _ {E : Type 0} (key : ℕ × E → List ℕ) (p n : ℕ) (ms : List (ℕ 
   some_first [] e = refl
   some_first (j ∷ l) e = absurd cc
 
-  known_full : has y there ≡ true → nat_lt (length old) n ≡ false → (o : Option ℕ)
-      → slice_get old 0 ≡ o
-      → Right o None ((y, keep_last n (old ++ m.0 ∷ [])) ∷ remove_entry (bytes_eq y) now)
+  known_full : has y there ≡ true → nat_lt (length old) n ≡ false → (o : Option ℕ) → slice_get old 0
+      ≡ o → Right o None ((y, keep_last n (old ++ m.0 ∷ [])) ∷ remove_entry (bytes_eq y) now)
   known_full t ge None e = absurd (grind (arith, nat_tests, some_first old e, ge, some))
   known_full t ge (Some j) e =
       let trim = drop_first (is_to key y) ms in

@@ -68,10 +68,9 @@ supports_settings settings new l r x s tells supports in_force welcomed unready 
 
 -- what holds of the kept lines with one more
 pub line_kept : {A B : Type 0} (settings new : List Token) (ks ls : List (Kept A)) (k : Kept A)
-    (r : Telling B) (l : Parts) (count sum : ℕ) → ls ≡ ks ++ k ∷ []
-    → (k.line ≡ l) × (k.lost ≡ false) → IsMarkedLine (tape_of ks) k → IsTold r l
-    → settings_of (tape_of ks) ≡ settings
-    → settings_after (meant settings r) (standing (tape_of ks)) ≡ new → IsMarkedTape ks
+    (r : Telling B) (l : Parts) (count sum : ℕ) → ls ≡ ks ++ k ∷ [] → (k.line ≡ l)
+    × (k.lost ≡ false) → IsMarkedLine (tape_of ks) k → IsTold r l → settings_of (tape_of ks)
+    ≡ settings → settings_after (meant settings r) (standing (tape_of ks)) ≡ new → IsMarkedTape ks
     → IsCounted ks count → (sum ≡ count + name_count (meant settings r)) × (sum < 2 ^ 64)
     → AreWritten (tape_of ks) → is_writable l ≡ true → IsWhole ls new sum
 unfolding told
