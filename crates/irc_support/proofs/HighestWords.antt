@@ -1,38 +1,35 @@
 -- A name list with the highest symbols alone lists the same nicks, with their highest ranks alone.
-use Rattle.irc_support.proofs.{RankPlaces.{at-position, few, ranking_of-is}, RankSets.first_of_set}
-use Rattle.irc_support.proofs.{RankSets.{has_rank-ranks_that, itself}, SpelledWords.IsPlain}
-use Rattle.irc_support.proofs.SpelledWords.{symbol_written, symbols_all, word_of_symbols}
-use Rattle.irc_support.proofs.{SpelledWords.{words_joined, words_plain}, Spelling.paired}
-use Rattle.irc_support.{proofs.WordCuts.is_gap, specs.NamesReply.{after_symbols, is_rank_symbol}}
-use Rattle.irc_support.specs.NamesReply.{shows_rank, symbols_before, word_of, words, words_between}
-use Rattle.irc_support.specs.{Ranking.{is_symbol, rank_of_symbol, ranking_of}, Ranks.has_rank}
-use Rattle.irc_support.specs.{Ranks.ranks_that, Text.Text, Tokens.Token, Written.HasSymbol}
-use Rattle.irc_support.specs.Written.{highest_member, names_with_highest, symbols_of, with_highest}
-use Rattle.std.proofs.{Common.{None, Option, Some, arith, refl}, lemmas.Bool.Decides.nat_tests}
-use Rattle.std.proofs.lemmas.List.{Folds.list_any-append, Quantifiers.position-Some}
-use Rattle.std.{proofs.lemmas.List.Sums.take_while-cons, specs.List.{AllByRecursion, list_all}}
-use Rattle.std.specs.{List.list_any, Prelude.{Bool, List, [], drop, false, filter, is_some, length}}
-use Rattle.std.specs.Prelude.{map, slice_get, suc, take, take_while, true, zero, ℕ, ◌&&◌, ◌++◌, ◌<◌}
-use Rattle.std.specs.Prelude.{◌==◌, ◌∷◌, ◌≡◌}
+use Rattle.irc_support.proofs.{RankPlaces.few, RankSets.{first_of_set, has_rank-ranks_that, itself}}
+use Rattle.{irc_support.proofs.RankPlaces.ranking_of-is, std.proofs.lemmas.Bool.Decides.nat_tests}
+use Rattle.irc_support.proofs.{SpelledWords.{IsPlain, symbols_all, words_plain}, WordCuts.is_gap}
+use Rattle.irc_support.proofs.SpelledWords.{symbol_written, word_of_symbols, words_joined}
+use Rattle.{irc_support.proofs.Spelling.paired, std.specs.List.{AllByRecursion, list_all, list_any}}
+use Rattle.irc_support.specs.{NamesReply.{after_symbols, is_rank_symbol, symbols_before}, Text.Text}
+use Rattle.irc_support.specs.{NamesReply.{shows_rank, word_of, words, words_between}, Tokens.Token}
+use Rattle.irc_support.specs.{Ranking.{is_symbol, rank_of_symbol, ranking_of}, Written.with_highest}
+use Rattle.{irc_support.specs.Ranks.{has_rank, ranks_that}, std.proofs.Common.{Option, arith, refl}}
+use Rattle.irc_support.specs.Written.{HasSymbol, highest_member, names_with_highest, symbols_of}
+use Rattle.std.proofs.{Common.None, lemmas.List.{Folds.list_any-append, Quantifiers.position-Some}}
+use Rattle.std.proofs.{Common.{Some, get_or}, lemmas.List.{Recursion.and_at, Sums.take_while-cons}}
+use Rattle.std.specs.Prelude.{◌&&◌, ◌++◌, ◌<◌, ◌==◌, ◌∷◌, ◌≡◌, [], map, suc, true, zero, ℕ}
+use Rattle.std.specs.Prelude.{Bool, List, drop, false, filter, is_some, length, take, take_while}
 
 -- ---- what is a symbol of a rank
-
-all_at : (q : ℕ → Bool) (xs : Text) (k b : ℕ) → list_all q xs ≡ true → slice_get xs k ≡ Some b →
-    q b ≡ true
-all_at q [] k b all at = cc
-all_at q (x ∷ xs) zero b all at = grind arith
-all_at q (x ∷ xs) (suc k) b all at = grind (arith, all_at q xs k b)
 
 -- a rank's symbol is of the form that symbols have
 pub symbol_formed : (settings : List Token) (b rank : ℕ) → rank_of_symbol settings b ≡ Some rank →
     is_symbol b ≡ true
 symbol_formed settings b rank e =
     let r = ranking_of settings in
-    all_at is_symbol r.symbols rank b
-    (fifth (length r.letters == length r.symbols) _ _ _ (list_all is_symbol r.symbols) _
-    (ranking_of-is settings)) (at-position r.symbols rank b e) where
-      fifth : (a c d f g h : Bool) → (a && c && d && f && g && h) ≡ true → g ≡ true
-      fifth a c d f g h e = grind arith
+    let at = position-Some (λ c. c == b) r.symbols rank 0 e in
+    let all = fifth (length r.letters == length r.symbols) _ _ _ (list_all is_symbol r.symbols) _
+    (ranking_of-is settings) in
+    let is : get_or r.symbols rank 0 ≡ b = grind (arith, nat_tests) in
+    rw is at
+    (and_at (list_all is_symbol) is_symbol refl (λ _ _. refl) r.symbols rank 0 at.0 all)
+  where
+    fifth : (a c d f g h : Bool) → (a && c && d && f && g && h) ≡ true → g ≡ true
+    fifth a c d f g h e = grind arith
 
 -- and is no space
 no_gap : (settings : List Token) (b : ℕ) → is_rank_symbol settings b ≡ true → is_gap b ≡ false
@@ -109,16 +106,13 @@ small_rank settings b rank e =
     let same = paired r (ranking_of-is settings) in
     omega arith
 
-run_ends : (p : ℕ → Bool) (b : ℕ) (w : Text) → p b ≡ false →
-    drop (length (take_while p (b ∷ w))) (b ∷ w) ≡ b ∷ w
-run_ends p b w e = grind (arith, take_while-cons)
-
 -- where no rank is shown the word has no symbols
 pub unranked : (settings : List Token) (w : Text) → (word_of settings w).ranks ≡ [] →
     after_symbols settings w ≡ w
 unranked settings [] h = refl
 unranked settings (b ∷ w) h =
-    run_ends (is_rank_symbol settings) b w (none (rank_of_symbol settings b) refl)
+    let none_here = none (rank_of_symbol settings b) refl in
+    rw (take_while-cons (is_rank_symbol settings) b w, none_here) refl
   where
     none : (o : Option ℕ) → rank_of_symbol settings b ≡ o → is_some o ≡ false
     none None is = refl

@@ -1,9 +1,8 @@
 -- Modes that are written out are read back as they are.
-use Rattle.irc_support.specs.{ModeChanges.{ChangeParts, changes, signed, with_params}, Text.Text}
-use Rattle.irc_support.specs.{Tokens.Token, Written.{IsWrittenMode, is_sign, mode_params}}
-use Rattle.{irc_support.specs.Written.set_change, std.proofs.Common.{None, Option, Some, arith}}
-use Rattle.std.{proofs.Common.refl, specs.{List.{AllByRecursion, filter_map}, Prelude.{Bool, List}}}
-use Rattle.std.specs.Prelude.{[], drop, false, map, true, ℕ, ◌∷◌, ◌≡◌}
+use Rattle.irc_support.specs.{ModeChanges.{ChangeParts, changes, signed, with_params}, Tokens.Token}
+use Rattle.irc_support.specs.{Text.Text, Written.{IsWrittenMode, is_sign, mode_params, set_change}}
+use Rattle.std.{proofs.Common.{None, Option, Some, arith, refl}, specs.List.filter_map}
+use Rattle.std.specs.{List.AllByRecursion, Prelude.{◌∷◌, ◌≡◌, Bool, List, [], false, map, true, ℕ}}
 
 -- ---- a sign is no letter
 
@@ -15,13 +14,8 @@ unsigned : (settings : List Token) (plus : Bool) (text : Text) (params : List Te
     AreUnsigned (with_params settings (signed plus text) params)
 unsigned settings plus [] params = tt
 unsigned settings plus (b ∷ text) params =
-    grind (
-      arith,
-      unsigned settings true text params,
-      unsigned settings false text params,
-      unsigned settings plus text params,
-      unsigned settings plus text (drop 1 params),
-    )
+    let same = unsigned settings plus text in
+    grind (arith, unsigned settings true text params, unsigned settings false text params, same)
 
 pub changes_unsigned : (settings : List Token) (params : List Text) →
     AreUnsigned (changes settings params)

@@ -6,13 +6,12 @@ use Rattle.irc_support.{proofs.TokensRead.uncut, specs.NamesReply.{Word, is_rank
 use Rattle.irc_support.specs.{NamesReply.words, Ranking.{is_symbol, rank_of_symbol}, Ranks.has_rank}
 use Rattle.irc_support.specs.{Ranks.ranks_that, Text.{Text, has_byte}, Tokens.Token}
 use Rattle.irc_support.specs.Written.{HasSymbol, IsWrittenWord, symbols_of, word_text}
-use Rattle.std.proofs.Common.{None, Option, Some, arith, length-append, refl}
-use Rattle.std.proofs.lemmas.Bool.{Decides.nat_tests, and_parts, not-true}
-use Rattle.std.proofs.lemmas.List.{Folds.list_any-append, Sums.take_while-cons}
-use Rattle.std.specs.{Char.{is_ascii_alphanumeric, is_ascii_punctuation}, List.AllByRecursion}
-use Rattle.std.specs.{List.{join_with_byte, list_any}, Prelude.{Bool, List, [], codes, false}}
-use Rattle.std.specs.Prelude.{is_some, length, map, nat_le, not, true, ℕ, ◌&&◌, ◌++◌, ◌==◌, ◌||◌}
-use Rattle.std.specs.Prelude.{◌∷◌, ◌≡◌}
+use Rattle.std.proofs.{Common.{Option, Some, arith, length-append, refl}, lemmas.Bool.and_parts}
+use Rattle.std.proofs.lemmas.{Bool.{not-true, Decides.nat_tests}, List.Folds.list_any-append}
+use Rattle.std.{proofs.lemmas.List.Sums.take_while-cons, specs.Char.is_ascii_alphanumeric}
+use Rattle.std.specs.{Char.is_ascii_punctuation, List.{AllByRecursion, join_with_byte, list_any}}
+use Rattle.std.specs.Prelude.{◌&&◌, ◌++◌, ◌==◌, ◌||◌, ◌∷◌, ◌≡◌, Bool, List, [], codes, false}
+use Rattle.std.specs.Prelude.{is_some, length, map, nat_le, not, true, ℕ}
 
 -- ---- a nick begins with no symbol
 
@@ -36,21 +35,20 @@ no_symbol b h =
         (mark ≡ true → other ≡ true) → (punctuation && not other) ≡ false
     one_of letter mark far punctuation other h l f m = grind arith
 
+none_formed : (o : Option ℕ) (b : Bool) → ((rank : ℕ) → o ≡ Some rank → b ≡ true) → b ≡ false →
+    is_some o ≡ false
+none_formed o b formed none = grind arith
+
 no_rank_symbol : (settings : List Token) (b : ℕ) → begins_nick b ≡ true →
     is_rank_symbol settings b ≡ false
-no_rank_symbol settings b h = is (rank_of_symbol settings b) (symbol_formed settings b)
-  where
-    is : (o : Option ℕ) → ((rank : ℕ) → o ≡ Some rank → is_symbol b ≡ true) → is_some o ≡ false
-    is None formed = refl
-    is (Some rank) formed = cc (no_symbol b h, formed rank refl)
+no_rank_symbol settings b h =
+    none_formed (rank_of_symbol settings b) (is_symbol b) (symbol_formed settings b) (no_symbol b h)
 
 nick_past : (settings : List Token) (nick : Text) → is_nameable nick ≡ true → IsPast settings nick
 nick_past settings [] h = refl
 nick_past settings (b ∷ nick) h =
-    rw (
-      take_while-cons (is_rank_symbol settings) b nick,
-      no_rank_symbol settings b (and_parts (begins_nick b) _ h).0,
-    )
+    let here = take_while-cons (is_rank_symbol settings) b nick in
+    rw (here, no_rank_symbol settings b (and_parts (begins_nick b) _ h).0)
 
 -- ---- a nick is a plain word with nothing to cut off
 
@@ -78,10 +76,8 @@ pub word_read : (settings : List Token) (ranks : List ℕ) (nick : Text) → is_
     word_of settings (symbols_of settings ranks ++ nick)
     ≡ record { ranks = ranks_that (has_rank ranks); nick = nick }
 word_read settings ranks nick ok each =
-    rw (
-      word_of_symbols settings ranks nick each (nick_past settings nick ok),
-      uncut 33 nick (never_in_nick 33 refl nick ok),
-    )
+    rw (word_of_symbols settings ranks nick each (nick_past settings nick ok))
+    (rw (uncut 33 nick (never_in_nick 33 refl nick ok)))
 
 -- and it is a plain word
 pub word_plain : (settings : List Token) (ranks : List ℕ) (nick : Text) → is_nameable nick ≡ true →
@@ -105,11 +101,8 @@ each_read : (settings : List Token) (members : List Word) →
     map (word_of settings) (map (word_text settings) members) ≡ members
 each_read settings [] each = refl
 each_read settings (m ∷ members) each =
-    rw (
-      word_read settings m.ranks m.nick each.0.nameable each.0.symbols,
-      each.0.set,
-      each_read settings members each.1,
-    )
+    rw (word_read settings m.ranks m.nick each.0.nameable each.0.symbols, each.0.set)
+    (rw (each_read settings members each.1))
 
 -- members that are written with spaces between are read back
 pub members_read : (settings : List Token) (members : List Word) →

@@ -15,8 +15,7 @@ AreApart-with : (settings : List Token) (token : Token) → AreApart settings �
     AreApart (with_token settings token)
 AreApart-with [] token all = (refl, tt)
 AreApart-with (t ∷ settings) token all =
-    let rest = AreApart-with settings token in
-    grind (arith, kept_apart t.0 settings token, other_way token.0 t.0, rest)
+    grind (arith, kept_apart t.0 settings, other_way token.0 t.0, AreApart-with settings token)
 
 AreApart-without : (settings : List Token) (name : Text) → AreApart settings →
     AreApart (without settings name)
@@ -57,13 +56,8 @@ module _ {A : Type 0} where
       kept (insert_key same names name) settings ≡ kept names (without settings name.items)
   kept-insert_key names name [] all = refl
   kept-insert_key names name (t ∷ settings) all =
-      grind (
-        arith,
-        kept_more names name t.0,
-        same_name name.items t.0,
-        kept-others names name settings,
-        kept-insert_key names name settings,
-      )
+      let rest = kept-others names name settings in
+      grind (arith, kept_more, same_name name.items t.0, rest, kept-insert_key names name settings)
 
   -- a token that goes later may as well not be set
   kept-set_gone : (names : List (Vec ℕ A)) (settings : List Token) (token : Token) →
@@ -88,10 +82,10 @@ module _ {A : Type 0} where
 
   -- ---- what is left to do
 
-  pub with_all-push : (settings : List Token) (set : Entries A) (e : Vec ℕ A × Option (Vec ℕ A)) →
+  pub with_all_push : (settings : List Token) (set : Entries A) (e : Vec ℕ A × Option (Vec ℕ A)) →
       with_all settings (set ++ e ∷ []) ≡ with_all (with_token settings (token_in e)) set
-  with_all-push settings [] e = refl
-  with_all-push settings (first ∷ set) e = rw (with_all-push settings set e)
+  with_all_push settings [] e = refl
+  with_all_push settings (first ∷ set) e = rw (with_all_push settings set e)
 
   pub kept-entries : (names : List (Vec ℕ A)) (entries : Entries A) →
       tokens_in (filter (λ (e : Vec ℕ A × Option (Vec ℕ A)). is_kept names e.0.items) entries)
@@ -106,37 +100,36 @@ module _ {A : Type 0} where
 
   module _ (edits : List (Edit A)) (names : List (Vec ℕ A)) (set : Entries A)
       (was left : List (Edit A)) where
-    last_edit : (edit : Edit A) (settings : List Token) → was ≡ left ++ edit ∷ [] →
-        fold edited settings was ≡ edited (fold edited settings left) edit
-    last_edit edit settings is = rw is (fold-append edited settings left (edit ∷ []))
+    -- a change is done if what is left to do then is the same
+    Leaves-done : (edit : Edit A) (names' : List (Vec ℕ A)) (set' : Entries A) →
+        was ≡ left ++ edit ∷ [] → Leaves edits names set was →
+        ((settings : List Token) → AreApart settings →
+        left_to names set (edited settings edit) ≡ left_to names' set' settings) →
+        Leaves edits names' set' left
+    Leaves-done edit names' set' is so same = record {
+      does = λ settings all.
+          rw (so.does settings all, is, fold-append edited settings left (edit ∷ []))
+          (same (fold edited settings left) (AreApart-fold left settings all));
+    }
 
     pub Leaves-remove : (name : Vec ℕ A) → was ≡ left ++ Remove name ∷ [] →
         Leaves edits names set was → Leaves edits (insert_key same names name) set left
-    Leaves-remove name is so = record {
-      does = λ settings all.
-          let apart = AreApart-fold left settings all in
-          rw (so.does settings all, last_edit _ settings is, kept-insert_key names name _ apart);
-    }
+    Leaves-remove name is so =
+        Leaves-done _ _ set is so (λ settings apart. rw (kept-insert_key names name settings apart))
 
     pub Leaves-set : (name : Vec ℕ A) (value : Option (Vec ℕ A)) →
         was ≡ left ++ Set name value ∷ [] → is_kept names name.items ≡ true →
-        Leaves edits names set was →
-        Leaves edits names (set ++ (name, value) ∷ []) left
-    Leaves-set name value is stays so = record {
-      does = λ settings all.
-          let kept = kept-set names (fold edited settings left) (token_in (name, value)) stays in
-          rw (so.does settings all, last_edit _ settings is, kept, with_all-push);
-    }
+        Leaves edits names set was → Leaves edits names (set ++ (name, value) ∷ []) left
+    Leaves-set name value is stays so =
+        Leaves-done _ names _ is so (λ settings apart.
+        rw (kept-set names settings (token_in (name, value)) stays, with_all_push))
 
     pub Leaves-gone : (name : Vec ℕ A) (value : Option (Vec ℕ A)) →
         was ≡ left ++ Set name value ∷ [] → is_kept names name.items ≡ false →
         Leaves edits names set was → Leaves edits names set left
-    Leaves-gone name value is goes so = record {
-      does = λ settings all.
-          let front = fold edited settings left in
-          let kept = kept-set_gone names front (token_in (name, value)) goes in
-          rw (so.does settings all, last_edit _ settings is, kept);
-    }
+    Leaves-gone name value is goes so =
+        Leaves-done _ names set is so (λ settings apart.
+        rw (kept-set_gone names settings (token_in (name, value)) goes))
 
     pub Leaves-nothing : was ≡ left ++ [] → length left ≡ 0 → Leaves edits names set was →
         (settings : List Token) → AreApart settings →

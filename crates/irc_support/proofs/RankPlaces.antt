@@ -1,12 +1,11 @@
 -- Ranks by their letters and symbols.
-use Rattle.irc_support.{proofs.Spelling.spelled_by_sound, specs.Ranking.{Ranking, Spells}}
-use Rattle.irc_support.specs.{Ranking.{is_ranking, ranking_in, ranking_of, spelled_by}, Text.Text}
-use Rattle.irc_support.specs.{Text.{has_byte, is_distinct}, Tokens.{Token, value_of}}
-use Rattle.std.proofs.Common.{IsTrue, List, None, Option, Some, [], arith, codes, length, position}
-use Rattle.std.proofs.Common.{refl, slice_get, suc, true, unwrap_or, zero, ℕ, ◌==◌, ◌∷◌, ◌≡◌, ◌≤◌}
-use Rattle.std.proofs.lemmas.{Bool.Decides.nat_tests, List.Quantifiers.position-Some}
-use Rattle.std.proofs.lemmas.Option.{slice_get-get_or, slice_get_within}
-use Rattle.std.specs.List.{position_or_len}
+use Rattle.irc_support.{proofs.Spelling.spelled_by_sound, specs.Tokens.value_of}
+use Rattle.irc_support.specs.{Ranking.{Ranking, Spells, ranking_of, spelled_by}, Tokens.Token}
+use Rattle.irc_support.specs.{Ranking.{is_ranking, ranking_in}, Text.{Text, has_byte, is_distinct}}
+use Rattle.std.proofs.Common.{◌==◌, List, None, Some, arith, codes, position, refl, slice_get, zero}
+use Rattle.std.proofs.Common.{◌∷◌, ◌≡◌, ◌≤◌, IsTrue, Option, [], length, suc, true, unwrap_or, ℕ}
+use Rattle.std.proofs.lemmas.{Bool.Decides.nat_tests, Option.{slice_get-get_or, slice_get_within}}
+use Rattle.std.{proofs.lemmas.List.Quantifiers.position-Some, specs.List.position_or_len}
 
 ranking_in-is : (value : Text) → IsTrue (is_ranking (ranking_in value))
 ranking_in-is [] = refl

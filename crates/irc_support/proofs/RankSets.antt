@@ -1,13 +1,13 @@
 -- Sets of ranks by the test that their ranks pass.
 use Rattle.irc_support.specs.{RankBits.ranks_at_bits, Ranks.{has_rank, rank_count, ranks_that}}
-use Rattle.std.proofs.Common.{All, Bool, List, [], ap, arith, bit_and, bit_or, false, filter}
-use Rattle.std.proofs.Common.{nat_le, nat_lt, not, refl, suc, sym, take, true, zero, ℕ, ◌%◌, ◌&&◌}
-use Rattle.std.proofs.Common.{◌*◌, ◌+◌, ◌-◌, ◌/◌, ◌<◌, ◌==◌, ◌^◌, ◌||◌, ◌∙◌, ◌∷◌, ◌≡◌, ◌≢◌, ◌≤◌}
+use Rattle.std.proofs.Common.{◌%◌, ◌*◌, ◌+◌, ◌-◌, ◌<◌, ◌||◌, All, [], ap, bit_and, false, suc, ℕ}
+use Rattle.std.proofs.Common.{◌&&◌, ◌==◌, ◌^◌, ◌∙◌, ◌∷◌, ◌≡◌, filter, not, sym, take, zero}
+use Rattle.std.proofs.Common.{◌/◌, ◌≢◌, ◌≤◌, Bool, List, arith, bit_or, nat_le, nat_lt, refl, true}
 use Rattle.std.proofs.lemmas.{Bool.Decides.nat_tests, List.Elements.{All-cons, All-nil}}
-use Rattle.std.proofs.lemmas.Nat.Bits.{bit_at-trailing_zeros, bit_at-zero, bit_at_clear_other}
-use Rattle.std.proofs.lemmas.Nat.Bits.{bit_at_clear_same, bit_at_set_other, bit_at_set_same}
-use Rattle.std.{proofs.lemmas.Nat.Bits.shr_and_one, specs.Int.{bit_at, bit_not, trailing_zeros}}
-use Rattle.std.specs.{Int.w16, List.range_with_len}
+use Rattle.std.proofs.lemmas.Nat.Bits.{bit_at-trailing_zeros, bit_at_clear_other, bit_at_clear_same}
+use Rattle.std.proofs.lemmas.Nat.Bits.{bit_at-zero, bit_at_set_other, bit_at_set_same, shr_and_one}
+use Rattle.std.specs.{Int.{bit_at, bit_not, trailing_zeros, w16}, List.range_with_len}
+use Rattle.irc_support.specs.RankBits.{bits_of, bits_of-ranks_at_bits}
 
 pub itself : (a : ℕ) → (a == a) ≡ true
 itself a = grind (arith, nat_tests)
@@ -90,69 +90,58 @@ split_first test k small at before =
     grind (arith, first test k small at before, gone, kept)
 
 -- The set at the bits, as the code tests and changes them.
-pub has_rank-bits : (bits r : ℕ) (ranks : List ℕ) → ranks_at_bits bits ≡ ranks → r < 16 →
-    (bit_and (bits / 2 ^ r) 1 == 1) ≡ has_rank ranks r
-has_rank-bits bits r ranks seen small =
-    rw (← seen, shr_and_one bits r) (sym (has_rank-ranks_that (λ q. bit_at bits q == 1) r small))
+module _ (bits : ℕ) (ranks : List ℕ) (seen : ranks_at_bits bits ≡ ranks) where
+  abbrev stands : ℕ → Bool
+  stands r = bit_at bits r == 1
 
-pub has_rank-bits_past : (bits r : ℕ) (ranks : List ℕ) → ranks_at_bits bits ≡ ranks → 16 ≤ r →
-    nat_lt r 16 ≡ has_rank ranks r
-has_rank-bits_past bits r ranks seen past = grind (arith, nat_tests, has_rank-past)
+  pub bits_back : bits < 2 ^ 16 → bits_of ranks ≡ bits
+  bits_back small = rw (← seen) (bits_of-ranks_at_bits bits small)
 
-pub set_of_bits : (bits : ℕ) (ranks : List ℕ) → ranks_at_bits bits ≡ ranks →
-    ranks ≡ ranks_that (has_rank ranks)
-set_of_bits bits ranks seen = rw (← seen) (ranks_that-has_rank (λ q. bit_at bits q == 1))
+  pub has_rank_bits : (r : ℕ) → r < 16 → (bit_and (bits / 2 ^ r) 1 == 1) ≡ has_rank ranks r
+  has_rank_bits r small = rw (← seen, shr_and_one bits r) (sym (has_rank-ranks_that stands r small))
 
-pub ranks_at-set : (bits k : ℕ) (ranks : List ℕ) → ranks_at_bits bits ≡ ranks → k < 16 →
-    ranks_at_bits (bit_or bits (1 * 2 ^ k % 2 ^ 16))
-    ≡ ranks_that (λ r. (r == k) || has_rank ranks r)
-ranks_at-set bits k ranks seen small = rw (← seen) (ranks_that_agree _ _ (λ r below.
-    grind (
-      arith,
-      nat_tests,
-      has_rank-ranks_that (λ q. bit_at bits q == 1) r below,
-      bit_at_set_same w16 bits k small,
-      bit_at_set_other w16 bits k small r,
-    )))
+  pub has_rank_past : (r : ℕ) → 16 ≤ r → nat_lt r 16 ≡ has_rank ranks r
+  has_rank_past r past = grind (arith, nat_tests, has_rank-past)
 
-pub ranks_at-clear : (bits k : ℕ) (ranks : List ℕ) → ranks_at_bits bits ≡ ranks → k < 16 →
-    ranks_at_bits (bit_and bits (bit_not w16 (1 * 2 ^ k % 2 ^ 16)))
-    ≡ ranks_that (λ r. not (r == k) && has_rank ranks r)
-ranks_at-clear bits k ranks seen small = rw (← seen) (ranks_that_agree _ _ (λ r below.
-    grind (
-      arith,
-      nat_tests,
-      has_rank-ranks_that (λ q. bit_at bits q == 1) r below,
-      bit_at_clear_same w16 bits k small,
-      bit_at_clear_other w16 bits k small r below,
-    )))
+  pub set_of_bits : ranks ≡ ranks_that (has_rank ranks)
+  set_of_bits = rw (← seen) (ranks_that-has_rank stands)
 
-pub no_bits : (bits : ℕ) (ranks : List ℕ) → ranks_at_bits bits ≡ ranks → bits ≡ 0 → ranks ≡ []
-no_bits bits ranks seen none =
-    rw (← seen) (ranks_that_none _ (λ r small. rw (none, bit_at-zero r) refl))
+  pub ranks_at_set : (k : ℕ) → k < 16 →
+      ranks_at_bits (bit_or bits (1 * 2 ^ k % 2 ^ 16))
+      ≡ ranks_that (λ r. (r == k) || has_rank ranks r)
+  ranks_at_set k small = rw (← seen) (ranks_that_agree _ _ (λ r below.
+      let same = bit_at_set_same w16 bits k small in
+      let other = bit_at_set_other w16 bits k small r in
+      grind (arith, nat_tests, has_rank-ranks_that stands r below, same, other)))
 
--- the lowest bit is the highest rank
-pub split_of_bits : (bits : ℕ) (ranks : List ℕ) → ranks_at_bits bits ≡ ranks → bits ≢ 0 →
-    bits < 2 ^ 16 →
-    ranks ≡ trailing_zeros w16 bits
-    ∷ ranks_that (λ r. not (r == trailing_zeros w16 bits) && has_rank ranks r)
-split_of_bits bits ranks seen some small =
-    let lowest = bit_at-trailing_zeros w16 bits (omega arith) small in
-    rw (← seen) (split_first _ (trailing_zeros w16 bits) lowest.0 (rw lowest.1 refl)
-    (λ i h. rw (lowest.2 i h) refl))
+  pub ranks_at_clear : (k : ℕ) → k < 16 →
+      ranks_at_bits (bit_and bits (bit_not w16 (1 * 2 ^ k % 2 ^ 16)))
+      ≡ ranks_that (λ r. not (r == k) && has_rank ranks r)
+  ranks_at_clear k small = rw (← seen) (ranks_that_agree _ _ (λ r below.
+      let same = bit_at_clear_same w16 bits k small in
+      let other = bit_at_clear_other w16 bits k small r below in
+      grind (arith, nat_tests, has_rank-ranks_that stands r below, same, other)))
 
-pub top_of_bits : (bits : ℕ) (ranks : List ℕ) → ranks_at_bits bits ≡ ranks → bits ≢ 0 →
-    bits < 2 ^ 16 →
-    (rest : List ℕ) × (ranks ≡ trailing_zeros w16 bits ∷ rest) ×
-    All (λ r. trailing_zeros w16 bits ≤ r) (trailing_zeros w16 bits ∷ rest)
-top_of_bits bits ranks seen some small =
-    let k = trailing_zeros w16 bits in
-    let lowest = bit_at-trailing_zeros w16 bits (omega arith) small in
-    let test : ℕ → Bool = λ q. bit_at bits q == 1 in (
-      among test (k + 1) (15 - k),
-      sym seen ∙ first test k lowest.0 (rw lowest.1 refl) (λ i h. rw (lowest.2 i h) refl),
-      grind (arith, All-cons, at_least test k (15 - k) (k + 1)),
-    )
+  pub no_bits : bits ≡ 0 → ranks ≡ []
+  no_bits none = rw (← seen) (ranks_that_none _ (λ r small. rw (none, bit_at-zero r) refl))
+
+  module _ (some : bits ≢ 0) (small : bits < 2 ^ 16) where
+    abbrev low : ℕ
+    low = trailing_zeros w16 bits
+
+    -- the lowest bit is the highest rank
+    pub split_of_bits : ranks ≡ low ∷ ranks_that (λ r. not (r == low) && has_rank ranks r)
+    split_of_bits =
+        let at = bit_at-trailing_zeros w16 bits (omega arith) small in
+        rw (← seen) (split_first stands low at.0 (rw at.1 refl) (λ i h. rw (at.2 i h) refl))
+
+    pub top_of_bits : (rest : List ℕ) × (ranks ≡ low ∷ rest) × All (λ r. low ≤ r) (low ∷ rest)
+    top_of_bits =
+        let at = bit_at-trailing_zeros w16 bits (omega arith) small in (
+          among stands (low + 1) (15 - low),
+          sym seen ∙ first stands low at.0 (rw at.1 refl) (λ i h. rw (at.2 i h) refl),
+          grind (arith, All-cons, at_least stands low (15 - low) (low + 1)),
+        )
 
 -- what a set begins with is a set
 pub first_of_set : (ranks : List ℕ) (test : ℕ → Bool) → ranks_that test ≡ ranks →

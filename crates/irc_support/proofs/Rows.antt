@@ -1,17 +1,15 @@
 -- The definitions at tokens, mode texts and words as networks send them.
 use Prim.Native.String.{String}
-use Rattle.irc_line.specs.Line.{Parts}
+use Rattle.{irc_line.specs.Line.Parts, std.specs.Prelude.{Bool, map, option_map, ℕ}}
 use Rattle.irc_names.specs.declared.case_mapping.CaseMapping.TheVariants.{Ascii, Rfc1459}
-use Rattle.irc_support.specs.{ChanModes.{kind_of, takes_parameter}, Line.changes_in}
-use Rattle.irc_support.specs.{Line.{settings_after, words_in}, ModeChanges.{ChangeParts, changes}}
-use Rattle.irc_support.specs.{NamesReply.{Word, words}, Ranking.{Ranking, rank_of_letter}}
-use Rattle.irc_support.specs.Ranking.{rank_of_symbol, ranking_of, spelled_by, symbol_of}
-use Rattle.irc_support.specs.{Ranks.{has_rank, rank_count, ranks_that}, Settings.is_channel}
-use Rattle.irc_support.specs.{Settings.{key_by, mapping_of}, Text.is_word, Tokens.Token}
-use Rattle.irc_support.specs.Tokens.{set_tokens, token_of, value_of}
+use Rattle.irc_support.specs.{ChanModes.kind_of, ModeChanges.{ChangeParts, changes}, Text.is_word}
+use Rattle.irc_support.specs.{ChanModes.takes_parameter, Ranks.{has_rank, rank_count, ranks_that}}
+use Rattle.irc_support.specs.{Line.{changes_in, settings_after, words_in}, NamesReply.{Word, words}}
+use Rattle.irc_support.specs.Ranking.{Ranking, rank_of_symbol, ranking_of, spelled_by, symbol_of}
+use Rattle.irc_support.specs.{Ranking.rank_of_letter, Settings.{is_channel, key_by, mapping_of}}
+use Rattle.{irc_support.specs.Tokens.{Token, set_tokens, token_of, value_of}, std.proofs.Common.[]}
 use Rattle.irc_support.specs.declared.kind.Kind.TheVariants.{C, D, Prefix, Unknown}
-use Rattle.std.proofs.Common.{List, None, Option, Some, [], codes, false, get_or, refl, true, ◌∷◌}
-use Rattle.std.{proofs.Common.◌≡◌, specs.Prelude.{Bool, map, option_map, ℕ}}
+use Rattle.std.proofs.Common.{◌∷◌, ◌≡◌, List, None, Option, Some, codes, false, get_or, refl, true}
 
 -- ---- tokens
 

@@ -1,15 +1,14 @@
 -- Words of name lists: joined they are read as they are, and symbols and nick are read apart.
 use Rattle.irc_support.proofs.RankPlaces.{at-position, few, position-at, ranking_of-is}
 use Rattle.irc_support.proofs.{RankSets.ranks_that_agree, WordCuts.{is_gap, is_some_word}}
-use Rattle.irc_support.specs.NamesReply.{after_symbols, is_rank_symbol, shows_rank, symbols_before}
-use Rattle.irc_support.specs.{NamesReply.{word_of, words_between}, Ranking.rank_of_symbol}
-use Rattle.irc_support.specs.{Ranking.{ranking_of, symbol_of}, Ranks.{has_rank, ranks_that}}
+use Rattle.irc_support.specs.NamesReply.{after_symbols, is_rank_symbol, symbols_before}
+use Rattle.irc_support.specs.{NamesReply.{shows_rank, word_of, words_between}, Ranks.ranks_that}
+use Rattle.irc_support.specs.{Ranking.{rank_of_symbol, ranking_of, symbol_of}, Ranks.has_rank}
 use Rattle.irc_support.specs.{Text.{Text, cut_at}, Tokens.Token, Written.{HasSymbol, symbols_of}}
-use Rattle.std.proofs.{Common.{Some, arith, refl}, Math.Seq.drop-append_seam}
-use Rattle.std.{proofs.lemmas.List.Sums.take_while-cons, specs.List.AllByRecursion}
+use Rattle.std.{proofs.Common.{Some, refl}, specs.Prelude.{◌++◌, ◌==◌, ◌∷◌, ◌≡◌, [], true, ℕ}}
+use Rattle.std.proofs.{Common.arith, Math.Seq.drop-append_seam, lemmas.List.Sums.take_while-cons}
+use Rattle.std.specs.{List.AllByRecursion, Prelude.{Bool, List, false, filter, length, take_while}}
 use Rattle.std.specs.List.{join_with_byte, list_all, list_any, onto_first, slice_split}
-use Rattle.std.specs.Prelude.{Bool, List, [], false, filter, length, take_while, true, ℕ, ◌++◌}
-use Rattle.std.specs.Prelude.{◌==◌, ◌∷◌, ◌≡◌}
 
 -- ---- words
 
@@ -110,8 +109,6 @@ pub word_of_symbols : (settings : List Token) (ranks : List ℕ) (rest : Text) �
     ≡ record { ranks = ranks_that (has_rank ranks); nick = (cut_at 33 rest).0 }
 word_of_symbols settings ranks rest each past =
     let all = symbols_all settings ranks in
-    rw (
-      rest_read settings (symbols_of settings ranks) rest all past,
-      symbols_read settings (symbols_of settings ranks) rest all past,
-      ranks_that_agree _ (has_rank ranks) (λ r small. symbols_show settings ranks each r),
-    )
+    let symbols = symbols_of settings ranks in
+    rw (rest_read settings symbols rest all past, symbols_read settings symbols rest all past)
+    (rw (ranks_that_agree _ (has_rank ranks) (λ r small. symbols_show settings ranks each r)))

@@ -1,11 +1,10 @@
 -- What a value of PREFIX spells.
-use Rattle.irc_support.specs.Ranking.{Ranking, Spells, halves_of, is_ranking, prefix_text}
-use Rattle.{irc_support.specs.{Ranking.spelled_by, Text.Text}, std.proofs.Common.{IsTrue, None}}
-use Rattle.std.proofs.Common.{Option, Some, ap, append_assoc, arith, drop, false, length}
-use Rattle.std.proofs.Common.{length-append, refl, suc, sym, take, true, ℕ, ◌++◌, ◌+◌, ◌-◌, ◌/◌}
-use Rattle.std.proofs.{Common.{◌∙◌, ◌∷◌, ◌≡◌}, Math.Seq.{drop-append-add, drop-append_seam}}
-use Rattle.std.proofs.{Math.Seq.take-append_seam, lemmas.Bool.Decides.nat_tests}
-use Rattle.std.proofs.lemmas.{List.take-append-drop, Slice.Eq.bytes_eq-Decides}
+use Rattle.irc_support.specs.Ranking.{Ranking, halves_of, is_ranking, prefix_text, spelled_by}
+use Rattle.{irc_support.specs.{Ranking.Spells, Text.Text}, std.proofs.lemmas.Bool.Decides.nat_tests}
+use Rattle.std.proofs.Common.{◌++◌, ◌+◌, ◌/◌, ◌≡◌, IsTrue, Option, drop, false, length, refl, take}
+use Rattle.std.proofs.Common.{◌-◌, ◌∷◌, None, append_assoc, arith, length-append, suc, sym, true, ℕ}
+use Rattle.std.proofs.{Common.◌∙◌, Math.Seq.{drop-append-add, drop-append_seam, take-append_seam}}
+use Rattle.std.proofs.{Common.{Some, ap}, lemmas.{List.take-append-drop, Slice.Eq.bytes_eq-Decides}}
 
 -- as many symbols as letters, at most 16
 pub paired : (r : Ranking) → IsTrue (is_ranking r) → length r.letters ≡ length r.symbols
@@ -25,8 +24,7 @@ inner_halves : (r : Ranking) → length r.letters ≡ length r.symbols →
 inner_halves r same =
     let len = length-append r.letters (41 ∷ r.symbols) in
     let half : (length (inner r) - 1) / 2 ≡ length r.letters = omega arith in
-    let rest = 41 ∷ r.symbols in
-    rw half (take-append_seam r.letters rest, drop-append_seam r.letters rest)
+    rw half (take-append_seam r.letters _, drop-append_seam r.letters _)
 
 halves_of-prefix_text : (r : Ranking) → length r.letters ≡ length r.symbols →
     halves_of (prefix_text r) ≡ r
@@ -35,12 +33,7 @@ halves_of-prefix_text r same =
     let half : (suc (length (inner r)) - 2) / 2 ≡ length r.letters = omega arith in
     let behind : length r.letters + 2 ≡ suc (length r.letters + 1) = omega arith in
     ap halves_of (prefix_text-inner r)
-    ∙ rw (
-      half,
-      behind,
-      take-append_seam r.letters (41 ∷ r.symbols),
-      drop-append-add r.letters (41 ∷ r.symbols) 1,
-    )
+    ∙ rw (half, behind, take-append_seam r.letters, drop-append-add r.letters (41 ∷ r.symbols) 1)
 
 pub spelled_by_sound : (value : Text) (r : Ranking) → spelled_by value ≡ Some r → Spells value r
 unfolding spelled_by
@@ -72,21 +65,21 @@ halves_at value rest r begins s =
     rw is (inner_halves r (paired r s.ranking))
 
 pub none_without_close : (value rest back : Text) (n : ℕ) → value ≡ 40 ∷ rest →
-    n ≡ (length rest - 1) / 2 → back ≡ drop n rest → ((more : Text) → back ≡ 41 ∷ more → ⊥) →
+    n ≡ length rest - 1 → back ≡ drop (n / 2) rest → ((more : Text) → back ≡ 41 ∷ more → ⊥) →
     None ≡ spelled_by value
 none_without_close value rest back n begins count at never =
     spelled_by_none value (λ r s.
     let ends = halves_at value rest r begins s in never r.symbols (cc))
 
 module _ (value rest letters symbols back : Text) (n : ℕ) (begins : value ≡ 40 ∷ rest)
-    (count : n ≡ (length rest - 1) / 2)
-    (front : letters ≡ take n rest) (at : back ≡ drop n rest) (closes : back ≡ 41 ∷ symbols) where
+    (count : n ≡ length rest - 1) (front : letters ≡ take (n / 2) rest)
+    (at : back ≡ drop (n / 2) rest) (closes : back ≡ 41 ∷ symbols) where
   abbrev split : Ranking
   split = record { letters = letters; symbols = symbols }
 
   pub some_of_split : is_ranking split ≡ true → Some split ≡ spelled_by value
   some_of_split good =
-      let joined = take-append-drop n rest in
+      let joined = take-append-drop (n / 2) rest in
       let written : value ≡ prefix_text split = cc (prefix_text-inner split) in
       sym (spelled_by_complete value split (record { written = written; ranking = good }))
 

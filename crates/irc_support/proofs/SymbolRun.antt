@@ -7,15 +7,12 @@ use Rattle.std.proofs.Common.{drop, get_or, length, refl, take, ℕ, ◌++◌, �
 use Rattle.std.proofs.{Common.{◌∷◌, ◌≡◌}, lemmas.Bool.Decides.nat_tests}
 use Rattle.std.proofs.lemmas.List.{Folds.list_any-append, Sums.take_while-cons, take_all}
 
--- the symbols that were read, and what is left of the word
-pub record Reads (settings : List Token) (word : Text) (ranks : List ℕ) (rest read : Text) : Type 0
-  where
-    pub symbols : symbols_before settings word ≡ read ++ symbols_before settings rest
-    pub behind : after_symbols settings word ≡ after_symbols settings rest
-    pub shown : ranks ≡ ranks_that (shows_rank settings read)
-
+-- symbols were read, and this is left of the word
 abbrev pub ReadsSome : List Token → Text → List ℕ → Text → Type 0
-ReadsSome settings word ranks rest = (read : Text) × Reads settings word ranks rest read
+ReadsSome settings word ranks rest = (read : Text) ×
+    (symbols_before settings word ≡ read ++ symbols_before settings rest) ×
+    (after_symbols settings word ≡ after_symbols settings rest) ×
+    (ranks ≡ ranks_that (shows_rank settings read))
 
 shows_rank-push : (settings : List Token) (read : Text) (b rank r : ℕ) →
     rank_of_symbol settings b ≡ Some rank →
@@ -28,18 +25,14 @@ pub reads_more : (settings : List Token) (word : Text) (ranks : List ℕ) (rest 
     rank_of_symbol settings b ≡ Some rank →
     ranks' ≡ ranks_that (λ r. (r == rank) || has_rank ranks r) →
     ReadsSome settings word ranks rest → ReadsSome settings word ranks' more
-reads_more settings word ranks rest b more rank ranks' is found put so_far =
-    let read = so_far.0 in
+reads_more settings word ranks rest b more rank ranks' is found put (read, before, after, shown) =
     let front = take_while-cons (is_rank_symbol settings) b more in (
       read ++ b ∷ [],
-      record {
-        symbols = so_far.1.symbols ∙ rw (is, front, found, append_assoc) refl;
-        behind = so_far.1.behind ∙ rw (is, front, found) refl;
-        shown =
-            put ∙ ranks_that_agree _ _
-            (λ r small. rw (so_far.1.shown, has_rank-ranks_that (shows_rank settings read) r small)
-            (shows_rank-push settings read b rank r found));
-      },
+      before ∙ rw (is, front, found, append_assoc) refl,
+      after ∙ rw (is, front, found) refl,
+      put ∙ ranks_that_agree _ _
+          (λ r small. rw (shown, has_rank-ranks_that (shows_rank settings read) r small)
+          (shows_rank-push settings read b rank r found)),
     )
 
 -- a text by its first byte

@@ -1,13 +1,12 @@
 -- Tokens that are written out are read back as they are.
-use Rattle.irc_support.specs.{Text.{Text, cut_at, has_byte}, Tokens.{Token, after_param}}
-use Rattle.irc_support.specs.Tokens.{set_tokens, token_of, token_params, with_token, without}
-use Rattle.irc_support.specs.Written.{AreTokens, is_token_name, token_text}
-use Rattle.std.proofs.Common.{None, Some, append-nil, append_assoc, arith, cond, length-append}
-use Rattle.std.proofs.{Common.{refl, suc, sym, ◌+◌}, Math.Seq.drop-append-add}
-use Rattle.std.proofs.lemmas.{Bool.Decides.nat_tests, List.{Folds.list_any-append, take_all}}
-use Rattle.std.{proofs.lemmas.{List.take_at, Slice.Eq.bytes_eq-Decides}, specs.List.before_first}
-use Rattle.std.specs.{List.{list_any, position_or_len}, Prelude.{Bool, List, [], false, fold}}
-use Rattle.std.specs.{Prelude.{length, map, true, ℕ, ◌++◌, ◌==◌, ◌∷◌, ◌≡◌}, Str.bytes_eq}
+use Rattle.{irc_support.specs.Text.{Text, cut_at, has_byte}, std.proofs.Math.Seq.drop-append-add}
+use Rattle.irc_support.specs.Tokens.{Token, after_param, set_tokens, token_of, with_token, without}
+use Rattle.irc_support.specs.{Tokens.token_params, Written.{AreTokens, is_token_name, token_text}}
+use Rattle.std.proofs.Common.{◌++◌, ◌+◌, ◌==◌, ◌∷◌, ◌≡◌, List, [], fold, map, suc, sym, true, ℕ}
+use Rattle.std.proofs.{Common.Bool, lemmas.{Bool.Decides.nat_tests, Slice.Eq.bytes_eq-Decides}}
+use Rattle.std.proofs.Common.{None, Some, append-nil, arith, bytes_eq, cond, false, length, refl}
+use Rattle.std.{proofs.Common.append_assoc, specs.List.{before_first, list_any, position_or_len}}
+use Rattle.std.proofs.{Common.length-append, lemmas.List.{take_all, take_at, Folds.list_any-append}}
 
 abbrev is_equals : ℕ → Bool
 is_equals c = c == 61

@@ -1,9 +1,8 @@
 -- A text cut at its first space, word by word.
-use Rattle.irc_line.proofs.Segments.{split-at, split-none}
-use Rattle.irc_support.specs.{NamesReply.words_between, Text.{Text, cut_at}}
-use Rattle.std.proofs.Common.{Bool, [], arith, false, length, not, unwrap_or, ℕ, ◌==◌, ◌∷◌, ◌≡◌}
-use Rattle.std.{proofs.lemmas.{Bool.Decides.nat_tests, List.take_all}, specs.List.slice_split}
-use Rattle.std.specs.Option.{option_map_or}
+use Rattle.{irc_line.proofs.Segments.{split-at, split-none}, irc_support.specs.Text.{Text, cut_at}}
+use Rattle.{irc_support.specs.NamesReply.words_between, std.specs.List.slice_split}
+use Rattle.std.proofs.Common.{◌==◌, ◌∷◌, ◌≡◌, Bool, [], arith, false, length, not, unwrap_or, ℕ}
+use Rattle.std.{proofs.lemmas.{Bool.Decides.nat_tests, List.take_all}, specs.Option.option_map_or}
 
 abbrev pub is_gap : ℕ → Bool
 is_gap b = b == 32

@@ -31,6 +31,7 @@ pub fn what_prefix_spells()
 {}
 
 /// The letter and the symbol of a rank belong together, and ranks are below 16.
+#[tactic(auto, using(crate::proofs::SpelledWords::symbol_read, crate::proofs::SpelledWords::symbol_written))]
 pub fn letters_and_symbols_go_together()
     ensures small { (settings : List Token) (letter rank : ℕ) →
         rank_of_letter settings letter ≡ Some rank → rank < 16 }
@@ -54,6 +55,7 @@ pub fn tokens_are_read_back()
 
 /// Modes that are written out, as 324 has them, are read back as the changes that set them. No
 /// change is of a sign.
+#[tactic(auto, using(crate::proofs::ModesRead::changes_read, crate::proofs::ModesRead::changes_unsigned))]
 pub fn modes_are_read_back()
     ensures read { (settings : List Token) (modes : List (ℕ × Option Text)) →
         AllByRecursion (IsWrittenMode settings) modes →
@@ -65,6 +67,7 @@ pub fn modes_are_read_back()
 
 /// Members that are written out, as 353 has them, are read back as they are. A name list whose
 /// words have their highest symbols alone lists the same nicks, each with its highest rank alone.
+#[tactic(auto, using(crate::proofs::HighestWords::words_highest, crate::proofs::NamesRead::members_read))]
 pub fn members_are_read_back()
     ensures read { (settings : List Token) (members : List Word) →
         AllByRecursion (IsWrittenWord settings) members →

@@ -56,6 +56,7 @@ fn remove<A: Allocator + Copy>(tokens: &mut Table<A>, names: &Names<A>)
     tokens.truncate(kept);
 }
 
+#[tactic(auto, using(crate::proofs::TokenTable::tokens_in_insert_entry))]
 fn set<A: Allocator + Copy>(tokens: &mut Table<A>, name: Vec<u8, A>, value: Option<Vec<u8, A>>)
     requires { 0 < spare tokens.old }
     ensures after { tokens_in tokens.new.entries
@@ -102,6 +103,7 @@ impl<A: Allocator + Copy> Pending<A> {
     }
 
     /// Does what is left to do. There is room for all of it.
+    #[tactic(auto, using(crate::proofs::PendingTokens::with_all_push))]
     pub fn make(self, tokens: &mut Table<A>)
         requires { vec_len self.set ≤ spare tokens.old }
         ensures { tokens_in tokens.new.entries

@@ -9,6 +9,7 @@ use std::marker::Model;
 
 /// A set of ranks, from 0, the highest, to 15. A rank is what a letter of `PREFIX` gives to a
 /// member of a channel, as `o` to an operator.
+#[tactic(auto, using(crate::proofs::RankSets::bits_back))]
 #[derive(Clone, Copy, Debug, PartialEq, Eq)]
 pub struct Ranks {
     // bit r stands for rank r
@@ -32,6 +33,7 @@ impl Model for Ranks {
 
 impl Ranks {
     /// No rank.
+    #[tactic(auto, using(crate::proofs::RankSets::no_bits))]
     pub const fn none() -> Ranks
         ensures { result ≡ [] }
     {
@@ -39,6 +41,7 @@ impl Ranks {
     }
 
     /// Whether the rank is in the set; never from 16 on.
+    #[tactic(auto, using(crate::proofs::RankSets::has_rank_bits, crate::proofs::RankSets::has_rank_past, crate::proofs::RankSets::set_of_bits))]
     pub fn has(self, rank: u8) -> bool
         ensures value { result ≡ has_rank self rank }
         ensures small { IsTrue result → rank < 16 }
@@ -49,6 +52,7 @@ impl Ranks {
     }
 
     /// The highest rank of the set, which is the least number; `None` where the set is empty.
+    #[tactic(auto, using(crate::proofs::RankSets::no_bits))]
     pub fn top(self) -> Option<u8>
         ensures value { result ≡ slice_get self 0 }
         ensures empty { IsNone result ↔ (self ≡ []) }
@@ -62,6 +66,7 @@ impl Ranks {
     }
 
     /// The set with this rank, below 16, put in.
+    #[tactic(auto, using(crate::proofs::RankSets::ranks_at_set))]
     pub fn with(self, rank: u8) -> Ranks
         requires { rank < 16 }
         ensures { result ≡ ranks_that (λ r. r == rank || has_rank self r) }
@@ -72,6 +77,7 @@ impl Ranks {
     }
 
     /// The set with this rank, below 16, taken out.
+    #[tactic(auto, using(crate::proofs::RankSets::ranks_at_clear))]
     pub fn without(self, rank: u8) -> Ranks
         requires { rank < 16 }
         ensures { result ≡ ranks_that (λ r. not (r == rank) && has_rank self r) }
@@ -89,6 +95,7 @@ impl Ranks {
     }
 
     /// The highest rank, and the set without it; `None` where the set is empty.
+    #[tactic(auto, using(crate::proofs::RankSets::no_bits))]
     fn split_top(self) -> Option<(u8, Ranks)>
         ensures { MatchOption result (self ≡ []) (λ s. self ≡ s.0 ∷ s.1) }
     {

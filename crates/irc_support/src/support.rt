@@ -166,6 +166,7 @@ impl<A: Allocator> Support<A> {
     /// The name of the token at this place, counted from 0, and its value: `None` where no `=`
     /// stood behind the name, which is read as an empty value and written as it came. `None` from
     /// `token_count` on.
+    #[tactic(auto, using(crate::proofs::TokenTable::token_places))]
     pub fn token(&self, place: usize) -> Option<(&[u8], Option<&[u8]>)>
         ensures { option_map shown_token result ≡ slice_get self.now place }
     {

@@ -1,9 +1,24 @@
 use Rattle.irc_support.proofs.pending.remove.Goals as goal
-use Rattle.irc_support.proofs.Compacting.{compacts_next_no, compacts_next_yes}
-use Rattle.irc_support.proofs.PendingTokens.{kept-entries, kept-none}
+use Rattle.{irc_support.proofs.PendingTokens.{kept-entries, kept-none}, std.specs.List.SwappedAt}
 use Rattle.irc_support.{proofs.pending.remove.Goals.{else-stays, then-stays}, specs.Edits.tokens_in}
-use Rattle.std.proofs.Common.{arith, length, refl, sym, ◌<◌, ◌≡◌, ◌≤◌}
-use Rattle.std.proofs.lemmas.List.Filters.{FiltersInPlace-all}
+use Rattle.std.proofs.Common.{◌<◌, MatchOption, get_or, inl, inr, length, refl, slice_get, swap}
+use Rattle.std.proofs.Common.{◌≡◌, ◌≤◌, Bool, List, arith, false, sym, true, ℕ}
+use Rattle.std.proofs.lemmas.List.{get_or-set_other, get_or-set_same, length-set, Edits.swap_is}
+use Rattle.std.proofs.lemmas.{List.Filters.FiltersInPlace-all, Option.slice_get_cases}
+use Rattle.std.proofs.lemmas.List.Filters.{FiltersInPlace-more_no, FiltersInPlace-more_swap}
+
+swapped : {X : Type 0} (es : List X) (w p : ℕ) → w < length es → p < length es →
+    SwappedAt es (swap es w p) w p
+swapped es w p first second =
+    grind (arith, swap_is es w p, get_or-set_same, get_or-set_other, length-set, first, second)
+
+next : {X : Type 0} (test : X → Bool) (es : List X) (p : ℕ) → p < length es → (b : Bool) →
+    MatchOption (slice_get es p) (b ≡ false) (λ x. b ≡ test x) →
+    (x : X) × (x ≡ get_or es p x) × (test x ≡ b)
+next test es p within b says = elim (slice_get_cases es p).1 [
+  | inl found ↦ (found.0, sym found.3, sym (rw found.2 at says))
+  | inr past ↦ absurd (omega arith)
+]
 
 pub returns-then-is_empty-clause-entries : goal.returns-then-is_empty-clause-entries
 returns-then-is_empty-clause-entries g c =
@@ -17,15 +32,18 @@ loop-place-preserved g c =
     rw (so.long, ← c.len-place-end.ensures.len) c.loop-place-test.true in
     elim c.if-stays.branch [
       | then-stays w ↦
-          let says = rw w.if-stays.true at c.stays.ensures in
+          let at = next _ _ _ within true (rw w.if-stays.true at c.stays.ensures) in
           let room = w.swap_indices.ensures.room.0 in
           let before = c.loop-place.invariant.0 in
-          rw (w.tokens-is, w.kept-is, w.swap_indices.ensures.entries)
-          (omega arith, compacts_next_yes _ _ _ _ _ within so says)
+          rw (w.tokens-is, w.kept-is, w.swap_indices.ensures.entries) (
+            omega arith,
+            FiltersInPlace-more_swap so within at.2 at.1
+                (swapped _ _ _ (omega (arith, so.behind)) within),
+          )
       | else-stays w ↦
-          let says = rw w.if-stays.false at c.stays.ensures in
+          let at = next _ _ _ within false (rw w.if-stays.false at c.stays.ensures) in
           rw (w.tokens-is, w.kept-is)
-          (c.loop-place.invariant.0, compacts_next_no _ _ _ _ _ within so says)
+          (c.loop-place.invariant.0, FiltersInPlace-more_no so within at.2 at.1)
     ]
 
 pub returns-clause-entries : goal.returns-clause-entries

@@ -7,13 +7,8 @@ returns-in_err-value g c =
 
 pub returns-in-Some : goal.returns-in-Some
 returns-in-Some g c =
-    rw (
-      c.as_slice.ensures.value,
-      ← lookup-value_of,
-      ← c.get.ensures.value,
-      c.in_ok-value.was,
-      c.in-Some.is,
-    )
+    rw (c.as_slice.ensures.value, ← lookup-value_of)
+    (rw (← c.get.ensures.value, c.in_ok-value.was, c.in-Some.is))
 
 pub returns-in-None : goal.returns-in-None
 returns-in-None g c =

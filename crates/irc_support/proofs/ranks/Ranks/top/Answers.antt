@@ -1,10 +1,5 @@
 use Rattle.irc_support.proofs.ranks.Ranks.top.Goals as goal
-use Rattle.{irc_support.proofs.RankSets.{itself, no_bits, top_of_bits}, std.proofs.Common.refl}
-
-pub returns-then-self-eq0 : goal.returns-then-self-eq0
-returns-then-self-eq0 c =
-    rw (no_bits _ _ c.self.view_is c.if-self-eq0.true)
-    (record { value = refl; empty = (λ _. refl, λ _. refl); within = tt; highest = tt })
+use Rattle.{irc_support.proofs.RankSets.{itself, top_of_bits}, std.proofs.Common.refl}
 
 pub returns : goal.returns
 returns c =

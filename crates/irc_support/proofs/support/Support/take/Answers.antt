@@ -1,7 +1,6 @@
 use Rattle.irc_support.proofs.support.Support.take.Goals as goal
-use Rattle.{irc_line.specs.Line.has_command, irc_support.proofs.PendingTokens.AreApart-fold}
-use Rattle.{irc_support.specs.{Edits.tokens_in, Tokens.set_tokens}, std.proofs.Common.{codes, true}}
-use Rattle.std.proofs.Common.{◌≡◌}
+use Rattle.{irc_line.specs.Line.has_command, irc_support.specs.{Edits.tokens_in, Tokens.set_tokens}}
+use Rattle.{irc_support.proofs.PendingTokens.AreApart-fold, std.proofs.Common.{◌≡◌, codes, true}}
 
 pub invariant_of-self-2 : goal.invariant_of-self-2
 invariant_of-self-2 g c =
