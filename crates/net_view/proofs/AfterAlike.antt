@@ -1,16 +1,13 @@
--- The view after an item, from maps that answer alike; and what the laws of the step ask of a view:
--- views of transcripts have it.
+-- The view after an item, by maps that answer alike; what its laws ask each transcript's view has.
 use Rattle.std.specs.FinMap as fin
-use Rattle.net_view.proofs.AfterMaps.{channels_are, people_are, seen_somewhere}
-use Rattle.net_view.proofs.{FormSound.view_ranked, Keys.{bytes_exact, same_by_keys}}
-use Rattle.net_view.proofs.{SoundStep.view_sound, Words.{Arrival, Bool, Channel, ForSome, List}}
-use Rattle.net_view.proofs.Words.{None, Option, Person, Some, Text, Told, View, [], after_told, ap}
-use Rattle.net_view.proofs.Words.{arith, bytes_cmp, channel_after, channels_after, cond, false}
-use Rattle.net_view.proofs.Words.{had_rank, has_rank, is_seen, is_some, is_us, name_before}
-use Rattle.net_view.proofs.Words.{nat_list_cmp_total, old_member, people_after, person_after}
-use Rattle.net_view.proofs.Words.{person_from, rank_count, ranks_that, refl, same, says_member}
-use Rattle.net_view.proofs.Words.{says_mode, says_on, says_rank, says_topic, standing_of}
-use Rattle.net_view.proofs.Words.{told_person, true, view_of, ℕ, ◌||◌, ◌≡◌}
+use Rattle.net_view.proofs.Words
+use Words.{◌||◌, ◌≡◌, Arrival, Bool, Channel, ForSome, List, None, Option, Person, Some, Text, Told}
+use Words.{View, [], after_told, ap, arith, bytes_cmp, channel_after, channels_after, cond, false}
+use Words.{had_rank, has_rank, is_seen, is_some, is_us, name_before, nat_list_cmp_total, old_member}
+use Words.{people_after, person_after, person_from, rank_count, ranks_that, refl, same, says_member}
+use Words.{says_mode, says_on, says_rank, says_topic, standing_of, told_person, true, view_of, ℕ}
+use Rattle.net_view.proofs.{AfterMaps.{channels_are, people_are, seen_somewhere}, Keys.bytes_exact}
+use Rattle.net_view.proofs.{FormSound.view_ranked, Keys.same_by_keys, SoundStep.view_sound}
 pub use Rattle.net_view.proofs.{AfterMaps.{channel_is, seen_in}, Keys.{is_same, same_refl}}
 pub use Rattle.net_view.specs.MemberSets.{AreSets, HasSets, IsKnowing}
 
@@ -117,8 +114,7 @@ seen_put cs c is n false here = seen_alike cs _ n n (λ d. grind look_ups)
 module _ (v : View) (sets : HasSets v) (t : Told) (c : Text)
     (quiet : (d : Text) → same d c ≡ false → IsQuiet (us_of v) t d) where
   pub view_put : (is : Channel) (ps : fin.FinMap bytes_cmp Person)
-      → channel_after (us_of v) t c (fin.get v.channels c) ≡ Some is
-      → ((n : Text)
+      → channel_after (us_of v) t c (fin.get v.channels c) ≡ Some is → ((n : Text)
       → person_after (us_of v) t (fin.insert v.channels c is) v.people n ≡ fin.get ps n)
       → after_told v t
       ≡ record (after_told v t) { channels = fin.insert v.channels c is; people = ps }
@@ -127,11 +123,10 @@ module _ (v : View) (sets : HasSets v) (t : Told) (c : Text)
       grind (arith, quiet_channel (us_of v) t d, sets d, quiet d, is_same d c, made, get_put))
 
   -- or where it stays as it was, and all persons do
-  pub view_stays : IsKnowing v
-      → channel_after (us_of v) t c (fin.get v.channels c) ≡ fin.get v.channels c
-      → ((n : Text) → person_from (us_of v) t v.channels v.people n
-      ≡ told_person None None None (fin.get v.people n))
-      → after_told v t ≡ record (after_told v t) { channels = v.channels; people = v.people }
+  pub view_stays : IsKnowing v → channel_after (us_of v) t c (fin.get v.channels c)
+      ≡ fin.get v.channels c → ((n : Text) → person_from (us_of v) t v.channels v.people n
+      ≡ told_person None None None (fin.get v.people n)) → after_told v t
+      ≡ record (after_told v t) { channels = v.channels; people = v.people }
   view_stays known stays tells =
       view_after v t _ _
       (λ d. grind (arith, quiet_channel (us_of v) t d, sets d, quiet d, is_same d c, stays))

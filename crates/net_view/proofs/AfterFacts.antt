@@ -1,10 +1,9 @@
--- The view after what tells of a person alone: ACCOUNT and AWAY; and after what tells of the
--- settings alone.
+-- The view after what tells of a person alone, as ACCOUNT and AWAY, or of the settings alone.
 use Rattle.net_view.proofs.AfterAlike.{HasSets, IsKnowing, all_channels_stay, all_persons_stay}
-use Rattle.net_view.proofs.AfterAlike.{get_put, look_ups, quiet_channel, us_of, view_after}
-use Rattle.net_view.proofs.Words.{◌≡◌, HasAccount, IsAway, List, Option, Person, Settles, Supports}
-use Rattle.net_view.proofs.Words.{Text, View, after_told, arith, readied, settings_after}
-use Rattle.net_view.{proofs.Words.standing_of, specs.Changes.{on_person, with_account, with_away}}
+use Rattle.net_view.proofs.{AfterAlike.{look_ups, quiet_channel, us_of, view_after}, Words.◌≡◌}
+use Rattle.net_view.proofs.Words.{HasAccount, IsAway, List, Option, Settles, Supports, Text, View}
+use Rattle.net_view.proofs.Words.{after_told, arith, readied, settings_after, standing_of}
+use Rattle.net_view.specs.Changes.{on_person, with_account, with_away}
 
 module _ (v : View) (sets : HasSets v) (known : IsKnowing v) where
   -- an ACCOUNT of who is known (IRCv3 account-notify)
@@ -13,8 +12,7 @@ module _ (v : View) (sets : HasSets v) (known : IsKnowing v) where
   after_account who account =
       let t = HasAccount who account in
       view_after v t v.channels _ (λ c. grind (look_ups, quiet_channel (us_of v) t c, sets c))
-      (λ n. let put = λ (p : Person). get_put v.people who (with_account account p) n in
-      grind (look_ups, known n, put))
+      (λ n. grind (look_ups, known n))
 
   -- an AWAY of who is known (IRCv3 away-notify)
   pub after_away : (who : Text) (text : Option Text)
@@ -22,7 +20,7 @@ module _ (v : View) (sets : HasSets v) (known : IsKnowing v) where
   after_away who text =
       let t = IsAway who text in
       view_after v t v.channels _ (λ c. grind (look_ups, quiet_channel (us_of v) t c, sets c))
-      (λ n. grind (look_ups, known n, λ (p : Person). get_put v.people who (with_away text p) n))
+      (λ n. grind (look_ups, known n))
 
   -- 376 and 422 fix the settings (RFC 2812, sections 5.1 and 5.2)
   pub after_settled : after_told v Settles ≡ readied v

@@ -1,14 +1,13 @@
 -- The maps of the view after an item, asked key by key, for any view before it.
-use Rattle.net_view.proofs.Words
-use Words.{◌≡◌, ◌∙◌, arith, ℕ, Bool, true, is_some, option_and_then, unwrap_or, nat_cmp_total}
-use Words.{nat_list_cmp_total, Option, Text, bytes_cmp, Told, name_before, says_member, channels_in}
-use Words.{table_gets, Channel, Person, old_member, mode_after, member_after, channel_from}
-use Words.{channel_after, channels_after, is_seen, person_after, people_after, says_topic, same}
-use Words.{people_in, nat_cmp, eq_by_cmp, letters_in}
 use Rattle.std.specs.FinMap as fin
-use Rattle.net_view.proofs.Keys.{bytes_exact, not_kept, same_by_keys, met_at, some_key}
-use Rattle.net_view.proofs.Channels.{says_mode_none, name_stays, says_member_none}
-use Rattle.net_view.proofs.{Tests.absent, Tests.is_some_when, People.seen_none}
+use Rattle.net_view.proofs.Channels.{name_stays, says_member_none, says_mode_none}
+use Rattle.net_view.proofs.Keys.{bytes_exact, met_at, not_kept, same_by_keys, some_key, text_tables}
+use Rattle.net_view.proofs.{People.seen_none, Tests.absent, Words.{◌∙◌, ◌≡◌, Bool, Channel, Option}}
+use Rattle.net_view.proofs.Words.{Person, Text, Told, arith, bytes_cmp, channel_after, channel_from}
+use Rattle.net_view.proofs.Words.{channels_after, is_seen, is_some, member_after, mode_after}
+use Rattle.net_view.proofs.Words.{name_before, nat_cmp_total, nat_list_cmp_total, old_member}
+use Rattle.net_view.proofs.Words.{option_and_then, people_after, person_after, says_member}
+use Rattle.net_view.proofs.Words.{says_topic, table_gets, true, unwrap_or, ℕ}
 
 module _ (us : Text → Bool) (t : Told) where
   -- ---- channels
@@ -16,12 +15,10 @@ module _ (us : Text → Bool) (t : Told) where
   pub get-channels_after : (cs : fin.FinMap bytes_cmp Channel) (c : Text)
       → fin.get (channels_after us t cs) c ≡ channel_after us t c (fin.get cs c)
   get-channels_after cs =
-      table_gets nat_list_cmp_total bytes_exact _ _
-      (λ c h. grind (arith, absent (same c) (channels_in t) _ h, not_kept cs c))
+      table_gets nat_list_cmp_total bytes_exact _ _ (λ c h. grind (arith, absent, not_kept cs c))
 
-  pub channels_are : (cs new : fin.FinMap bytes_cmp Channel)
-      → ((c : Text) → channel_after us t c (fin.get cs c) ≡ fin.get new c)
-      → channels_after us t cs ≡ new
+  pub channels_are : (cs new : fin.FinMap bytes_cmp Channel) → ((c : Text)
+      → channel_after us t c (fin.get cs c) ≡ fin.get new c) → channels_after us t cs ≡ new
   channels_are cs new is = same_by_keys (λ c. get-channels_after cs c ∙ is c)
 
   -- ---- persons
@@ -29,7 +26,7 @@ module _ (us : Text → Bool) (t : Told) where
   module _ (cs : fin.FinMap bytes_cmp Channel) (old : fin.FinMap bytes_cmp Person) where
     pub get-people_after : (n : Text)
         → fin.get (people_after us t cs old) n ≡ person_after us t cs old n
-    get-people_after = search (arith, table_gets, nat_list_cmp_total, bytes_exact, seen_none)
+    get-people_after = search (arith, text_tables, seen_none)
 
     pub people_are : (new : fin.FinMap bytes_cmp Person)
         → ((n : Text) → person_after us t cs old n ≡ fin.get new n) → people_after us t cs old ≡ new
@@ -41,33 +38,29 @@ module _ (us : Text → Bool) (t : Told) where
     pub get-modes_after : (name : Text) (letter : ℕ)
         → fin.get (channel_from us t c old name).modes letter ≡ mode_after us t c old letter
     get-modes_after name =
-        table_gets nat_cmp_total fin.nat_cmp-IsAntisymmetric _ _ (λ letter h.
-        grind (arith, absent (eq_by_cmp nat_cmp letter) (letters_in t), not_kept, says_mode_none))
+        let exact = fin.nat_cmp-IsAntisymmetric in
+        search (arith, table_gets, nat_cmp_total, exact, absent, not_kept, says_mode_none)
 
     pub get-members_after : (name n : Text)
         → fin.get (channel_from us t c old name).members n ≡ member_after us t c old n
     get-members_after name =
-        table_gets nat_list_cmp_total bytes_exact _ _ (λ n h.
-        let parts = absent (same n) (people_in t) _ h in
-        grind (arith, parts, not_kept, name_stays us t n, says_member_none c us t n))
+        search (arith, text_tables, absent, not_kept, name_stays, says_member_none)
 
     -- who is a member after the item
     pub contains-members_after : (name n : Text)
         → fin.contains_key (channel_from us t c old name).members n
         ≡ unwrap_or (says_member c us t n)
         (is_some (option_and_then (old_member old) (name_before us t n)))
-    contains-members_after name n = simp (get-members_after, is_some_when)
+    contains-members_after name n = grind (arith, get-members_after)
 
     pub channel_is : (is : Channel)
         → unwrap_or (says_topic c us t) (option_and_then (λ ch. ch.topic) old) ≡ is.topic
-        → ((letter : ℕ) → mode_after us t c old letter ≡ fin.get is.modes letter)
-        → ((n : Text) → member_after us t c old n ≡ fin.get is.members n)
-        → channel_from us t c old is.name ≡ is
+        → ((letter : ℕ) → mode_after us t c old letter ≡ fin.get is.modes letter) → ((n : Text)
+        → member_after us t c old n ≡ fin.get is.members n) → channel_from us t c old is.name ≡ is
     channel_is is topic modes members =
         let ms = fin.same_map nat_cmp_total fin.nat_cmp-IsAntisymmetric _ is.modes
         (λ letter. get-modes_after is.name letter ∙ modes letter) in
-        let ps = same_by_keys (λ n. get-members_after is.name n ∙ members n) in
-        grind (arith, topic, ms, ps)
+        simp (topic, ms, same_by_keys (λ n. get-members_after is.name n ∙ members n))
 
 -- a member of a channel is seen
 pub seen_in : (cs : fin.FinMap bytes_cmp Channel) (c n : Text)

@@ -1,5 +1,4 @@
--- The view after what tells of a channel alone: TOPIC, 332 and 331, MODE and 324. What a MODE and a
--- 324 leave is said by look-ups: any maps that answer so are the channel's.
+-- The view after TOPIC, 332, 331, MODE and 324; what MODE and 324 leave is said by look-ups.
 use Rattle.std.specs.FinMap as fin
 use Rattle.net_view.proofs.AfterAlike.{HasSets, IsKnowing, channel_is, look_ups, member_stays}
 use Rattle.net_view.proofs.{AfterAlike.{seen_put, us_of, view_put, view_stays}, Words.◌≡◌}
@@ -31,18 +30,16 @@ module _ (v : View) (sets : HasSets v) (known : IsKnowing v) (c : Text) where
 
   pub after_mode : (letters : List LetterChange) (modes : List ModeChange) (ch : Channel)
       → fin.get v.channels c ≡ Some ch
-      → (ms : fin.FinMap nat_cmp (Option Text)) (ps : fin.FinMap bytes_cmp (List ℕ))
-      → ((letter : ℕ) → fin.get ms letter
-      ≡ unwrap_or (last_in (setting_of letter) modes) (fin.get ch.modes letter))
+      → (ms : fin.FinMap nat_cmp (Option Text)) (ps : fin.FinMap bytes_cmp (List ℕ)) → ((letter : ℕ)
+      → fin.get ms letter ≡ unwrap_or (last_in (setting_of letter) modes) (fin.get ch.modes letter))
       → ((n : Text) → fin.get ps n ≡ option_map (ranks_changed letters n) (fin.get ch.members n))
       → after_told v (Changed c letters modes)
       ≡ record v { channels = fin.insert v.channels c (record ch { modes = ms; members = ps }) }
   after_mode letters modes ch e ms ps modes_are members_are =
       let t = Changed c letters modes in
       let is = record ch { modes = ms; members = ps } in
-      let made = channel_is (us_of v) t c (Some ch) is in
       view_put v sets t c (λ d h. grind look_ups) is v.people
-      (grind (look_ups, made, modes_are, members_are))
+      (grind (look_ups, channel_is (us_of v) t c (Some ch) is, modes_are, members_are))
       (λ n. grind (look_ups, known n, members_are n, seen_put v.channels c is n false))
 
   -- ---- 324
@@ -53,9 +50,8 @@ module _ (v : View) (sets : HasSets v) (known : IsKnowing v) (c : Text) where
       view_stays v sets (Listed c modes) c (λ d h. grind look_ups) known (cc) (λ n. refl)
 
   pub after_modes : (modes : List ModeChange) (ch : Channel) → fin.get v.channels c ≡ Some ch
-      → (ms : fin.FinMap nat_cmp (Option Text))
-      → ((letter : ℕ) → fin.get ms letter ≡ unwrap_or (last_in (setting_of letter) modes) None)
-      → after_told v (Listed c modes)
+      → (ms : fin.FinMap nat_cmp (Option Text)) → ((letter : ℕ) → fin.get ms letter
+      ≡ unwrap_or (last_in (setting_of letter) modes) None) → after_told v (Listed c modes)
       ≡ record v { channels = fin.insert v.channels c (record ch { modes = ms }) }
   after_modes modes ch e ms modes_are =
       let t = Listed c modes in

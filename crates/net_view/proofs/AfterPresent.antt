@@ -1,11 +1,9 @@
--- The view after one word of a name list; a list is its words, one after the other
--- (`name_lists_add_up`).
-use Rattle.net_view.proofs.Words.{◌≡◌, ◌∷◌, [], Some, None, Text, ranks_that, has_rank, Listing}
-use Rattle.net_view.proofs.Words.{Present, same, Channel, View, after_told, told_person}
+-- The view after one word of a name list; a list is its words in turn (`name_lists_add_up`).
 use Rattle.std.specs.FinMap as fin
-use Rattle.net_view.proofs.AfterAlike.{HasSets, IsKnowing, us_of, look_ups, member_stays}
-use Rattle.net_view.proofs.AfterAlike.{channel_is, seen_put, view_put, view_stays}
-use Rattle.net_view.specs.Changes.{with_ranks}
+use Rattle.net_view.proofs.{AfterAlike.{HasSets, seen_put, us_of, view_put}, Words.told_person}
+use Rattle.net_view.proofs.AfterAlike.{IsKnowing, channel_is, look_ups, member_stays, view_stays}
+use Rattle.net_view.{proofs.Words.{◌∷◌, ◌≡◌, Some, Text, View, [], same}, specs.Changes.with_ranks}
+use Rattle.net_view.proofs.Words.{Channel, Listing, None, Present, after_told, has_rank, ranks_that}
 
 module _ (v : View) (sets : HasSets v) (known : IsKnowing v) (c : Text) (l : Listing) where
   -- of a channel that we are not on

@@ -1,12 +1,11 @@
 -- The view after a NICK: the person is under the new key in all channels, with what was known.
-use Rattle.net_view.proofs.Words.{◌≡◌, ℕ, List, true, false, cond, option_map, Some, None, refl}
-use Rattle.net_view.proofs.Words.{Text, Name, same, bytes_cmp, Told, Renamed, is_us, counts}
-use Rattle.net_view.proofs.Words.{Channel, View, standing_of, after_told, is_seen}
 use Rattle.std.specs.FinMap as fin
-use Rattle.net_view.proofs.AfterAlike.{HasSets, IsKnowing, us_of, look_ups, member_stays, is_same}
-use Rattle.net_view.proofs.AfterAlike.{get_put, channel_is, seen_alike, all_channels_stay}
-use Rattle.net_view.proofs.AfterAlike.{all_persons_stay, view_after}
-use Rattle.net_view.specs.Changes.{renamed_in, renamed_channel, spelled_as}
+use Rattle.net_view.proofs.AfterAlike.{HasSets, channel_is, look_ups, seen_alike, us_of, view_after}
+use Rattle.net_view.proofs.AfterAlike.{IsKnowing, all_channels_stay, all_persons_stay, member_stays}
+use Rattle.net_view.proofs.{AfterAlike.{get_put, is_same}, Words.{Channel, after_told, standing_of}}
+use Rattle.net_view.{proofs.Words.◌≡◌, specs.Changes.{renamed_channel, renamed_in, spelled_as}}
+use Rattle.net_view.proofs.Words.{List, Name, None, Some, Text, Told, View, cond, refl, same, true}
+use Rattle.net_view.proofs.Words.{Renamed, bytes_cmp, counts, false, is_seen, is_us, option_map, ℕ}
 
 -- what stands under a key after a NICK
 renamed_at : {X : Type 0} (change : X → X) (old new : Text) (m : fin.FinMap bytes_cmp X) (n : Text)
@@ -22,10 +21,9 @@ module _ (v : View) (sets : HasSets v) (known : IsKnowing v) (old : Text) (new :
   -- one that does not count: another takes our own nick
   pub after_no_rename : counts (is_us (standing_of v)) old new.key ≡ false → after_told v t ≡ v
   after_no_rename not_ours =
-      let own : cond (us_of v old) (Some new.spelled) v.own ≡ v.own = grind look_ups in
       let cs = all_channels_stay (us_of v) t v.channels sets (λ c. grind look_ups) in
       let ps = all_persons_stay (us_of v) t v.channels v.people known (λ n. simp not_ours) in
-      simp (own, cs, ps)
+      grind (look_ups, cs, ps)
 
   module _ (ours : counts (is_us (standing_of v)) old new.key ≡ true)
       (is : fin.FinMap bytes_cmp Channel) (is_new : (c : Text)

@@ -1,14 +1,12 @@
--- What no item names has no answer; so the channels of a view are what is found of each by looking
--- back.
-use Rattle.net_view.proofs.Words
-use Words.{◌∷◌, ◌≡◌, ◌⊎◌, Bool, List, Listing, ModeChange, None, Reading, Some, Text, Told}
-use Words.{[], arith, channel_of, channels_in, channels_of, eq_by_cmp, false, is_some, last_in}
-use Words.{last_of, letters_in, list_any, lists, map, member_of, mode_of, name_before, name_on}
-use Words.{named, nat_cmp, nat_cmp_total, nat_list_cmp_total, ours}
-use Words.{people_in, refl, same, says_member, says_mode, setting_of, table_gets, unwrap_or, ℕ}
+-- What no item names has no answer; so a view's channels are what is found of each by looking back.
 use Rattle.std.specs.FinMap as fin
-use Rattle.net_view.proofs.{Keys.bytes_exact, Tests.{absent, any_append, cond_and_false}}
-use Rattle.net_view.specs.View.{members_of, modes_of}
+use Rattle.net_view.proofs.{Keys.text_tables, Tests.any_append, Words.{◌∷◌, ◌≡◌, ◌⊎◌, Bool, List}}
+use Rattle.net_view.proofs.Words.{Listing, ModeChange, None, Reading, Some, Text, Told, [], arith}
+use Rattle.net_view.proofs.Words.{channel_of, channels_in, channels_of, eq_by_cmp, false, is_some}
+use Rattle.net_view.proofs.Words.{last_in, last_of, letters_in, list_any, lists, map, member_of}
+use Rattle.net_view.proofs.Words.{mode_of, name_before, name_on, named, nat_cmp, nat_cmp_total}
+use Rattle.net_view.proofs.Words.{ours, people_in, refl, same, says_member, says_mode, setting_of}
+use Rattle.net_view.{proofs.Words.{table_gets, unwrap_or, ℕ}, specs.View.{members_of, modes_of}}
 
 pub covers_on : (items : List Reading) (c : Text)
     → list_any (same c) (named channels_in items) ≡ false → name_on items c ≡ None
@@ -49,18 +47,16 @@ pub covers_member : (items : List Reading) (c n : Text) → list_any (same n)
     (named people_in items) ≡ false → unwrap_or (last_of (says_member c) items n) false ≡ false
 covers_member [] c n h = refl
 covers_member (x ∷ older) c n h =
-    let (here, before) = absent (same n) (people_in x.told) (named people_in older) h in
-    let said = says_member_none c (ours x) x.told n here in
-    grind (arith, said, name_stays (ours x) x.told n here, covers_member older c n before)
+    grind (arith, any_append, says_member_none, name_stays (ours x), covers_member older c n)
 
 -- ---- the channels
 
 module _ (items : List Reading) (c : Text) where
   pub members_get : (n : Text) → fin.get (members_of items c) n ≡ member_of items c n
-  members_get = search (table_gets, nat_list_cmp_total, bytes_exact, covers_member, cond_and_false)
+  members_get = search (arith, text_tables, covers_member)
 
   pub modes_get : (letter : ℕ) → fin.get (modes_of items c) letter ≡ mode_of items c letter
   modes_get = search (table_gets, nat_cmp_total, fin.nat_cmp-IsAntisymmetric, covers_mode)
 
   pub channels_get : fin.get (channels_of items) c ≡ channel_of items c
-  channels_get = search (table_gets, nat_list_cmp_total, bytes_exact, covers_on)
+  channels_get = search (text_tables, covers_on)

@@ -1,16 +1,14 @@
 -- Which state line a line is: a line has one of the commands only.
-use Rattle.net_view.proofs.Words.{IfSome, ◌≡◌, ◌∷◌, arith, true, false, cond, List, []}
-use Rattle.net_view.proofs.Words.{is_some, list_any, str_eq_ignore_ascii_case, Some, codes}
-use Rattle.net_view.proofs.Words.{bytes_eq-Decides, Parts, has_command, Text, Token, Told, Silent}
-use Rattle.net_view.proofs.Words.{Received, command_text, state_commands, state_command}
-use Rattle.net_view.proofs.Words.{StateCommand, StateLine, state_lines, told, ℕ}
-use Rattle.net_view.specs.StateCommands.{is_state_command, other_commands}
-use Rattle.net_view.specs.StateLines.{is_state_line, told_by_welcome, told_by_join, told_by_part}
-use Rattle.net_view.specs.StateLines.{told_by_mode_reply, told_by_topic_reply, told_by_names}
-use Rattle.net_view.specs.StateLines.{told_by_account, told_by_away, told_by_isupport}
-use Rattle.net_view.specs.StateLines.{told_by_end_of_motd}
-use Rattle.std.proofs.{Common.get_or, Math.ListN.get_or-map}
-use Rattle.std.specs.{Char.to_ascii_lowercase, Str.str_to_ascii_lowercase}
+use Rattle.net_view.{proofs.Words.◌∷◌, specs.StateLines.{told_by_join, told_by_names, told_by_part}}
+use Rattle.net_view.{proofs.Words.{◌≡◌, ℕ}, specs.StateCommands.{is_state_command, other_commands}}
+use Rattle.net_view.proofs.Words.{IfSome, Received, Silent, Token, is_some, list_any, state_lines}
+use Rattle.net_view.proofs.Words.{List, Some, Text, Told, [], arith, codes, cond, false, told, true}
+use Rattle.net_view.proofs.Words.{Parts, bytes_eq-Decides, state_commands, str_eq_ignore_ascii_case}
+use Rattle.net_view.proofs.Words.{StateCommand, StateLine, command_text, has_command, state_command}
+use Rattle.net_view.specs.StateLines.{is_state_line, told_by_account, told_by_away, told_by_welcome}
+use Rattle.{net_view.specs.StateLines.told_by_end_of_motd, std.specs.Char.to_ascii_lowercase}
+use Rattle.net_view.specs.StateLines.{told_by_isupport, told_by_mode_reply, told_by_topic_reply}
+use Rattle.std.{proofs.{Common.get_or, Math.ListN.get_or-map}, specs.Str.str_to_ascii_lowercase}
 
 -- a line of a command has each other exactly where the two are one but for the case of letters
 pub has_command-named : (line : Parts) (name : Text) → has_command line name ≡ true → (other : Text)

@@ -1,5 +1,4 @@
--- What every view is like, so that what is written of it is read back: tokens, letters of modes,
--- ranks.
+-- What every view is like, so that it is read back as written: tokens, letters of modes, ranks.
 use Rattle.std.specs.FinMap as fin
 use Rattle.irc_support.proofs.{ModesRead.changes_unsigned, RankSets.ranks_that-has_rank}
 use Rattle.irc_support.{proofs.TokensRead.tokens_set, specs.Written.{AreTokens, is_sign}}

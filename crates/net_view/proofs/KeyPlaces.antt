@@ -1,12 +1,10 @@
--- The entries of a finite map by place, in any order of keys: what is the least above a key, again
--- and again.
+-- The entries of a map by place, in any order of keys: the least above a key, again and again.
 use Rattle.std.specs.FinMap as fin
-use Rattle.net_view.proofs.Words.{◌+◌, ◌<◌, ◌∷◌, ◌≡◌, Bool, List, None, Option, Ordering, Some, []}
-use Rattle.net_view.proofs.Words.{arith, cond, is_some, length, option_map, refl, slice_get, suc}
-use Rattle.net_view.{proofs.Words.{true, ℕ}, specs.Least.{IsNextBy, above_by}}
-use Rattle.std.proofs.{Common.◌≤◌, lemmas.Option.{slice_get_cases, slice_get_past}}
-use Rattle.std.{proofs.lemmas.Option.slice_get_within, specs.Cmp.IsTotalOrder}
-use Rattle.std.specs.{FinMap.Entries.below_all, Option.IfSome, Ordering.is_lt}
+use Rattle.{net_view.proofs.Words.{◌+◌, ◌<◌, ◌∷◌, ◌≡◌, Bool, List, None, []}, std.proofs.Common.◌≤◌}
+use Rattle.net_view.proofs.Words.{Option, Ordering, Some, arith, cond, is_some, length, option_map}
+use Rattle.net_view.{proofs.Words.{refl, slice_get, suc, true, ℕ}, specs.Least.{IsNextBy, above_by}}
+use Rattle.std.proofs.lemmas.Option.{slice_get_cases, slice_get_past, slice_get_within}
+use Rattle.std.specs.{Cmp.IsTotalOrder, FinMap.Entries.below_all, Option.IfSome, Ordering.is_lt}
 
 -- the keys that pass a test, by place, in their order
 pub record ArePlaces {K : Type 0} (R : K → K → Ordering) (there : K → Bool) (at : ℕ → Option K)

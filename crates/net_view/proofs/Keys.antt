@@ -1,9 +1,10 @@
 -- Keys in lists and in tables.
-use Rattle.net_view.proofs.Words.{◌≡◌, ◌∷◌, arith, Bool, true, false, List, [], list_any, Ordering}
-use Rattle.net_view.proofs.Words.{eq_by_cmp, nat_list_cmp_total, None, ap, Text, same, bytes_cmp}
 use Rattle.std.specs.FinMap as fin
-use Rattle.std.specs.{Ordering.is_eq, Cmp.tied_itself}
-use Rattle.net_view.specs.Table.{is_equal}
+use Rattle.net_view.proofs.Words.{◌∷◌, ◌≡◌, Bool, List, None, Ordering, Text, [], ap, arith}
+use Rattle.net_view.proofs.Words.{bytes_cmp, eq_by_cmp, false, list_any, nat_list_cmp_total, same}
+use Rattle.net_view.{proofs.Words.{table_gets, true}, specs.Table.is_equal}
+use Rattle.std.specs.{Cmp.tied_itself, Ordering.is_eq}
+pub use Rattle.std.specs.Cmp.Lexicographic.{texts_ties}
 
 pub bytes_exact : fin.IsAntisymmetric bytes_cmp
 bytes_exact = fin.slice_cmp-IsAntisymmetric fin.nat_cmp-IsAntisymmetric
@@ -27,6 +28,9 @@ not_kept m q h = grind (arith, fin.contains_key-keys m q)
 
 pub same_refl : (a : Text) → same a a ≡ true
 same_refl a = ap is_eq (tied_itself nat_list_cmp_total a)
+
+-- tables by keys of names
+pub ruleset text_tables = (table_gets, nat_list_cmp_total, bytes_exact)
 
 -- a test that is met in a list is met at one of its keys
 pub some_key : (p : Text → Bool) (xs : List Text) → list_any p xs ≡ true → (k : Text) × (p k ≡ true)

@@ -1,9 +1,8 @@
 -- What is found by looking back is what the last item that speaks says.
-use Rattle.net_view.proofs.Words.{◌++◌, ◌∙◌, ◌∷◌, ◌≡◌, ◌⊎◌, Bool, IsSaidLast, List, None, Option}
-use Rattle.net_view.proofs.Words.{Reading, Says, Some, Text, Told, [], append_assoc, arith, cond}
-use Rattle.net_view.proofs.Words.{in_sight, is_on, known, last, last_of, name_before, name_traced}
-use Rattle.net_view.proofs.Words.{option_and_then, option_or, ours, refl, same_Some, sym, true}
-use Rattle.net_view.{proofs.Words.unwrap_or, specs.Found.{IsKnown, IsSaidLastOf}}
+use Rattle.net_view.{proofs.Words.{◌++◌, ◌∷◌, ◌≡◌, ◌⊎◌, Bool}, specs.Found.{IsKnown, IsSaidLastOf}}
+use Rattle.net_view.proofs.Words.{IsSaidLast, List, None, Option, Reading, Says, Some, Text, Told}
+use Rattle.net_view.proofs.Words.{[], append_assoc, arith, in_sight, is_on, known, last, last_of}
+use Rattle.net_view.proofs.Words.{name_before, name_traced, ours, refl, same_Some, true}
 
 cases : {X : Type 0} (xs : List X) → (xs ≡ []) ⊎ ((x : X) × (rest : List X) × (xs ≡ x ∷ rest))
 cases [] = grind arith
@@ -13,21 +12,6 @@ traced_on : (front : List Reading) (x : Reading) (n k : Text) → name_traced fr
     → name_traced (front ++ x ∷ []) n ≡ name_before (ours x) x.told k
 traced_on [] x n k h = grind arith
 traced_on (y ∷ front) x n k h = grind (arith, traced_on front)
-
--- an item says nothing of a person, and who it is followed back to has the answer
-said_before : {A : Type 0} (said : Option A) (before : Option Text) (f : Text → Option A)
-    (g : Text → Option Text) (name : Text) (answer : A) → said ≡ None → option_and_then g before
-    ≡ Some name → ((j : Text) → before ≡ Some j → g j ≡ Some name → f j ≡ Some answer)
-    → option_or said (option_and_then f before) ≡ Some answer
-said_before said before f g name answer none traced found = grind arith
-
--- the same, where the person is in sight
-known_still : (sight : Bool) (said : Option (Option Text)) (before : Option Text)
-    (f g : Text → Option Text) (name answer : Text) → sight ≡ true → said ≡ None
-    → option_and_then g before ≡ Some name
-    → ((j : Text) → before ≡ Some j → g j ≡ Some name → f j ≡ Some answer)
-    → cond sight (unwrap_or said (option_and_then f before)) None ≡ Some answer
-known_still sight said before f g name answer seen none traced found = grind arith
 
 -- ---- of a matter
 
@@ -43,16 +27,13 @@ module _ {A : Type 0} (says : (Text → Bool) → Told → Option A) where
   pub last_found : (items : List Reading) (answer : A) → last says items ≡ Some answer
       → IsSaidLast says items answer
   last_found [] answer h = cc
-  last_found (x ∷ older) answer h = by (says (ours x) x.told) refl (last_found older answer) where
-    by : (o : Option A) → says (ours x) x.told ≡ o
-        → (last says older ≡ Some answer → IsSaidLast says older answer)
-        → IsSaidLast says (x ∷ older) answer
-    by (Some a) e found =
-        said_at _ [] older x answer refl (cc) (λ front y rest s. grind (arith, cases front))
-    by None e found =
-        let r = found (cc) in
-        said_at _ (x ∷ r.newer) r.older r.at answer (cc) r.said (λ front y rest s.
-        grind (arith, cases front, r.silent))
+  last_found (x ∷ older) answer h =
+      let here = λ (e : says (ours x) x.told ≡ Some answer). said_at (x ∷ older) [] older x answer
+      refl e (λ front y rest s. grind (arith, cases front)) in
+      let before = λ (e : says (ours x) x.told ≡ None) (s : last says older ≡ Some answer).
+      let r = last_found older answer s in said_at (x ∷ older) (x ∷ r.newer) r.older r.at answer
+      (cc) r.said (λ front y rest t. grind (arith, cases front, r.silent)) in
+      grind (arith, here, before)
 
   pub found_last : (items : List Reading) (answer : A) → IsSaidLast says items answer
       → last says items ≡ Some answer
@@ -108,9 +89,7 @@ module _ {A : Type 0} (says : (Text → Bool) → Told → Text → Option A) wh
         → last_of says (newer ++ r.at ∷ r.older) k ≡ Some answer
     from front [] k s t w = cc
     from front (x ∷ newer) k s t w =
-        said_before _ _ (last_of says (newer ++ r.at ∷ r.older)) (name_traced newer) r.name answer
-        (r.silent front x newer k s t) w (λ j b v. from (front ++ x ∷ []) newer j
-        (s ∙ sym (append_assoc front (x ∷ []) newer)) (traced_on front x n k t ∙ b) v)
+        grind (arith, r.silent, traced_on front x n, from (front ++ x ∷ []) newer, append_assoc)
 
 -- ---- what is known of a person
 
@@ -163,7 +142,5 @@ module _ (says : Says) where
         → known says (newer ++ r.at ∷ r.older) k ≡ Some answer
     from front [] k s t w = grind (arith, r.seen front [])
     from front (x ∷ newer) k s t w =
-        known_still _ _ _ (known says (newer ++ r.at ∷ r.older)) (name_traced newer) r.name answer
-        (r.seen front (x ∷ newer) k s t) (r.silent front x newer k s t) w (λ j b v.
-        from (front ++ x ∷ []) newer j (s ∙ sym (append_assoc front (x ∷ []) newer))
-        (traced_on front x n k t ∙ b) v)
+        let seen = r.seen front (x ∷ newer) k s t in
+        grind (arith, seen, r.silent, traced_on front x, from (front ++ x ∷ []) newer, append_assoc)

@@ -16,12 +16,10 @@ pub mod Accounts
 pub mod AfterAlike
 pub mod AfterJoin
 pub mod AfterPart
-pub mod AfterOwnPart
 pub mod AfterFacts
 pub mod AfterModes
 pub mod AfterQuit
 pub mod AfterRename
-pub mod AfterOwnJoin
 pub mod AfterPresent
 pub mod TokensWritten
 pub mod WrittenViews
@@ -31,10 +29,6 @@ pub mod NameLists
 pub mod Thinned
 pub mod SeenStep
 pub mod Commands
-mod Transcripts
-mod MemberRows
-mod FactRows
-mod LineRows
-mod SeenRows
+mod Rows
 pub mod KeyPlaces
 pub mod Walks

@@ -1,26 +1,23 @@
 -- A name list tells what its parts tell one after the other.
-use Rattle.net_view.proofs.Words
-use Words.{◌≡◌, ◌&&◌, ◌||◌, ◌∷◌, ◌++◌, arith, Bool, List, [], is_some, option_or}
-use Words.{Option, Some, None, refl, sym, ap, Text, same, bytes_cmp, Listing, Present, Arrival}
-use Words.{told, last_in, lists, spelled_in, Channel, View, view_of, old_member, member_after}
-use Words.{channel_from, channel_after, channels_after, is_seen, after_told, after, IsSound}
 use Rattle.std.specs.FinMap as fin
-use Rattle.net_view.proofs.{Tests.any_append, RankSets.has-ranks, StepLaw.view_step}
-use Rattle.net_view.proofs.{SoundStep.view_sound, StepLaw.alike_when, StepLaw.last_listed}
-use Rattle.net_view.proofs.AfterMaps.{get-channels_after, get-modes_after, get-members_after}
-use Rattle.net_view.proofs.AfterMaps.{contains-members_after, get-people_after, seen_somewhere}
-use Rattle.net_view.proofs.AfterAlike.{us_of, look_ups, is_same, channel_is, view_after}
+use Rattle.net_view.proofs.Words
+use Words.{◌&&◌, ◌++◌, ◌||◌, ◌∷◌, ◌≡◌, Arrival, Bool, Channel, IsSound, List, Listing, None, Option}
+use Words.{Present, Some, Text, Token, View, [], after, after_told, ap, arith, bytes_cmp, is_seen}
+use Words.{channel_after, channel_from, channels_after, is_some, last_in, lists, member_after, refl}
+use Words.{old_member, option_or, same, slice_split, sym, told, true, view_of, words}
+use Rattle.net_view.proofs.AfterAlike.{channel_is, is_same, look_ups, us_of, view_after}
+use Rattle.net_view.proofs.AfterMaps.{contains-members_after, get-channels_after, get-members_after}
+use Rattle.net_view.proofs.AfterMaps.{get-modes_after, get-people_after, seen_somewhere}
+use Rattle.net_view.proofs.{PeopleSound.last_spelled, RankSets.has-ranks, SoundStep.view_sound}
+use Rattle.net_view.proofs.{StepLaw.{alike_when, last_listed, view_step}, Tests.any_append}
+use Rattle.{net_view.specs.StateLines.listings_of, std.proofs.lemmas.List.Splits.length-slice_split}
+use Rattle.std.proofs.lemmas.List.{map-append, Elements.{filter-append, filter_map-append}}
 
 -- the last of two lists
 last_in-append : {A B : Type 0} (says : B → Option A) (xs ys : List B)
     → last_in says (xs ++ ys) ≡ option_or (last_in says ys) (last_in says xs)
 last_in-append says [] ys = grind arith
 last_in-append says (x ∷ xs) ys = grind (arith, last_in-append says xs ys)
-
--- who is listed is spelled
-last_spelled : (n : Text) (ls : List Listing) → is_some (last_in (spelled_in n) ls) ≡ lists n ls
-last_spelled n [] = refl
-last_spelled n (l ∷ ls) = grind (arith, last_spelled n ls)
 
 -- who is seen, where those of this name on one channel are members too
 seen_more : (cs ds : fin.FinMap bytes_cmp Channel) (c n : Text) (more : Bool)
@@ -39,8 +36,7 @@ module _ (us : Text → Bool) (c : Text) where
     member_in_parts d ch n =
         let was = get-members_after us (Present c a) d (Some ch) ch.name n in
         alike_when _ _ _ _ (grind (arith, any_append, was)) (λ h rank is.
-        let ranked = last_listed n rank in
-        grind (arith, last_in-append, ranked a, ranked b, was, is, has-ranks))
+        grind (arith, last_in-append, last_listed n rank, was, is, has-ranks))
 
     channel_in_parts : (d : Text) (old : Option Channel)
         → channel_after us (Present c (a ++ b)) d old
@@ -70,10 +66,9 @@ view_in_parts v c a b sound =
     let is = get-channels_after us (Present c b) one in
     view_after v (Present c (a ++ b)) (channels_after us (Present c b) one) _
     (λ d. cc (channel_in_parts us c a b d (fin.get v.channels d), was d, is d)) (λ n.
-    let spelled = last_in-append (spelled_in n) a b in
     let seen = seen_more v.channels one c n (lists n a) (member_listed us c a v.channels n) in
     let more = seen_more one _ c n (lists n b) (member_listed us c b one n) in
-    grind (arith, get-people_after, seen, more, sound.known n, last_spelled n, was c, spelled))
+    grind (arith, get-people_after, seen, more, sound.known n, last_spelled n, was, last_in-append))
 
 pub lists_add_up : (items : List Arrival) (whole first second : Arrival) (c : Text)
     (a b : List Listing) → told (view_of items).settings whole ≡ Present c (a ++ b)
@@ -82,3 +77,16 @@ pub lists_add_up : (items : List Arrival) (whole first second : Arrival) (c : Te
 unfolding after
 lists_add_up items whole first second c a b w f s =
     simp (view_step, w, f, s, view_in_parts (view_of items) c a b (view_sound items))
+
+-- ---- the words of a text that is cut at a space
+
+slice_split-append : {X : Type 0} (p : X → Bool) (a : List X) (x : X) (b : List X) → p x ≡ true
+    → slice_split p (a ++ x ∷ b) ≡ slice_split p a ++ slice_split p b
+slice_split-append p [] x b e = cc
+slice_split-append p (y ∷ a) x b e =
+    grind (arith, length-slice_split p a, slice_split-append p a x b e)
+
+pub words_add_up : (settings : List Token) (a b : Text)
+    → listings_of settings (a ++ 32 ∷ b) ≡ listings_of settings a ++ listings_of settings b
+unfolding words
+words_add_up settings a b = simp (slice_split-append, filter-append, map-append, filter_map-append)

@@ -72,8 +72,7 @@ shown_rank : (settings : List Token) (symbols : Text) (rank : ℕ)
     → shows_rank settings symbols rank ≡ true → rank < rank_limit settings
 shown_rank settings [] rank h = cc
 shown_rank settings (b ∷ symbols) rank h =
-    let even = paired (ranking_of settings) (ranking_of-is settings) in
-    grind (arith, eqb-true, even, position-Some, shown_rank settings symbols rank)
+    grind (arith, eqb-true, paired, ranking_of-is, position-Some, shown_rank settings symbols rank)
 
 pub listing_sound : (settings : List Token) (text : Text)
     → IfSome (listing settings (word_of settings text)) (IsSoundListing settings)

@@ -1,14 +1,13 @@
 -- The persons of a view are those in sight, and what is known of each.
 use Rattle.std.specs.FinMap as fin
 use Rattle.net_view.proofs.Channels.{channels_get, covers_member, covers_on, members_get}
-use Rattle.net_view.proofs.{Keys.{bytes_exact, met_at, some_key}, Tests.{any_append, any_false}}
+use Rattle.net_view.proofs.{Keys.{met_at, some_key, text_tables}, Tests.{any_append, any_false}}
 use Rattle.net_view.proofs.{Tests.is_some_map, Words.{◌∷◌, ◌≡◌, Channel, List, None, Person}}
 use Rattle.net_view.proofs.Words.{Reading, Says, Text, [], arith, bytes_cmp, channels_in}
 use Rattle.net_view.proofs.Words.{channels_of, false, in_sight, is_member, is_on, is_seen, is_some}
-use Rattle.net_view.proofs.Words.{known, list_any, named, nat_list_cmp_total, old_member}
-use Rattle.net_view.proofs.Words.{option_and_then, people_of, refl, same, says_account, says_away}
-use Rattle.net_view.{proofs.Words.{says_spelling, table_gets, true}, specs.Step.members_at}
-use Rattle.{net_view.specs.View.person_of, std.proofs.Math.Path.fun_ext}
+use Rattle.net_view.proofs.Words.{known, list_any, named, old_member, option_and_then, people_of}
+use Rattle.net_view.proofs.Words.{refl, same, says_account, says_away, says_spelling, true}
+use Rattle.{net_view.specs.{Step.members_at, View.person_of}, std.proofs.Math.Path.fun_ext}
 
 pub unseen_none : (says : Says) (items : List Reading) (n : Text) → in_sight items n ≡ false
     → known says items n ≡ None
@@ -43,7 +42,7 @@ module _ (items : List Reading) where
   sight_seen n = grind (arith, some_key, met_at, in_keys, in_named, member_found)
 
   pub people_get : (n : Text) → fin.get (people_of items) n ≡ person_of items n
-  people_get = search (arith, table_gets, nat_list_cmp_total, bytes_exact, any_false, covers_member)
+  people_get = search (arith, text_tables, any_false, covers_member)
 
   pub spelling_field : (n : Text) → known says_spelling items n
       ≡ option_and_then (λ (p : Person). p.spelled) (person_of items n)

@@ -1,4 +1,5 @@
 -- Every network view is sound: its persons and its channels are so after one more item.
+use Rattle.std.specs.FinMap as fin
 use Rattle.net_view.proofs.Words
 use Words.{◌<◌, ◌∙◌, ◌∷◌, ◌≡◌, Arrival, Bool, Channel, ForSome, IfSome, IsAccount, IsFilled, IsKept}
 use Words.{IsSomeAnd, IsSound, IsSoundChannel, IsSpelling, List, ModeChange, Name, None, Option}
@@ -9,20 +10,15 @@ use Words.{old_member, old_mode, option_and_then, option_map, own_after, rank_li
 use Words.{ready_after, reverse, same, says_account, says_away, says_member, says_mode, says_rank}
 use Words.{says_spelling, says_topic, setting_of, settings_after, standing_of, sym, table, told}
 use Words.{true, unwrap_or, view_back, view_of, ℕ}
-use Rattle.std.specs.FinMap as fin
 use Rattle.net_view.proofs.AfterMaps.{channels_are, contains-members_after, get-channels_after}
 use Rattle.net_view.proofs.AfterMaps.{get-members_after, get-modes_after, get-people_after, seen_in}
 use Rattle.net_view.proofs.{AfterMaps.seen_somewhere, Emptied.{no_keys, no_people}, Holds.for_some}
 use Rattle.net_view.proofs.{Holds.{if_some, of_last, of_test}, Keys.{is_same, same_refl}}
 use Rattle.net_view.proofs.PartsSound.{IsSoundMode, IsSoundTold, said_sound, then_sound}
 use Rattle.net_view.proofs.PeopleSound.{new_member_is_spelled, said_spelling, unspelled_keeps_name}
-use Rattle.net_view.proofs.{RankSets.has_of_set, StepLaw.view_back_step, Tests.is_some_when}
-use Rattle.net_view.{proofs.{Tests.no_true, ToldSound.told_sound}, specs.Sound.IsSoundPerson}
-use Rattle.{net_view.specs.Step.known_after, std.proofs.lemmas.Option.cond_some}
-
-old_modes : (v : View) (c : Text) (o : Option Channel) → IfSome o (IsSoundChannel v c)
-    → (letter : ℕ) → IfSome (old_mode o letter) (IsKept (kind_of v.settings letter))
-old_modes v c o h letter = grind arith
+use Rattle.net_view.proofs.{RankSets.has_of_set, StepLaw.view_back_step, Tests.no_true}
+use Rattle.net_view.{proofs.ToldSound.told_sound, specs.{Sound.IsSoundPerson, Step.known_after}}
+use Rattle.std.proofs.lemmas.Option.{cond_some}
 
 -- a member of a channel after the item
 pub in_channel_after : (us : Text → Bool) (t : Told) (c : Text) (old : Option Channel) (n : Text)
@@ -55,22 +51,19 @@ seen_is_spelled v t sound told n h =
 
 -- ---- we stay a member of the channels that we are on, under whatever nick
 
--- whether the person of this key is a member of the channel after an item
-abbrev pub is_in : Text → (Text → Bool) → Told → Option Channel → Text → Bool
-is_in c us t old n =
-    unwrap_or (says_member c us t n)
-    (is_some (option_and_then (old_member old) (name_before us t n)))
-
--- whether we are
+-- whether we are a member of the channel after an item
 abbrev pub WeAreIn : Text → Standing → Told → Option Channel → Type 0
 WeAreIn c s t old =
-    IsSomeAnd (own_after t s) (λ mine. is_in c (is_us s) t old (key_by s.settings mine) ≡ true)
+    IsSomeAnd (own_after t s) (λ mine. let n = key_by s.settings mine in
+    unwrap_or (says_member c (is_us s) t n)
+    (is_some (option_and_then (old_member old) (name_before (is_us s) t n))) ≡ true)
 
 -- under our own nick's key we stay a member, but at our own NICK
 stays : (us : Text → Bool) (t : Told) (c k : Text) (ch : Channel) → ((n : Text) → us n ≡ same k n)
     → ends us t c ≡ false → begins us t c ≡ None → fin.contains_key ch.members k ≡ true
     → ((old : Text) (new : Name) → t ≡ Renamed old new → us old ≡ false)
-    → is_in c us t (Some ch) k ≡ true
+    → unwrap_or (says_member c us t k)
+    (is_some (option_and_then (old_member (Some ch)) (name_before us t k))) ≡ true
 stays us t c k ch mine h b m other = grind arith
 
 -- we are a member after an item that leaves us on the channel
@@ -148,8 +141,8 @@ module _ (v : View) (t : Told) (sound : IsSound v) (told : IsSoundTold v.setting
         own = simp (on.settings, contains-members_after us t c old) on.own;
         topic = said_sound IsFilled (says_topic c us t) _ (grind arith) (grind (arith, was));
         modes = λ letter. simp (on.settings, get-modes_after us t c old)
-            (said_sound _ _ _ (says_mode_sound v.settings us t c told letter)
-            (old_modes v c old was letter));
+            (said_sound _ _ (old_mode old letter) (says_mode_sound v.settings us t c told letter)
+            (grind (arith, was)));
         ranks = λ n. simp (on.settings, get-members_after us t c old) (for_some _ _
             (grind (arith, was, of_test, ranks_sound v.settings us t c told)));
         spelled = λ n e.
@@ -187,7 +180,7 @@ sound_step v t sound told = record {
         away = said_sound IsFilled (says_away us on t n) _ (grind arith)
             (then_sound _ _ (was (λ p. p.away)) (λ m. grind (arith, person m)));
       });
-  known = λ n. simp (get-people_after, is_some_when);
+  known = λ n. grind (arith, get-people_after);
 }
 
 pub sound_back : (items : List Arrival) → IsSound (view_back items)

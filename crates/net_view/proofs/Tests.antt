@@ -1,8 +1,8 @@
 -- Answers that are true or false, and options.
-use Rattle.net_view.proofs.Words.{◌≡◌, ◌&&◌, ◌||◌, ◌∷◌, ◌++◌, arith, Bool, true, false, cond, List}
-use Rattle.net_view.proofs.Words.{[], is_some, list_any, option_map, Option, Some, None, refl}
-pub use Rattle.irc_line.proofs.Logic.{and_parts, no_true, none_of_is_some}
 pub use Rattle.std.proofs.lemmas.List.Folds.{list_any-append as any_append}
+use Rattle.net_view.proofs.Words.{◌++◌, ◌||◌, ◌∷◌, ◌≡◌, Bool, List, Option, [], arith, false}
+use Rattle.net_view.proofs.Words.{is_some, list_any, option_map, refl, true}
+pub use Rattle.irc_line.proofs.Logic.{and_parts, no_true, none_of_is_some}
 
 pub or_false : (a b : Bool) → (a || b) ≡ false → (a ≡ false) × (b ≡ false)
 or_false a b e = grind arith
@@ -11,13 +11,6 @@ pub absent : {A : Type 0} (p : A → Bool) (xs ys : List A) → list_any p (xs +
     → (list_any p xs ≡ false) × (list_any p ys ≡ false)
 absent p xs ys h = grind (arith, any_append)
 
-pub cond_and_false : {A : Type 0} (a b : Bool) (x y : A) → b ≡ false → cond (a && b) x y ≡ y
-cond_and_false a b x y e = grind arith
-
-pub when : {A : Type 0} (b : Bool) (x y : A) → (b ≡ true → x ≡ y)
-    → cond b (Some x) None ≡ cond b (Some y) None
-when b x y e = grind arith
-
 pub any_false : {A : Type 0} (p : A → Bool) (xs : List A) → ((x : A) → p x ≡ false)
     → list_any p xs ≡ false
 any_false p [] h = refl
@@ -25,12 +18,6 @@ any_false p (x ∷ xs) h = grind (arith, any_false p xs h)
 
 pub both_or_neither : (a b : Bool) → (a ≡ true → b ≡ true) → (b ≡ true → a ≡ true) → a ≡ b
 both_or_neither a b f g = grind arith
-
-pub false_true : (b : Bool) → b ≡ false → b ≡ true → ⊥
-false_true b f t = cc
-
-pub is_some_when : {A : Type 0} (b : Bool) (x : A) → is_some (cond b (Some x) None) ≡ b
-is_some_when b x = grind arith
 
 pub is_some_map : {A B : Type 0} (f : A → B) (o : Option A) → is_some (option_map f o) ≡ is_some o
 is_some_map f o = grind arith

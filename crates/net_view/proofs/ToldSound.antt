@@ -1,5 +1,4 @@
--- What each line tells is well formed, whichever lines the views read, and only 005 tells more
--- settings.
+-- What each line tells is well formed, whichever lines views read; only 005 tells more settings.
 use Rattle.{irc_support.specs.Ranking.rank_of_letter, net_view.proofs.Holds.of_told}
 use Rattle.net_view.proofs.PartsSound.{Each, IsSoundListing, IsSoundMode, IsSoundTold, each_found}
 use Rattle.net_view.proofs.{PartsSound.listing_sound, Words.{◌<◌, ◌∷◌, ◌≡◌, Arrival, IfSome}}

@@ -82,12 +82,14 @@ pub fn a_name_is_a_person()
 {}
 
 /// A client that holds all four capabilities sees the whole view, whenever it came.
+#[tactic(auto, using(crate::proofs::SeenStep::seen_whole))]
 pub fn all_capabilities_see_all()
     ensures { (items : List Arrival) (a : ℕ) → seen_since items a all_caps ≡ view_of items }
 {}
 
 /// Name lists add up: a list tells what two tell that have its words, one list after the other. So
 /// it can be cut into lines between any words.
+#[tactic(auto, using(crate::proofs::NameLists::lists_add_up, crate::proofs::NameLists::words_add_up))]
 pub fn name_lists_add_up()
     ensures lists { (items : List Arrival) (whole first second : Arrival) (c : Text)
         (a b : List Listing) →

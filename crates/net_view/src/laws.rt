@@ -11,6 +11,7 @@ ghost use Rattle.net_view.specs.View.{view_of, empty_view, lost_view};
 ghost use Rattle.net_view.specs.Step.{after};
 
 /// A view is a state: whatever comes next, two transcripts that had one view have one view.
+#[tactic(auto, using(crate::proofs::StepLaw::same_more))]
 pub fn a_view_is_a_state()
     ensures { (items others more : List Arrival) → view_of items ≡ view_of others →
         view_of (items ++ more) ≡ view_of (others ++ more) }
@@ -18,6 +19,7 @@ pub fn a_view_is_a_state()
 
 /// The view goes step by step: it begins empty, and the view after an item is a function of the
 /// view before it and that item.
+#[tactic(auto, using(crate::proofs::StepLaw::view_start, crate::proofs::StepLaw::view_step))]
 pub fn views_go_by_steps()
     ensures start { view_of [] ≡ empty_view }
     ensures step { (items : List Arrival) (x : Arrival)
@@ -25,6 +27,7 @@ pub fn views_go_by_steps()
 {}
 
 /// What is no state line changes nothing.
+#[tactic(auto, using(crate::proofs::StepLaw::view_unchanged))]
 pub fn only_state_items_count()
     ensures { (items : List Arrival) (x : Arrival) → is_state_item x ≡ false →
         view_of (items ++ x ∷ []) ≡ view_of items }
@@ -33,6 +36,7 @@ pub fn only_state_items_count()
 /// Whether a line is a state line is read off any spelling of its command: it is where that is one
 /// of the seventeen. So no message, no `PING`, `PONG`, `ERROR`, `CAP`, `BATCH` and `AUTHENTICATE`,
 /// and none of the replies `002`, `003`, `004` and `366` is one.
+#[tactic(auto, using(crate::proofs::Commands::is_state_by_name, crate::proofs::Commands::no_state_line))]
 pub fn other_commands_tell_nothing()
     ensures named { (line : Parts) (name : Text) → IsTrue (has_command line name) →
         is_state_line line ≡ is_state_command name }
@@ -41,6 +45,7 @@ pub fn other_commands_tell_nothing()
 {}
 
 /// A loss leaves own nick and settings, no channel and nobody known.
+#[tactic(auto, using(crate::proofs::Emptied::view_lost))]
 pub fn a_loss_empties_the_view()
     ensures { (items : List Arrival) → view_of (items ++ Lost ∷ []) ≡ lost_view (view_of items) }
 {}

@@ -122,6 +122,7 @@ pub enum Telling<'a, A: Allocator> {
 }
 
 /// Whether the line can tell something, that is, whether a view keeps it.
+#[tactic(auto, using(crate::proofs::Commands::is_read))]
 pub fn is_state_line<A: Allocator>(line: &Line<A>) -> bool
     ensures { result ≡ is_state_line line.now }
 {
@@ -148,6 +149,7 @@ pub fn is_word(text: &[u8]) -> bool
 }
 
 /// The account that a parameter tells, where it is a word; `*` tells that there is none.
+#[tactic(auto, using(crate::proofs::Keys::texts_ties))]
 fn account_said(text: &[u8]) -> Option<Option<&[u8]>>
     ensures { option_map (option_map (λ name. name.now)) result ≡ account_said text.now }
 {

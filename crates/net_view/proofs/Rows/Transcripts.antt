@@ -1,12 +1,17 @@
--- Worked transcripts as text.
-use Prim.Native.String.{String}
-use Rattle.{irc_support.specs.{Ranking.spelled_by, Settings.mapping_of}, net_view.proofs.Words.◌++◌}
-use Rattle.net_view.proofs.Words.{◌∷◌, Arrival, List, None, Option, Reading, Received, Some, Text}
-use Rattle.net_view.proofs.Words.{[], changes, codes, filter, is_channel, is_member, is_word}
-use Rattle.net_view.proofs.Words.{kind_of, map, parts_of, rank_count, rank_decided, ranking_of}
-use Rattle.net_view.proofs.Words.{ranks_that, readings_of, reverse, set_tokens, state_lines, told}
-use Rattle.net_view.{proofs.Words.{words, ℕ}, specs.Facts.{account_of, away_of, spelling_of}}
-use Rattle.std.proofs.Common.{if◌then◌else◌}
+-- Worked transcripts as text, and the words for them.
+pub use Prim.Native.String.{String}
+pub use Rattle.irc_support.specs.{Ranking.spelled_by, Settings.mapping_of}
+pub use Rattle.net_view.{proofs.Words.{◌++◌, ◌∷◌, ◌≡◌, Arrival, Bool}, specs.Transcript.standing}
+pub use Rattle.net_view.proofs.Words.{Changed, HasAccount, HeldCaps, IsAway, Joined, Kicked, List}
+pub use Rattle.net_view.proofs.Words.{Listed, Lost, Name, None, Option, Parted, Present, Quits}
+pub use Rattle.net_view.proofs.Words.{Reading, Received, Renamed, Settles, Silent, Some, Supports}
+pub use Rattle.net_view.proofs.Words.{Text, Titled, Told, Welcomed, [], all_caps, changes, codes}
+pub use Rattle.net_view.proofs.Words.{false, filter, is_channel, is_member, is_word, kept_person}
+pub use Rattle.net_view.proofs.Words.{kind_of, map, mode_of, name_on, name_traced, parts_of}
+pub use Rattle.net_view.proofs.Words.{rank_count, rank_decided, ranking_of, ranks_that, readings_of}
+pub use Rattle.net_view.proofs.Words.{reverse, set_tokens, state_lines, take, thinned_ranks, told}
+pub use Rattle.{net_view.proofs.Words.{true, was_shown, words, ℕ}, std.proofs.Common.if◌then◌else◌}
+pub use Rattle.net_view.specs.{Facts.{account_of, away_of, spelling_of}, Topic.topic_of}
 
 -- what it takes to compute what transcripts mean
 unfoldable pub reading : Unit {0}
