@@ -1,19 +1,18 @@
 -- Values that are changed in turn, each in its place.
 use Rattle.net_view.proofs.Words
-use Words.{◌≡◌, ◌+◌, ◌<◌, ◌||◌, ◌++◌, ◌∷◌, ◌∙◌, ℕ, suc, Bool, true, false, List, [], map, length}
-use Words.{list_any, take, None, refl, sym, ap, arith, Text, bytes_cmp, nat_list_cmp_total, Channel}
-use Words.{is_seen}
 use Rattle.std.specs.FinMap as fin
-use Rattle.net_view.proofs.{AfterMaps.{seen_in, seen_somewhere}, Tests.both_or_neither}
-use Rattle.network_tables.proofs.{MarkLemmas.marked_shown, ShownLemmas.entries-shown}
-use Rattle.network_tables.{proofs.{ShownLemmas.sorted_shown, Sorted.find_at}, specs.Marks.AreMarked}
-use Rattle.network_tables.specs.Rooms.{channel_of, copies_of, copy_for, each_changed, is_in}
-use Rattle.network_tables.specs.{Rooms.{room_entry, rooms_of}, Shown.shown, Table.entry_of}
-use Rattle.{network_tables.specs.declared.{room.Room.Room, slot.Slot.Slot}, std.proofs.Common.drop}
-use Rattle.std.proofs.{Common.{get_or, length-append, set}, lemmas.List.Edits.map_over_more}
-use Rattle.std.proofs.lemmas.List.{drop_more, get_or-map, length-drop, length-map, length-take}
-use Rattle.std.{proofs.lemmas.List.{map-append, map-set, take_more}, specs.Option.option_map_or}
-use Rattle.std.specs.Prelude.{T, zero}
+use Words.{◌++◌, ◌+◌, ◌<◌, ◌∙◌, ◌∷◌, ◌≡◌, Bool, Channel, List, Text, [], ap, arith, bytes_cmp}
+use Words.{false, is_seen, length, list_any, map, nat_list_cmp_total, refl, suc, sym, take, true, ℕ}
+use Rattle.{net_view.proofs.AfterMaps.{seen_in, seen_somewhere}, std.proofs.lemmas.List.map-set}
+use Rattle.{net_view.proofs.Tests.both_or_neither, std.proofs.lemmas.List.Edits.map_over_more}
+use Rattle.network_tables.{proofs.{MarkLemmas.marked_shown, Sorted.find_at}, specs.Marks.AreMarked}
+use Rattle.network_tables.{proofs.ShownLemmas.{entries-shown, sorted_shown}, specs.Table.entry_of}
+use Rattle.network_tables.specs.Rooms.{channel_of, copy_for, each_changed, room_entry, rooms_of}
+use Rattle.{network_tables.specs.Rooms.{copies_of, is_in}, std.proofs.Common.{drop, get_or, set}}
+use Rattle.network_tables.specs.{Shown.shown, declared.{room.Room.Room, slot.Slot.Slot}}
+use Rattle.std.{proofs.Common.length-append, specs.{Option.option_map_or, Prelude.{T, zero}}}
+use Rattle.std.proofs.lemmas.List.{drop_more, get_or-map, length-map, map-append, take_more}
+use Rattle.std.proofs.lemmas.List.{length-drop, length-take, Folds.{Any-from_list_any, list_any_at}}
 
 module _ {Y : Type 0} (g : Y → Y) where
   abbrev done : ℕ → List Y → List Y
@@ -70,10 +69,9 @@ copies_more key n xs i x l at =
 -- what is met at a place
 pub any_at : {E Y : Type 0} (p : Y → Bool) (f : E → Y) (xs : List E) (i : ℕ) (x : E)
     → i < length xs → x ≡ get_or xs i x → p (f x) ≡ true → true ≡ list_any p (map f xs)
-any_at p f [] i x l at is = absurd (omega arith)
-any_at p f (y ∷ xs) zero x l at is = grind arith
-any_at p f (y ∷ xs) (suc i) x l at is =
-    let later = any_at p f xs i x (omega arith) at is in grind arith
+any_at p f xs i x l at is =
+    let there : p (get_or (map f xs) i (f x)) ≡ true = rw (get_or-map f xs i x (f x) l, ← at) is in
+    sym (list_any_at p (map f xs) i (f x) (omega (arith, length-map xs f)) there)
 
 -- the rooms of a table, by their entries
 module _ {A : Type 0} where
@@ -129,18 +127,6 @@ module _ {A : Type 0} where
 
 -- ---- who is seen
 
-some_place : {Y : Type 0} (p : Y → Bool) (ys : List Y) → list_any p ys ≡ true
-    → (i : ℕ) × (i < length ys) × ((d : Y) → p (get_or ys i d) ≡ true)
-some_place p [] h = cc
-some_place {Y} p (y ∷ ys) h =
-    elim (p y) as (λ b. p y ≡ b → (b || list_any p ys) ≡ true
-    → (i : ℕ) × (i < length (y ∷ ys)) × ((d : Y) → p (get_or (y ∷ ys) i d) ≡ true)) [
-      | true ↦ λ e _. (zero, omega arith, λ d. e)
-      | false ↦ λ e r.
-          let found = some_place p ys r in
-          (suc found.0, omega (arith, found.1), λ d. found.2 d)
-    ] refl h
-
 find_any : (p : Text × Channel → Bool) (q : Text) (test : Channel → Bool)
     → ((e : Text × Channel) → p e ≡ test e.1) → (es : List (Text × Channel))
     → option_map_or test (fin.find bytes_cmp q es) false ≡ true → list_any p es ≡ true
@@ -151,13 +137,11 @@ pub seen_is : (es : List (Text × Channel)) (n : Text) → T (fin.is_sorted byte
     → list_any (is_in n) es ≡ is_seen (fin.from_sorted es) n
 seen_is es n h =
     let cs : fin.FinMap bytes_cmp Channel = fin.from_sorted es in
-    let d : Channel =
-    record { name = []; topic = None; modes = fin.empty; members = fin.empty } in
     both_or_neither (list_any (is_in n) es) (is_seen cs n)
-    (λ t. let found = some_place (is_in n) es t in
-    let e : Text × Channel = get_or es (found.0) ([], d) in
-    let at = find_at nat_list_cmp_total es h (found.0) ([], d) (found.1) in
-    seen_in cs e.0 n (grind (arith, fin.get-from_sorted bytes_cmp es e.0 h, found.2 ([], d))))
+    (λ t. let found = Any-from_list_any (is_in n) es t in
+    let e : Text × Channel = get_or es found.0 found.1 in
+    let at = find_at nat_list_cmp_total es h found.0 found.1 found.2 in
+    seen_in cs e.0 n (grind (arith, fin.get-from_sorted bytes_cmp es e.0 h, found.3, found.4)))
     (λ t. let found = seen_somewhere cs n t in
     find_any (is_in n) (found.0) (λ (ch : Channel). fin.contains_key ch.members n) (λ e. refl) es
     (grind (arith, fin.get-from_sorted bytes_cmp es (found.0) h, found.1)))

@@ -1,11 +1,10 @@
 -- Keys stand as their heads do where these differ.
-use Rattle.{irc_support.specs.Text.Text, net_view.specs.Names.bytes_cmp}
-use Rattle.{network_tables.specs.Head.{AreBytesTo, head_at, head_of}, std.proofs.Common.arith}
-use Rattle.std.proofs.{Common.{drop, get_or, refl, sym}, Math.Nat.{mul-le-mul_right, pow-succ'}}
-use Rattle.std.specs.{Cmp.{Lexicographic.nat_list_cmp_total, ranks}, Ordering.MatchOrdering}
-use Rattle.std.specs.{Ordering.{nat_cmp, ordering_then}, Prelude.{[], length, suc, zero, ℕ, ◌*◌}}
-use Rattle.std.specs.{Prelude.{◌+◌, ◌<◌, ◌^◌, ◌∷◌, ◌≡◌, ◌≤◌}, declared.cmp.Ordering.Ordering}
-use Rattle.std.specs.declared.cmp.Ordering.TheVariants.{Equal, Greater, Less}
+use Rattle.{irc_support.specs.Text.Text, network_tables.specs.Head.{AreBytesTo, head_at, head_of}}
+use Rattle.{net_view.specs.Names.bytes_cmp, std.specs.Cmp.Lexicographic.nat_list_cmp_total}
+use Rattle.std.proofs.{Common.{arith, drop, refl, sym}, Math.Nat.{mul-le-mul_right, pow-succ'}}
+use Rattle.std.specs.{Cmp.ranks, Ordering.{MatchOrdering, nat_cmp, ordering_reverse, ordering_then}}
+use Rattle.std.specs.Prelude.{◌*◌, ◌+◌, ◌<◌, ◌^◌, ◌∷◌, ◌≡◌, ◌≤◌, [], length, suc, zero, ℕ}
+use Rattle.std.specs.declared.cmp.Ordering.{Ordering, TheVariants.{Equal, Greater, Less}}
 
 -- a number of which the first digit is b
 small : (p b x : ℕ) → b < 256 → x < p → b * p + x < 256 * p
@@ -28,16 +27,11 @@ head_small (suc n) (b ∷ xs) h =
 -- numbers of two digits stand as their first digits do, and where these are one as the others do
 first_less : (p x y a b : ℕ) (r : Ordering) → b < p → (a < b → r ≡ Less) → x * p + a < y * p + b
     → ordering_then (nat_cmp x y) r ≡ Less
-first_less p x y a b r m next l =
-    let above : y < x → y * p + b < x * p + a = apart p x y b a m in
-    grind arith
+first_less p x y a b r m next l = grind (arith, apart p x y b a m)
 
 first_equal : (p x y a b : ℕ) (r s : Ordering) → a < p → b < p → (a ≡ b → r ≡ s)
     → x * p + a ≡ y * p + b → r ≡ ordering_then (nat_cmp x y) s
-first_equal p x y a b r s k m next e =
-    let below : x < y → x * p + a < y * p + b = apart p y x a b k in
-    let above : y < x → y * p + b < x * p + a = apart p x y b a m in
-    grind arith
+first_equal p x y a b r s k m next e = grind (arith, apart p y x a b k, apart p x y b a m)
 
 less : (n : ℕ) (xs ys : Text) → AreBytesTo n ys → head_at n xs < head_at n ys
     → bytes_cmp xs ys ≡ Less
@@ -60,13 +54,6 @@ by_heads a b h k r e differ = by r (rw e (ranks (head_of a) (head_of b))) differ
     by Equal m differ = absurd (differ refl)
     by Greater m differ = rw (nat_list_cmp_total.antisymm a b, less 8 b a h m)
 
--- bytes by their places
-pub are_bytes : (n : ℕ) (xs : Text) → ((i : ℕ) → i < n → get_or xs i 0 < 256) → AreBytesTo n xs
-are_bytes zero xs h = tt
-are_bytes (suc n) [] h = tt
-are_bytes (suc n) (b ∷ xs) h =
-    (h 0 (omega arith), are_bytes n xs (λ i l. h (suc i) (omega arith)))
-
 -- keys of one head, by what stands behind it
 pub behind : (n : ℕ) (a b : Text) → n ≤ length a → n ≤ length b → AreBytesTo n a → AreBytesTo n b
     → head_at n a ≡ head_at n b → bytes_cmp (drop n a) (drop n b) ≡ bytes_cmp a b
@@ -74,9 +61,13 @@ behind zero a b l m h k e = refl
 behind (suc n) [] b l m h k e = absurd (omega arith)
 behind (suc n) (x ∷ xs) [] l m h k e = absurd (omega arith)
 behind (suc n) (x ∷ xs) (y ∷ ys) l m h k e =
-    let next = behind n xs ys (omega arith) (omega arith) h.1 k.1 in
-    first_equal (256 ^ n) x y _ _ _ _ (head_small n xs h.1) (head_small n ys k.1) next e
+    first_equal (256 ^ n) x y _ _ _ _ (head_small n xs h.1) (head_small n ys k.1)
+    (behind n xs ys (omega arith) (omega arith) h.1 k.1) e
 
 -- numbers that are found equal
 pub level : (x y : ℕ) → Equal ≡ nat_cmp x y → x ≡ y
 level x y e = rw (← e) at (ranks x y)
+
+-- what stands the other way round
+pub turned : (a b : Text) → ordering_reverse (bytes_cmp a b) ≡ bytes_cmp b a
+turned a b = sym (nat_list_cmp_total.antisymm b a)

@@ -8,4 +8,3 @@ pub mod MarkLemmas
 pub mod SwapLemmas
 pub mod NumberedLemmas
 pub mod EachLemmas
-pub mod Outcomes

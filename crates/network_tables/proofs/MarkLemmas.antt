@@ -1,13 +1,12 @@
 -- The marks of a table's keys, by what becomes of its entries.
 use Rattle.net_view.proofs.Words
-use Words.{◌≡◌, ◌+◌, ◌<◌, ◌∷◌, ℕ, suc, Bool, true, false, List, [], map, is_some, length, None}
-use Words.{refl, arith, Text, bytes_cmp}
 use Rattle.std.specs.FinMap as fin
-use Rattle.net_view.proofs.AfterAlike.{is_same, look_ups}
-use Rattle.network_tables.{proofs.ShownLemmas.contains-shown, specs.{Head.head_of, Marks.AreMarked}}
-use Rattle.network_tables.specs.{Marks.{is_marked, mark_of}, Shown.shown}
-use Rattle.std.proofs.{Common.{get_or, set}, lemmas.{Bool.cases_eq, List.get_or_default}}
-use Rattle.std.specs.Prelude.{T, zero}
+use Words.{◌+◌, ◌<◌, ◌∷◌, ◌≡◌, Bool, List, None, Text, [], arith, bytes_cmp, false, is_some, length}
+use Words.{map, refl, suc, true, ℕ}
+use Rattle.{net_view.proofs.AfterAlike.{is_same, look_ups}, std.specs.Prelude.{T, zero}}
+use Rattle.network_tables.{proofs.ShownLemmas.contains-shown, specs.{Head.head_of, Shown.shown}}
+use Rattle.{network_tables.specs.Marks.{AreMarked, is_marked, mark_of}, std.proofs.Common.get_or}
+use Rattle.std.proofs.{Common.set, lemmas.{Bool.cases_eq, List.{get_or-set_other, get_or_default}}}
 
 -- a mark that is put up is up, and the others are as they were
 up_there : (marks : List Bool) (i : ℕ) → get_or (set marks i true) i true ≡ true
@@ -17,11 +16,8 @@ up_there (m ∷ marks) (suc i) = up_there marks i
 
 up_still : (marks : List Bool) (i j : ℕ) → get_or marks j true ≡ true
     → get_or (set marks i true) j true ≡ true
-up_still [] i j up = refl
-up_still (m ∷ marks) zero zero up = refl
-up_still (m ∷ marks) zero (suc j) up = up
-up_still (m ∷ marks) (suc i) zero up = up
-up_still (m ∷ marks) (suc i) (suc j) up = up_still marks i j up
+up_still marks i j up =
+    grind (arith, cases_eq i j, up_there marks i, get_or-set_other marks i j true true)
 
 module _ {X : Type 0} (marks : List Bool) (m : fin.FinMap bytes_cmp X)
     (marked : AreMarked marks m) where
@@ -58,11 +54,8 @@ pub marked_shown : {X Z : Type 0} (f : X → Z) (h : Z → Z) (marks : List Bool
     (m n : fin.FinMap bytes_cmp X) → AreMarked marks m → shown f n ≡ shown h (shown f m)
     → AreMarked marks n
 marked_shown f h marks m n marked e q has =
-    marked q (cc (
-      contains-shown bytes_cmp f m q,
-      contains-shown bytes_cmp h (shown f m) q,
-      contains-shown bytes_cmp f n q,
-    ))
+    let same = contains-shown bytes_cmp h (shown f m) q in
+    marked q (cc (contains-shown bytes_cmp f m q, same, contains-shown bytes_cmp f n q))
 
 pub none_marked : (X : Type 0) (marks : List Bool) → AreMarked {X = X} marks fin.empty
 none_marked X marks q has = grind (arith, fin.get-empty {X = X} bytes_cmp q)
@@ -74,9 +67,9 @@ module _ {E X : Type 0} (f : E → Text × X) (marks : List Bool) where
       → is_some (fin.find bytes_cmp q (map f xs)) ≡ true → is_marked marks (head_of q) ≡ true
   found_marked [] each q has = cc
   found_marked (x ∷ xs) each q has =
-      let later = found_marked xs (λ j d l. each (suc j) d (omega (arith, l))) q in
       let first = each zero x (omega arith) in
-      grind (arith, is_same q (f x).0)
+      let rest = λ (j : ℕ) (d : E) (l : j < length xs). each (suc j) d (omega arith) in
+      grind (arith, is_same q (f x).0, found_marked xs rest q)
 
   pub all_marked : (xs : List E) → T (fin.is_sorted bytes_cmp (map f xs)) → ((j : ℕ) (d : E)
       → j < length xs → is_marked marks (head_of (f (get_or xs j d)).0) ≡ true)

@@ -1,15 +1,14 @@
 -- Values in numbered cells, by their keys.
 use Rattle.net_view.proofs.Words
-use Words.{◌≡◌, ◌∷◌, ◌∙◌, ℕ, Bool, true, false, cond, List, [], is_some, filter_map, option_map}
-use Words.{sym, option_and_then, Option, Some, None, refl, ap, arith, Text, bytes_cmp, same}
 use Rattle.std.specs.FinMap as fin
-use Rattle.net_view.proofs.{AfterAlike.{get_kept, get_out, get_put, look_ups}, Holds.mapped}
-use Rattle.net_view.proofs.Keys.{is_same, same_by_keys, same_refl}
-use Rattle.network_tables.specs.Numbered.{AreTied, joined, seen_in, value_at, value_out}
-use Rattle.network_tables.specs.{Numbered.with_value_in, Table.{swapped_in, swapped_out}}
-use Rattle.{network_tables.specs.declared.numbered.Keyed.Keyed, slab.specs.Slab.{ContainsKey, Slab}}
-use Rattle.{slab.specs.Slab.{Updates, get}, std.{proofs.lemmas.Bool.cases_eq}}
-use Rattle.std.specs.{FinMap.Entries.below_all, Prelude.{T, ◌≢◌}}
+use Words.{◌∷◌, ◌≡◌, Bool, List, None, Option, Some, Text, [], ap, arith, bytes_cmp, false}
+use Words.{filter_map, is_some, option_and_then, option_map, refl, same, sym, true, ℕ}
+use Rattle.net_view.proofs.{AfterAlike.look_ups, Holds.mapped, Keys.{is_same, same_by_keys}}
+use Rattle.{net_view.proofs.Keys.same_refl, network_tables.specs.Numbered.{AreTied, joined}}
+use Rattle.network_tables.specs.Numbered.{seen_in, value_at, value_out, with_value_in}
+use Rattle.network_tables.specs.{Table.{swapped_in, swapped_out}, declared.numbered.Keyed.Keyed}
+use Rattle.{slab.specs.Slab.{ContainsKey, Slab, Updates, get}, std.proofs.lemmas.Bool.cases_eq}
+use Rattle.std.specs.{FinMap.Entries.below_all, Prelude.{◌≢◌, T}}
 
 -- a key below all others is none of them
 gone : {X : Type 0} (k : Text) (es : List (Text × X)) → T (below_all bytes_cmp k es)
@@ -40,26 +39,21 @@ module _ {X A : Type 0} where
   find_joined cells q (e ∷ es) h =
       grind (arith, is_same q e.0, gone e.0 es, find_joined cells q es)
 
-  pub get-joined : (index : fin.FinMap bytes_cmp ℕ) (cells : Slab (Keyed X A)) (q : Text)
+  pub get_joined : (index : fin.FinMap bytes_cmp ℕ) (cells : Slab (Keyed X A)) (q : Text)
       → fin.get (joined index cells) q ≡ option_and_then (value_at cells) (fin.get index q)
   unfolding joined
-  get-joined index cells q =
+  get_joined index cells q =
       let es = fin.entries index in
       let sorted = fin.entries_sorted index in
-      cc (
-        fin.get-from_sorted bytes_cmp _ q (sorted_joined cells es sorted),
-        find_joined cells q es sorted,
-        fin.get-entries index q,
-      )
-
-  abbrev key_in : Option (Keyed X A) → Option Text
-  key_in = option_map (λ known. known.key.items)
+      let found = find_joined cells q es sorted in
+      let at = fin.get-entries index q in
+      cc (fin.get-from_sorted bytes_cmp _ q (sorted_joined cells es sorted))
 
   -- nothing is held
   pub none_joined : (index : fin.FinMap bytes_cmp ℕ) (cells : Slab (Keyed X A)) → index ≡ fin.empty
       → joined index cells ≡ fin.empty
   none_joined index cells is =
-      same_by_keys (λ q. grind (arith, get-joined index cells q, fin.get-empty))
+      same_by_keys (λ q. grind (arith, get_joined index cells q, fin.get-empty))
 
   pub none_tied : (index : fin.FinMap bytes_cmp ℕ) (cells : Slab (Keyed X A)) → index ≡ fin.empty
       → ((n : ℕ) → get cells n ≡ None) → AreTied index cells
@@ -72,7 +66,7 @@ module _ {X A : Type 0} where
   module _ (index index2 : fin.FinMap bytes_cmp ℕ) (cells cells2 : Slab (Keyed X A))
       (is : index2 ≡ index) (alike : (n : ℕ) → get cells2 n ≡ get cells n) where
     pub kept_joined : joined index2 cells2 ≡ joined index cells
-    kept_joined = same_by_keys (λ q. grind (arith, get-joined, alike))
+    kept_joined = same_by_keys (λ q. grind (arith, get_joined, alike))
 
   -- ---- by the number of a key
   module _ {index : fin.FinMap bytes_cmp ℕ} {cells : Slab (Keyed X A)}
@@ -83,13 +77,13 @@ module _ {X A : Type 0} where
 
     pub got : (k : Text) (n : ℕ) (known : Keyed X A) → Some n ≡ fin.get index k
         → Some known ≡ get cells n → Some known.value ≡ fin.get (joined index cells) k
-    got k n known e is = grind (arith, get-joined)
+    got k n known e is = grind (arith, get_joined)
 
     pub holds : (k : Text) (n : ℕ) → Some n ≡ fin.get index k → ContainsKey cells n
     holds k n e = ap is_some (there k n (sym e)).1
 
     pub none_got : (k : Text) → None ≡ fin.get index k → None ≡ fin.get (joined index cells) k
-    none_got k e = grind (arith, get-joined)
+    none_got k e = grind (arith, get_joined)
 
     pub none_there : (k : Text) → fin.get (joined index cells) k ≡ None → None ≡ fin.get index k
     none_there k none = grind (arith, got k, there k)
@@ -108,50 +102,40 @@ module _ {X A : Type 0} where
       abbrev k : Text
       k = known.key.items
 
-      at_put : (q : Text) → fin.get index2 q ≡ cond (same q k) (Some n) (fin.get index q)
-      at_put q = ap (λ m. fin.get m q) index_is ∙ get_put index k n q
-
       not_there : (q : Text) (m : ℕ) → fin.get index q ≡ Some m → m ≢ n
       not_there q m e number = grind (arith, tied.held q m)
 
       pub put_joined : joined index2 cells2 ≡ fin.insert (joined index cells) k known.value
       put_joined =
           same_by_keys (λ q.
-          grind (look_ups, get-joined, at_put q, not_there q, updates.changed, updates.others))
+          grind (look_ups, get_joined, not_there q, updates.changed, updates.others))
 
       pub put_tied : AreTied index2 cells2
       put_tied = record {
         held = λ q m e.
-            let at = at_put q in
             let old = tied.held q m in
-            grind (arith, is_same q k, not_there q m, updates.changed, updates.others m);
+            grind (look_ups, is_same q k, not_there q m, updates.changed, updates.others m);
         known = λ m e at.
-            let old = at_put e.key.items in
-            let new = at_put k in
             let same = is_same e.key.items k in
             let before = tied.known m e in
-            grind (arith, cases_eq m n, same_refl k, updates.changed, updates.others m);
+            grind (look_ups, cases_eq m n, same_refl k, updates.changed, updates.others m);
       }
 
     -- ---- a value goes
     module _ {index2 : fin.FinMap bytes_cmp ℕ} {cells2 : Slab (Keyed X A)} {n : ℕ} (k : Text)
         (number : Some n ≡ fin.get index k) (index_is : index2 ≡ fin.remove index k)
         (updates : Updates cells cells2 n None) where
-      at_taken : (q : Text) → fin.get index2 q ≡ cond (same q k) None (fin.get index q)
-      at_taken q = ap (λ m. fin.get m q) index_is ∙ get_out index k q
-
       pub taken_joined : joined index2 cells2 ≡ fin.remove (joined index cells) k
       taken_joined =
-          same_by_keys (λ q. grind (look_ups, get-joined, at_taken q, apart q k, updates.others))
+          same_by_keys (λ q. grind (look_ups, get_joined, apart q k, updates.others))
 
       pub taken_tied : AreTied index2 cells2
       taken_tied = record {
-        held = λ q m e. grind (arith, at_taken q, apart q k m n, tied.held q m, updates.others m);
+        held = λ q m e. grind (look_ups, apart q k m n, tied.held q m, updates.others m);
         known = λ m e at.
-            let old = at_taken e.key.items in
             let same = is_same e.key.items k in
             let before = tied.known m e in
-            grind (arith, cases_eq m n, updates.changed, updates.others m);
+            grind (look_ups, cases_eq m n, updates.changed, updates.others m);
       }
 
     -- ---- a value is changed
@@ -159,46 +143,38 @@ module _ {X A : Type 0} where
         (number : Some n ≡ fin.get index k)
         (updates : Updates cells cells2 n (with_value_in value (get cells n))) where
       pub swapped_there : fin.contains_key (joined index cells) k ≡ true
-      swapped_there = let is = there k n (sym number) in grind (arith, get-joined)
+      swapped_there = let is = there k n (sym number) in grind (arith, get_joined)
 
       pub swapped_joined : joined index cells2 ≡ swapped_in (joined index cells) k value
       swapped_joined =
           let is = there k n (sym number) in
           let put : joined index cells2 ≡ fin.insert (joined index cells) k value =
           same_by_keys (λ q.
-          grind (look_ups, get-joined, apart q k, updates.changed, updates.others)) in
+          grind (look_ups, get_joined, apart q k, updates.changed, updates.others)) in
           grind (arith, put, swapped_there)
 
       pub swapped_value : value_out (get cells n) value ≡ swapped_out (joined index cells) k value
-      swapped_value = let is = there k n (sym number) in grind (arith, get-joined)
+      swapped_value = let is = there k n (sym number) in grind (arith, get_joined)
 
       pub swapped_tied : AreTied index cells2
       swapped_tied = record {
-        held = λ q m e.
-            grind (arith, cases_eq m n, updates.changed, updates.others m, tied.held q m);
-        known = λ m e at.
-            grind (arith, cases_eq m n, updates.changed, updates.others m, tied.known m);
+        held = λ q m e. grind (arith, cases_eq m n, updates.changed, updates.others, tied.held q);
+        known = λ m e at. grind (arith, cases_eq m n, updates.changed, updates.others, tied.known);
       }
 
     -- ---- some are kept
     module _ {index2 : fin.FinMap bytes_cmp ℕ} (cells2 : Slab (Keyed X A)) (p : Text → Bool)
         (index_is : index2 ≡ fin.retain_keys index p)
         (seen : (n : ℕ) → get cells2 n ≡ seen_in p (get cells n)) where
-      at_retained : (q : Text) → fin.get index2 q ≡ cond (p q) (fin.get index q) None
-      at_retained q = ap (λ m. fin.get m q) index_is ∙ get_kept index p q
-
       still : (q : Text) (m : ℕ) → p q ≡ true → fin.get index q ≡ Some m
           → get cells2 m ≡ get cells m
       still q m met e = let is = there q m e in grind (arith, seen m)
 
       pub retained_joined : joined index2 cells2 ≡ fin.retain_keys (joined index cells) p
-      retained_joined =
-          same_by_keys (λ q. grind (look_ups, get-joined, at_retained q, still q))
+      retained_joined = same_by_keys (λ q. grind (look_ups, get_joined, still q))
 
       pub retained_tied : AreTied index2 cells2
       retained_tied = record {
-        held = λ q m e. grind (arith, at_retained q, still q m, tied.held q m);
-        known = λ m e at.
-            let old = at_retained e.key.items in
-            grind (arith, seen m, tied.known m);
+        held = λ q m e. grind (look_ups, still q m, tied.held q m);
+        known = λ m e at. grind (look_ups, seen m, tied.known m);
       }

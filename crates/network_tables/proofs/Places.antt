@@ -1,11 +1,10 @@
 -- What a binary search by key finds among entries in the order of their keys.
 use Rattle.std.specs.FinMap as fin
-use Rattle.{network_tables.proofs.Sorted.{IsPlace, rise, turned}, std.proofs.Common.{Err, ap}}
-use Rattle.std.proofs.Common.{arith, get_or, refl}
-use Rattle.std.proofs.lemmas.List.{Sorted.searchable_from_sorted, get_or-map, length-map}
+use Rattle.{network_tables.proofs.Sorted.{IsPlace, rise, turned}, std.proofs.Common.{◌+◌, ◌<◌, ◌∷◌}}
+use Rattle.std.proofs.Common.{◌≡◌, ◌≤◌, Err, Less, List, Ordering, T, [], ap, arith, get_or, is_lt}
+use Rattle.std.proofs.{Common.{length, map, refl, suc, zero, ℕ}, lemmas.List.get_or-map}
+use Rattle.std.proofs.lemmas.List.{length-map, Sorted.searchable_from_sorted}
 use Rattle.std.specs.{Cmp.IsTotalOrder, List.Sorted.{IsBinarySearchResult, IsSortedBy}}
-use Rattle.std.specs.{Ordering.is_lt, Prelude.{List, T, [], length, map, suc, zero, ℕ, ◌+◌, ◌<◌}}
-use Rattle.std.specs.{Prelude.{◌∷◌, ◌≡◌, ◌≤◌}, declared.cmp.Ordering.{Ordering, TheVariants.Less}}
 
 module _ {K X Y : Type 0} {R : K → K → Ordering} (o : IsTotalOrder R) (f : X → K × Y) where
   at : (xs : List X) (i : ℕ) (d : X) → i < length xs

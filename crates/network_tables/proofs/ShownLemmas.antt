@@ -1,26 +1,9 @@
 -- The values of a map, shown in another way.
 use Rattle.net_view.proofs.Words
-use Words.{◌≡◌, ◌&&◌, ◌∷◌, ◌∙◌, Bool, true, false, List, [], map, length, is_some, option_map}
-use Words.{Option, refl, sym, ap, arith, Ordering}
 use Rattle.std.specs.FinMap as fin
-use Rattle.{network_tables.specs.Shown.shown, std.proofs.{Common.subst, lemmas.List.length-map}}
-use Rattle.std.specs.{Cmp.IsTotalOrder, FinMap.Entries.below_all, Prelude.T}
-use Rattle.std.specs.declared.cmp.Ordering.TheVariants.{Equal}
-
-pub both : (a b : Bool) → T a → T b → T (a && b)
-both true b p q = q
-both false b p q = p
-
-pub first : (a b : Bool) → T (a && b) → T a
-first true b p = tt
-first false b p = p
-
-pub second : (a b : Bool) → T (a && b) → T b
-second true b p = p
-second false b p = absurd p
-
-pub shown_some : {X Y : Type 0} (f : X → Y) (o : Option X) → is_some (option_map f o) ≡ is_some o
-shown_some f o = grind arith
+use Words.{◌∙◌, ◌∷◌, ◌≡◌, Bool, List, Ordering, [], ap, arith, length, map, option_map, refl, sym}
+use Rattle.{network_tables.specs.Shown.shown, std.proofs.Common.{Equal, T, subst}}
+use Rattle.std.{proofs.lemmas.List.length-map, specs.{Cmp.IsTotalOrder, FinMap.Entries.below_all}}
 
 module _ {K X Y : Type 0} (R : K → K → Ordering) (f : X → Y) where
   abbrev as_shown : K × X → K × Y
@@ -66,37 +49,20 @@ module _ {K X Y : Type 0} (R : K → K → Ordering) (f : X → Y) where
         → shown f (fin.insert m k x) ≡ fin.insert (shown f m) k (f x)
     insert-shown k x =
         fin.same_map o exact _ _ (λ q.
-        let made = get-shown (fin.insert m k x) q in
-        grind (
-          arith,
-          get-shown m q,
-          made,
-          fin.get-insert o m k x q,
-          fin.get-insert o (shown f m) k (f x) q,
-        ))
+        let put = fin.get-insert o (shown f m) k (f x) q in
+        grind (arith, get-shown m, get-shown (fin.insert m k x), fin.get-insert o m k x, put))
 
     pub remove-shown : (k : K) → shown f (fin.remove m k) ≡ fin.remove (shown f m) k
     remove-shown k =
         fin.same_map o exact _ _ (λ q.
-        let made = get-shown (fin.remove m k) q in
-        grind (
-          arith,
-          get-shown m q,
-          made,
-          fin.get-remove o m k q,
-          fin.get-remove o (shown f m) k q,
-        ))
+        let out = fin.get-remove o (shown f m) k q in
+        grind (arith, get-shown m, get-shown (fin.remove m k), fin.get-remove o m k, out))
 
     pub retain-shown : (p : K → Bool)
         → shown f (fin.retain_keys m p) ≡ fin.retain_keys (shown f m) p
     retain-shown p =
         let alike = λ (q x : K) (t : R q x ≡ Equal). ap p (sym (exact q x t)) in
         fin.same_map o exact _ _ (λ q.
-        let made = get-shown (fin.retain_keys m p) q in
-        grind (
-          arith,
-          get-shown m q,
-          made,
-          fin.get-retain_keys m p q (alike q),
-          fin.get-retain_keys (shown f m) p q (alike q),
-        ))
+        let kept = fin.get-retain_keys m p q (alike q) in
+        let shown_kept = fin.get-retain_keys (shown f m) p q (alike q) in
+        grind (arith, get-shown m, get-shown (fin.retain_keys m p), kept, shown_kept))

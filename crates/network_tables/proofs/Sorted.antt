@@ -1,33 +1,29 @@
 -- Entries in the order of their keys, by places: what an insertion, a write and a removal at a
 -- place make of a finite map.
 use Rattle.net_view.proofs.Words
-use Words.{◌≡◌, ◌<◌, ◌∷◌, ℕ, suc, Bool, false, cond, List, [], length, Option, Some, None, refl}
-use Words.{sym, ap, arith, Ordering, eq_by_cmp}
 use Rattle.std.specs.FinMap as fin
-use Rattle.{network_tables.proofs.ShownLemmas.{first, second}, std.proofs.Common.{get_or, set, ◌∙◌}}
-use Rattle.std.specs.{Cmp.{IsTotalOrder, eq_by_cmp_equiv, tied_itself}, FinMap.Entries.below_all}
-use Rattle.std.specs.{FinMap.Entries.{find-where_key, is_sorted-where_key, where_key}, List.insert}
-use Rattle.std.specs.{List.remove, Ordering.{is_lt, ordering_reverse}, Prelude.{T, not, zero, ◌≤◌}}
-use Rattle.std.specs.declared.cmp.Ordering.TheVariants.{Equal, Greater, Less}
-
-less : (r : Ordering) → T (is_lt r) → r ≡ Less
-less r p = grind arith
+use Words.{◌<◌, ◌∷◌, ◌≡◌, Bool, List, None, Option, Ordering, Some, [], ap, arith, cond, eq_by_cmp}
+use Words.{false, length, refl, suc, sym, ℕ}
+use Rattle.std.{proofs.Common.{◌∙◌, get_or, set}, specs.{List.remove, Prelude.{◌≤◌, T, not, zero}}}
+use Rattle.std.specs.{Cmp.{IsTotalOrder, eq_by_cmp_equiv, tied_itself}, Ordering.ordering_reverse}
+use Rattle.std.specs.FinMap.Entries.{below_all, find-where_key, is_sorted-where_key, where_key}
+use Rattle.std.specs.{List.insert, declared.cmp.Ordering.TheVariants.{Equal, Greater, Less}}
 
 module _ {K X : Type 0} (R : K → K → Ordering) where
   -- a key below all is below each
   below_at : (x : K) (es : List (K × X)) → T (below_all R x es) → (i : ℕ) (d : K × X)
       → i < length es → R x (get_or es i d).0 ≡ Less
   below_at x [] h i d l = absurd (omega arith)
-  below_at x (e ∷ es) h zero d l = less _ (first _ _ h)
-  below_at x (e ∷ es) h (suc i) d l = below_at x es (second _ _ h) i d (omega arith)
+  below_at x (e ∷ es) h zero d l = grind arith
+  below_at x (e ∷ es) h (suc i) d l = grind (arith, below_at x es)
 
   -- keys in order rise from place to place
   pub rise : (es : List (K × X)) → T (fin.is_sorted R es) → (i j : ℕ) (d : K × X) → i < j
       → j < length es → R (get_or es i d).0 (get_or es j d).0 ≡ Less
   rise [] h i j d l m = absurd (omega arith)
   rise (e ∷ es) h i zero d l m = absurd (omega arith)
-  rise (e ∷ es) h zero (suc j) d l m = below_at e.0 es (first _ _ h) j d (omega arith)
-  rise (e ∷ es) h (suc i) (suc j) d l m = rise es (second _ _ h) i j d (omega arith) (omega arith)
+  rise (e ∷ es) h zero (suc j) d l m = grind (arith, below_at e.0 es)
+  rise (e ∷ es) h (suc i) (suc j) d l m = grind (arith, rise es)
 
 pub turned : {K : Type 0} {R : K → K → Ordering} → IsTotalOrder R → (x y : K) (r : Ordering)
     → R x y ≡ r → R y x ≡ ordering_reverse r
@@ -84,7 +80,7 @@ module _ {K X : Type 0} {R : K → K → Ordering} (o : IsTotalOrder R) where
   above_first : (e : K × X) (es : List (K × X)) → T (fin.is_sorted R (e ∷ es)) → (i : ℕ)
       (d : K × X) → i < length es → R (get_or es i d).0 e.0 ≡ Greater
   above_first e es h i d l =
-      turned o e.0 (get_or es i d).0 Less (below_at R e.0 es (first _ _ h) i d l)
+      grind (arith, turned o e.0 (get_or es i d).0 Less, below_at R e.0 es)
 
   -- the entry at a place is found by its key
   pub find_at : (es : List (K × X)) → T (fin.is_sorted R es) → (i : ℕ) (d : K × X)
@@ -92,8 +88,7 @@ module _ {K X : Type 0} {R : K → K → Ordering} (o : IsTotalOrder R) where
   find_at [] h i d l = absurd (omega arith)
   find_at (e ∷ es) h zero d l = grind (arith, tied_itself o e.0)
   find_at (e ∷ es) h (suc i) d l =
-      let later = find_at es (second _ _ h) i d (omega arith) in
-      grind (arith, above_first e es h i d (omega arith))
+      grind (arith, above_first e es h i d, find_at es)
 
   -- a write at the place of the key
   pub put_at : (es : List (K × X)) → T (fin.is_sorted R es) → (i : ℕ) (d : K × X) (v : X)
@@ -101,8 +96,7 @@ module _ {K X : Type 0} {R : K → K → Ordering} (o : IsTotalOrder R) where
   put_at [] h i d v l = absurd (omega arith)
   put_at (e ∷ es) h zero d v l = grind (arith, tied_itself o e.0)
   put_at (e ∷ es) h (suc i) d v l =
-      let later = put_at es (second _ _ h) i d v (omega arith) in
-      grind (arith, above_first e es h i d (omega arith))
+      grind (arith, above_first e es h i d, put_at es)
 
   -- nobody is lost where no key ties
   kept_all : (k : K) (es : List (K × X))
@@ -118,11 +112,11 @@ module _ {K X : Type 0} {R : K → K → Ordering} (o : IsTotalOrder R) where
       → i < length es → where_key R (λ x. not (eq_by_cmp R (get_or es i d).0 x)) es ≡ remove es i
   without_at [] h i d l = absurd (omega arith)
   without_at (e ∷ es) h zero d l =
-      let kept = kept_all e.0 es (λ i d l. grind (arith, below_at R e.0 es (first _ _ h) i d l)) in
+      let kept = kept_all e.0 es (λ i d l. grind (arith, below_at R e.0 es)) in
       grind (arith, tied_itself o e.0)
   without_at (e ∷ es) h (suc i) d l =
-      let later = without_at es (second _ _ h) i d (omega arith) in
-      grind (arith, above_first e es h i d (omega arith))
+      let sorted : T (fin.is_sorted R es) = grind arith in
+      let later = without_at es sorted i d (omega arith) in grind (arith, above_first e es h i d)
 
   mirrored : (b : Bool) (x : Option X) → cond (not b) x None ≡ cond b None x
   mirrored b x = grind arith
@@ -161,13 +155,10 @@ module _ {K X : Type 0} {R : K → K → Ordering} (o : IsTotalOrder R) where
           sorted = sorted;
           is = fin.same_map o exact _ _ (λ q.
               let alike = λ (x : K) (t : R q x ≡ Equal). ap keeps (sym (exact q x t)) in
-              cc (
-                fin.get-from_sorted R (remove es i) q sorted,
-                find-where_key R keeps q alike es,
-                without_at es h i d l,
-                mirrored (eq_by_cmp R k q) (fin.find R q es),
-                (eq_by_cmp_equiv o).symm k q,
-                fin.get-from_sorted R es q h,
-                fin.get-remove o (fin.from_sorted es) k q,
-              ));
+              let left = fin.get-from_sorted R (remove es i) q sorted in
+              let found = find-where_key R keeps q alike es in
+              let same = mirrored (eq_by_cmp R k q) (fin.find R q es) in
+              let out = fin.get-remove o (fin.from_sorted es) k q in
+              let at = fin.get-from_sorted R es q h in
+              cc (without_at es h i d l, (eq_by_cmp_equiv o).symm k q));
         }

@@ -1,18 +1,17 @@
 -- A table's entries, by the places that a search finds.
 use Rattle.std.specs.FinMap as fin
 use Rattle.{irc_support.specs.Text.Text, net_view.proofs.Keys.{bytes_exact, same_by_keys}}
-use Rattle.net_view.specs.{Names.bytes_cmp, Table.is_equal}
-use Rattle.network_tables.proofs.{Places.free_place, Sorted.{AreOf, IsPlace, find_at, find_between}}
-use Rattle.network_tables.{proofs.Sorted.{inserted, removed, written}, specs.Marks.AreMarked}
-use Rattle.std.proofs.Common.{Err, None, Option, Some, ap, arith, get_or, refl, set, sym, ◌∙◌}
+use Rattle.{net_view.specs.{Names.bytes_cmp, Table.is_equal}, network_tables.specs.Marks.AreMarked}
+use Rattle.{network_tables.proofs.Places.free_place, std.specs.Cmp.Lexicographic.nat_list_cmp_total}
+use Rattle.{network_tables.proofs.Sorted.AreOf, std.proofs.Common.{◌<◌, arith, length, remove}}
+use Rattle.network_tables.proofs.Sorted.{IsPlace, find_at, find_between, inserted, removed, written}
+use Rattle.std.proofs.Common.{◌∙◌, ◌≤◌, Equal, List, ap, filter, map, nat_cmp, refl, set, sym, true}
+use Rattle.std.proofs.Common.{◌∷◌, ◌≡◌, Bool, Err, None, Ordering, Some, T, [], get_or, insert, ℕ}
 use Rattle.std.proofs.lemmas.List.{drop-map, get_or-map, length-map, map-append, map-set, take-map}
-use Rattle.std.{proofs.lemmas.Option.slice_get-map, specs.Cmp.IsTotalOrder}
-use Rattle.std.specs.Cmp.{Lexicographic.nat_list_cmp_total, nat_cmp_total}
-use Rattle.std.specs.FinMap.Entries.{find-where_key, is_sorted-where_key}
-use Rattle.std.specs.List.{Sorted.IsBinarySearchResult, filter, insert, remove, slice_get}
-use Rattle.std.specs.{Option.option_map, Ordering.{eq_by_cmp, nat_cmp}, Prelude.{Bool, List, T, []}}
-use Rattle.std.specs.Prelude.{length, map, true, ℕ, ◌<◌, ◌∷◌, ◌≡◌, ◌≤◌}
-use Rattle.std.specs.declared.cmp.Ordering.{Ordering, TheVariants.Equal}
+use Rattle.std.proofs.lemmas.Option.{slice_get-get_or, slice_get-map, slice_get_past}
+use Rattle.std.specs.{Cmp.{IsTotalOrder, nat_cmp_total}, List.Sorted.IsBinarySearchResult}
+use Rattle.std.specs.{FinMap.Entries.{find-where_key, is_sorted-where_key}, Ordering.eq_by_cmp}
+use Rattle.std.proofs.lemmas.List.{map_more, take_all}
 
 pub map_insert : {X Y : Type 0} (f : X → Y) (xs : List X) (i : ℕ) (x : X)
     → map f (insert xs i x) ≡ insert (map f xs) i (f x)
@@ -34,7 +33,7 @@ pub by_letters : IsKeyOrder nat_cmp
 by_letters = record { total = nat_cmp_total; exact = fin.nat_cmp-IsAntisymmetric }
 
 module _ {E K X : Type 0} {R : K → K → Ordering} (order : IsKeyOrder R) (f : E → K × X)
-    (xs : List E) (h : T (fin.is_sorted R (map f xs))) (key : K) where
+    (xs : List E) (h : T (fin.is_sorted R (map f xs))) where
   abbrev es : List (K × X)
   es = map f xs
 
@@ -42,7 +41,7 @@ module _ {E K X : Type 0} {R : K → K → Ordering} (order : IsKeyOrder R) (f :
   all = fin.from_sorted es
 
   -- the entry at the place that was found
-  module _ (i : ℕ) (l : i < length xs)
+  module _ {key : K} {i : ℕ} (l : i < length xs)
       (found : (d : E) → R (f (get_or xs i d)).0 key ≡ Equal) where
     within : i < length es
     within = omega (arith, length-map xs f)
@@ -76,7 +75,7 @@ module _ {E K X : Type 0} {R : K → K → Ordering} (order : IsKeyOrder R) (f :
         (rw (is_key d) at (removed order.total es h order.exact i (f d) within))
 
   -- the place where it would stand
-  module _ (i : ℕ) (l : i ≤ length xs)
+  module _ {key : K} {i : ℕ} (l : i ≤ length xs)
       (found : IsBinarySearchResult (λ (e : E). R (f e).0 key) xs (Err i)) where
     place : IsPlace R es key i
     place = free_place order.total f xs key i h l found
@@ -96,6 +95,17 @@ no_entries {X = X} R = record {
   is = fin.empty_of_len _ (simp (fin.len-entries, fin.entries-from_sorted {X = X} R [] tt));
 }
 
+pub none_sorted : {K X : Type 0} (R : K → K → Ordering)
+    → fin.from_sorted {X = X} {R = R} [] ≡ fin.empty
+none_sorted R = (no_entries R).is
+
+-- for an attribute `using`: what stands at a place of the entries
+pub ruleset entry_places =
+    (fin.entries-from_sorted, slice_get-map, length-map, slice_get-get_or, slice_get_past)
+
+-- for an attribute `using`: a list that is copied item by item
+pub ruleset copies = (map_more, map-append, take_all)
+
 pub removed_none_of : {K X : Type 0} {R : K → K → Ordering} → IsKeyOrder R → (m : fin.FinMap R X)
     (k : K) → None ≡ fin.get m k → m ≡ fin.remove m k
 removed_none_of {K = K} {R = R} order m k e =
@@ -108,12 +118,6 @@ pub tabled_by : {X : Type 0} {es : List (Text × X)} {m : fin.FinMap bytes_cmp X
     → AreOf es m → AreMarked marks m
     → T (fin.is_sorted bytes_cmp es) × AreMarked marks (fin.from_sorted es)
 tabled_by marks are marked = (are.sorted, rw are.is marked)
-
--- the entry at a place
-pub entry_there : {E K X : Type 0} (R : K → K → Ordering) (f : E → K × X) (xs : List E)
-    (h : T (fin.is_sorted R (map f xs))) (i : ℕ) (o : Option E) → o ≡ slice_get xs i
-    → option_map f o ≡ slice_get (fin.entries (fin.from_sorted {R = R} (map f xs))) i
-entry_there R f xs h i o e = cc (slice_get-map f xs i, fin.entries-from_sorted R (map f xs) h)
 
 -- ---- what is retained
 
@@ -133,10 +137,7 @@ module _ {E X : Type 0} (f : E → Text × X) (q : Text → Bool) (xs : List E)
         sorted = sorted;
         is = same_by_keys (λ x.
             let alike = λ (y : Text) (t : bytes_cmp x y ≡ Equal). ap q (sym (bytes_exact x y t)) in
-            cc (
-              fin.get-from_sorted bytes_cmp _ x sorted,
-              find-where_key bytes_cmp q x alike es,
-              fin.get-from_sorted bytes_cmp es x h,
-              fin.get-retain_keys (fin.from_sorted {R = bytes_cmp} es) q x alike,
-            ));
+            let kept = fin.get-retain_keys (fin.from_sorted {R = bytes_cmp} es) q x alike in
+            let found = find-where_key bytes_cmp q x alike es in
+            cc (fin.get-from_sorted bytes_cmp _ x sorted, fin.get-from_sorted bytes_cmp es x h));
       })

@@ -58,6 +58,7 @@ fn place_of<A: Allocator>(modes: &[Mode<A>], letter: u8) -> Result<usize, usize>
 }
 
 /// A copy of modes.
+#[tactic(auto, using(crate::proofs::TableLemmas::copies))]
 fn modes_copy<A: Allocator + Copy>(
     alloc: A,
     modes: &[Mode<A>],
@@ -77,6 +78,7 @@ fn modes_copy<A: Allocator + Copy>(
 
 impl<A: Allocator + Copy> Modes<A> {
     /// No modes.
+    #[tactic(auto, using(crate::proofs::TableLemmas::none_sorted))]
     pub fn new(alloc: A) -> Modes<A>
         ensures { result ≡ fin.empty }
     {
@@ -119,6 +121,7 @@ impl<A: Allocator + Copy> Modes<A> {
     }
 
     /// The mode at a place: its letter, and its parameter, where it has one.
+    #[tactic(auto, using(crate::proofs::TableLemmas::entry_places))]
     pub fn at(&self, place: usize) -> Option<(u8, Option<&[u8]>)>
         ensures { option_map mode_parts result ≡ slice_get (fin.entries self.now) place }
     {

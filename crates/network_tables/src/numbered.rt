@@ -92,6 +92,7 @@ fn swap_in<V, A: Allocator>(cells: &mut Slab<Keyed<V, A>, A>, number: usize, val
 
 impl<V, A: Allocator> Numbered<V, A> {
     /// A table without values.
+    #[tactic(auto, using(crate::proofs::NumberedLemmas::none_joined, crate::proofs::NumberedLemmas::none_tied))]
     pub fn new(alloc: A) -> Numbered<V, A>
     where
         A: Copy,
@@ -113,6 +114,7 @@ impl<V, A: Allocator> Numbered<V, A> {
     }
 
     /// The same, which is first looked for in the cell in which it stood last.
+    #[tactic(auto, using(crate::proofs::NumberedLemmas::get_joined))]
     pub fn get_near(&self, near: Option<usize>, sought: Sought<'_>) -> Option<&V>
         ensures { option_map (λ value. value.now) result ≡ fin.get self.now.all (sought_key
             sought.entry) }
@@ -207,6 +209,7 @@ impl<V: Drop, A: Allocator> Numbered<V, A> {
     }
 
     /// Takes out all values.
+    #[tactic(auto, using(crate::proofs::NumberedLemmas::none_joined, crate::proofs::NumberedLemmas::none_tied))]
     pub fn clear(&mut self)
         ensures { self.new.all ≡ fin.empty }
     {

@@ -76,6 +76,7 @@ pub fn new_person<A: Allocator + Copy>(
 /// Names a person, who may come into sight, and tells the account, where one is told. What else is
 /// known of the person stays. The person is first looked for in the cell `near`, if that is known.
 /// Answers the number of the person's cell.
+#[tactic(auto, using(crate::proofs::SwapLemmas::swaps))]
 pub fn name_person<A: Allocator + Copy>(
     alloc: A,
     people: &mut People<A>,
@@ -107,6 +108,7 @@ pub fn name_person<A: Allocator + Copy>(
 }
 
 /// Changes a person's account, where the person is in sight.
+#[tactic(auto, using(crate::proofs::SwapLemmas::swaps))]
 pub fn set_account<A: Allocator + Copy>(
     alloc: A,
     people: &mut People<A>,
@@ -126,6 +128,7 @@ pub fn set_account<A: Allocator + Copy>(
 }
 
 /// Changes a person's away text, where the person is in sight.
+#[tactic(auto, using(crate::proofs::SwapLemmas::swaps))]
 pub fn set_away<A: Allocator + Copy>(
     alloc: A,
     people: &mut People<A>,
@@ -146,6 +149,7 @@ pub fn set_away<A: Allocator + Copy>(
 
 /// Gives a person another key, of which there are two copies, and another nick. Whoever stood under
 /// that key is gone.
+#[tactic(auto, using(crate::proofs::SwapLemmas::renames))]
 pub fn rename_person<A: Allocator>(
     people: &mut People<A>,
     old: Sought<'_>,

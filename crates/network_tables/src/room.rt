@@ -114,6 +114,7 @@ pub fn fresh_room<A: Allocator + Copy>(
 }
 
 /// Changes a channel's topic, where we are on it.
+#[tactic(auto, using(crate::proofs::SwapLemmas::swaps))]
 pub fn set_topic<A: Allocator + Copy>(
     alloc: A,
     rooms: &mut Rooms<A>,
@@ -133,6 +134,7 @@ pub fn set_topic<A: Allocator + Copy>(
 }
 
 /// Changes a channel's modes, where we are on it.
+#[tactic(auto, using(crate::proofs::SwapLemmas::swaps))]
 pub fn set_modes<A: Allocator + Copy>(
     alloc: A,
     rooms: &mut Rooms<A>,
@@ -166,6 +168,7 @@ fn add_member<A: Allocator + Copy>(
 }
 
 /// Makes somebody a member of a channel, near the place where it stood last, where we are on it.
+#[tactic(auto, using(crate::proofs::SwapLemmas::swaps))]
 pub fn seat<A: Allocator + Copy>(
     alloc: A,
     rooms: &mut Rooms<A>,
@@ -189,6 +192,7 @@ pub fn seat<A: Allocator + Copy>(
 }
 
 /// Takes a member off a channel; whether somebody was a member.
+#[tactic(auto, using(crate::proofs::SwapLemmas::swaps))]
 pub fn unseat<A: Allocator + Copy>(
     alloc: A,
     rooms: &mut Rooms<A>,
@@ -330,6 +334,7 @@ impl<A: Allocator> Table<Room<A>, A> {
 
     /// Makes copies of a key, one for each of the channels in which somebody is a member, in this
     /// list, whose room is used again. At `OutOfMemory` nothing is said of what it holds.
+    #[tactic(auto, using(crate::proofs::EachLemmas::entries_are))]
     pub fn copies_for(
         &self,
         alloc: A,
@@ -357,6 +362,7 @@ impl<A: Allocator> Table<Room<A>, A> {
     }
 
     /// Whether somebody is a member of one of the channels.
+    #[tactic(auto, using(crate::proofs::EachLemmas::rooms_are, crate::proofs::EachLemmas::rooms_sorted, crate::proofs::EachLemmas::seen_is))]
     pub fn is_seen(&self, who: Sought<'_>) -> bool
         ensures { result ≡ is_seen (rooms_of self.now.all) (sought_key who.entry) }
     {

@@ -19,6 +19,7 @@ pub enum Sought<'a> {
 }
 
 /// How a key stands to what is looked for.
+#[tactic(auto, using(crate::proofs::HeadLemmas::turned))]
 pub(crate) fn order(key: &[u8], sought: Sought<'_>) -> Ordering
     ensures { result ≡ bytes_cmp key.now (sought_key sought.entry) }
 {

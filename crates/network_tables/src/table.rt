@@ -51,6 +51,7 @@ impl<V, A: Allocator> Model for Table<V, A> {
 }
 
 /// How an entry stands to what is looked for, whose head is this.
+#[tactic(auto, using(crate::proofs::HeadLemmas::by_heads, crate::proofs::HeadLemmas::level))]
 fn order_by_head<V, A: Allocator>(slot: &Slot<V, A>, head: u64, sought: Sought<'_>) -> Ordering
     ensures { head ≡ head_of (sought_key sought.entry) → AreBytesTo 8 (sought_key sought.entry) →
         result ≡ bytes_cmp slot.now.entry.value.key.items (sought_key sought.entry) }
@@ -151,6 +152,7 @@ pub(crate) fn remove_at<T: Drop, A: Allocator>(items: &mut Vec<T, A>, place: usi
 
 impl<V, A: Allocator> Table<V, A> {
     /// A table without entries.
+    #[tactic(auto, using(crate::proofs::TableLemmas::none_sorted))]
     pub fn new(alloc: A) -> Table<V, A>
     where
         A: Copy,
@@ -164,6 +166,7 @@ impl<V, A: Allocator> Table<V, A> {
     }
 
     /// How many entries there are.
+    #[tactic(auto, using(crate::proofs::TableLemmas::entry_places))]
     pub fn len(&self) -> usize
         ensures { result ≡ length (fin.entries self.now.all) }
     {
@@ -238,6 +241,7 @@ impl<V, A: Allocator> Table<V, A> {
     }
 
     /// The key and the value at a place.
+    #[tactic(auto, using(crate::proofs::TableLemmas::entry_places))]
     pub fn at(&self, place: usize) -> Option<(&[u8], &V)>
         ensures { option_map entry_now result ≡ slice_get (fin.entries self.now.all) place }
     {
@@ -350,6 +354,7 @@ impl<V: Drop, A: Allocator> Table<V, A> {
     }
 
     /// Takes out all entries.
+    #[tactic(auto, using(crate::proofs::TableLemmas::none_sorted, crate::proofs::MarkLemmas::none_marked))]
     pub fn clear(&mut self)
         ensures { self.new.all ≡ fin.empty }
     {

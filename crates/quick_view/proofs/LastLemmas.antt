@@ -1,16 +1,16 @@
 -- What the last of some changes says, found by making them one after the other.
 use Rattle.net_view.proofs.Words
-use Words.{◌≡◌, ◌==◌, ◌||◌, ◌&&◌, ◌∷◌, ℕ, Bool, true, cond, List, [], filter_map, ForSome, arith}
-use Words.{ap, refl, option_and_then, option_map, unwrap_or, Option, Some, None, eq_by_cmp, nat_cmp}
-use Words.{is_nameable, ChangeParts, Text, Token, bytes_cmp, ranks_that, has_rank, last_in}
-use Words.{rank_in_change, setting_of, LetterChange}
 use Rattle.std.specs.FinMap as fin
+use Words.{◌&&◌, ◌==◌, ◌||◌, ◌∷◌, ◌≡◌, Bool, ChangeParts, ForSome, LetterChange, List, None, Option}
+use Words.{Some, Text, Token, [], ap, arith, bytes_cmp, cond, eq_by_cmp, filter_map, has_rank}
+use Words.{is_nameable, last_in, nat_cmp, option_and_then, option_map, rank_in_change, ranks_that}
+use Words.{refl, setting_of, true, unwrap_or, ℕ}
 use Rattle.irc_names.specs.{CaseMapping.key_of, declared.case_mapping.CaseMapping.CaseMapping}
 use Rattle.irc_support.specs.{Ranking.rank_of_letter, Settings.mapping_of}
 use Rattle.net_view.proofs.{AfterAlike.{is_same, look_ups}, RankSets.{has-ranks, is_rank}}
 use Rattle.net_view.{proofs.RankSets.ranks_alike, specs.MemberSets.ranks_changed}
 use Rattle.{net_view.specs.StateLines.letter_change, network_tables.specs.Table.swapped_in}
-use Rattle.{quick_view.specs.Moding.rank_after, std.specs.Prelude.not}
+use Rattle.{quick_view.specs.Moding.rank_after, std.specs.{Cmp.nat_cmp_total, Prelude.not}}
 
 -- one more is made
 pub last_more : {X Y A : Type 0} (says : X → Option A) (find : Y → Option X) (x : Y)
@@ -24,6 +24,17 @@ pub mode_put : (letter k : ℕ) (setting old : Option (Option Text))
     → cond (eq_by_cmp nat_cmp letter k) setting old
     ≡ unwrap_or (setting_of letter (record { letter = k; setting = setting })) old
 mode_put letter k setting old = grind arith
+
+pub letter_put : {X : Type 0} (m : fin.FinMap nat_cmp X) (k : ℕ) (v : X) (q : ℕ)
+    → fin.get (fin.insert m k v) q ≡ cond (eq_by_cmp nat_cmp q k) (Some v) (fin.get m q)
+letter_put = fin.get-insert nat_cmp_total
+
+pub letter_out : {X : Type 0} (m : fin.FinMap nat_cmp X) (k q : ℕ)
+    → fin.get (fin.remove m k) q ≡ cond (eq_by_cmp nat_cmp q k) None (fin.get m q)
+letter_out = fin.get-remove nat_cmp_total
+
+-- for an attribute `using`
+pub ruleset letter_maps = (letter_put, letter_out, mode_put)
 
 -- ---- ranks
 

@@ -1,17 +1,21 @@
 -- What views of transcripts have, for the lines that are taken.
 use Rattle.net_view.proofs.Words
-use Words.{◌≡◌, ◌++◌, ◌∷◌, ◌∙◌, ℕ, true, List, [], map, filter_map, is_some, IfSome, option_map}
-use Words.{Option, Some, sym, ap, arith, Parts, Text, Token, word_of, words, Listing, listing}
-use Words.{Silent, told, Arrival, Received, Lost, IsWrittenItem, IsSound, View, Channel, view_of}
-use Words.{empty_view, standing_of, is_us, after, after_told}
 use Rattle.std.specs.FinMap as fin
+use Words.{◌++◌, ◌∙◌, ◌∷◌, ◌≡◌, Arrival, Channel, IfSome, IsSound, IsWrittenItem, List, Listing}
+use Words.{Lost, Option, Parts, Received, Silent, Some, Text, Token, View, [], after, after_told}
+use Words.{ap, arith, empty_view, filter_map, is_some, is_us, listing, map, option_map, standing_of}
+use Words.{sym, told, true, view_of, word_of, words, ℕ}
 use Rattle.net_view.proofs.AfterAlike.{all_channels_stay, all_persons_stay, is_same, view_sets}
 use Rattle.net_view.proofs.{Emptied.view_lost, PartsSound.{Each, IsSoundListing, listing_sound}}
 use Rattle.net_view.proofs.{SoundStep.view_sound, StepLaw.{view_start, view_step}}
 use Rattle.net_view.specs.{MemberSets.{HasSets, IsKnowing}, View.lost_view, Written.AreWritten}
 use Rattle.quick_view.{proofs.LastLemmas.{IsSet, set_of}, specs.FromLines.ComesFromLines}
-use Rattle.{quick_view.specs.Listing.listings_in, std.proofs.Common.{Err, Ok, Result, subst}}
-use Rattle.std.specs.{Prelude.{OnErr, OnOk}, declared.vec.Vec.Vec}
+use Rattle.{quick_view.specs.Listing.listings_in, std.proofs.Common.{Err, Ok, OnErr, OnOk, Result}}
+use Rattle.std.proofs.{Common.{Vec, subst}, lemmas.Result.on_ok_weaker}
+
+-- what holds of a result, from what else holds of it
+pub on_ok : {A E P Q : Type 0} (r : Result A E) → OnOk r P → (P → Q) → OnOk r Q
+on_ok r h f = on_ok_weaker r f h
 
 pub view_none : {A : Type 0} (o : Option (Vec ℕ A))
     → is_some (option_map (λ t. t.items) o) ≡ is_some o

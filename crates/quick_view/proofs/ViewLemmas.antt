@@ -1,59 +1,30 @@
 -- Views, by what a line changes of their maps.
 use Rattle.net_view.proofs.Words
-use Words.{Bool, Channel, List, Listed, Listing, ModeChange, None, Option, Person, Some, Text, View}
-use Words.{[], after_told, arith, bytes_cmp, cond, false, is_seen, is_some, last_in, nat_cmp}
-use Words.{old_member, same, setting_of, told_person, true, unwrap_or, without_member, ℕ, ◌≡◌}
-use Words.{nat_list_cmp_total}
 use Rattle.std.specs.FinMap as fin
-use Rattle.net_view.proofs.{AfterAlike.{look_ups, put_again, removed_none}, AfterMaps.seen_in}
-use Rattle.net_view.proofs.{AfterMaps.seen_somewhere, AfterModes.after_modes}
-use Rattle.net_view.proofs.{AfterModes.after_modes_elsewhere, Keys.{bytes_exact, is_same}}
-use Rattle.net_view.{proofs.Keys.same_by_keys, specs.Changes.{fresh_channel, joined_view}}
-use Rattle.net_view.specs.{Changes.{parted_view, with_ranks}, MemberSets.{HasSets, IsKnowing}}
-use Rattle.network_tables.{proofs.ShownLemmas.{insert-shown, remove-shown}, specs.People.changed_at}
-use Rattle.network_tables.specs.{Rooms.with_modes, Shown.shown}
+use Words.{◌≡◌, Bool, Channel, List, Listed, Listing, ModeChange, None, Option, Person, Some, Text}
+use Words.{View, after_told, arith, bytes_cmp, false, is_seen, is_some, last_in, nat_cmp}
+use Words.{old_member, same, setting_of, true, unwrap_or, without_member, ℕ}
+use Rattle.net_view.proofs.{AfterAlike.{look_ups, put_again, removed_none}, AfterModes.after_modes}
+use Rattle.net_view.proofs.{AfterMaps.{seen_in, seen_somewhere}, AfterModes.after_modes_elsewhere}
+use Rattle.{net_view.proofs.Keys.{is_same, same_by_keys}, network_tables.specs.People.changed_at}
+use Rattle.net_view.specs.{Changes.{fresh_channel, parted_view}, MemberSets.{HasSets, IsKnowing}}
+use Rattle.network_tables.{proofs.ShownLemmas.{contains-shown, empty-shown}, specs.Rooms.with_modes}
+use Rattle.network_tables.{proofs.SwapLemmas.{get_shown, out_shown, put_shown}}
 use Rattle.quick_view.specs.Listing.{listed_view, members_listed, people_listed}
 
--- ---- what is shown of a table
-
-pub inserted_shown : {X Y : Type 0} (f : X → Y) (m : fin.FinMap bytes_cmp X) (k : Text) (x : X)
-    → shown f (fin.insert m k x) ≡ fin.insert (shown f m) k (f x)
-inserted_shown f = insert-shown bytes_cmp f nat_list_cmp_total bytes_exact
-
-pub removed_shown : {X Y : Type 0} (f : X → Y) (m : fin.FinMap bytes_cmp X) (k : Text)
-    → shown f (fin.remove m k) ≡ fin.remove (shown f m) k
-removed_shown f = remove-shown bytes_cmp f nat_list_cmp_total bytes_exact
-
--- ---- another's JOIN
-
-module _ (v : View) (c n nick : Text) (account : Option (Option Text)) where
-  pub joined_is : (cs : fin.FinMap bytes_cmp Channel) (ps : fin.FinMap bytes_cmp Person)
-      → fin.contains_key v.channels c ≡ true → cs ≡ changed_at v.channels c (with_ranks n [])
-      → ps ≡ fin.insert v.people n
-      (told_person (Some (Some nick)) account None (fin.get v.people n))
-      → record v { channels = cs; people = ps } ≡ joined_view v c n nick account
-  joined_is cs ps there cs_is ps_is = grind arith
-
-  pub joined_none : fin.contains_key v.channels c ≡ false → v ≡ joined_view v c n nick account
-  joined_none none = grind arith
+-- what is shown of a table, for an attribute `using`
+pub ruleset tables = (get_shown, put_shown, out_shown, contains-shown, empty-shown)
 
 -- ---- another's PART
 
-module _ (v : View) (c n : Text) (cs : fin.FinMap bytes_cmp Channel)
-    (cs_is : cs ≡ changed_at v.channels c (without_member n)) where
-  -- a member left
-  pub parted_is : (ps : fin.FinMap bytes_cmp Person)
-      → is_some (old_member (fin.get v.channels c) n) ≡ true
-      → ps ≡ cond (is_seen cs n) v.people (fin.remove v.people n)
-      → record v { channels = cs; people = ps } ≡ parted_view v c n
-  parted_is ps was ps_is = grind arith
-
-  -- nobody was there who could leave
-  pub parted_nobody : is_some (old_member (fin.get v.channels c) n) ≡ false
-      → record v { channels = cs } ≡ parted_view v c n
-  parted_nobody was =
-      let gone = λ (ch : Channel). removed_none ch.members n in
-      grind (arith, gone, put_again v.channels c)
+-- nobody was there who could leave
+pub parted_nobody : (v : View) (c n : Text) (cs : fin.FinMap bytes_cmp Channel)
+    → cs ≡ changed_at v.channels c (without_member n)
+    → is_some (old_member (fin.get v.channels c) n) ≡ false
+    → record v { channels = cs } ≡ parted_view v c n
+parted_nobody v c n cs cs_is was =
+    let gone = λ (ch : Channel). removed_none ch.members n in
+    grind (arith, gone, put_again v.channels c)
 
 -- ---- who is still seen once we left a channel that we were not on, or joined one anew
 
@@ -61,26 +32,28 @@ all_seen : (ps : fin.FinMap bytes_cmp Person) (seen : Text → Bool)
     → ((q : Text) → fin.contains_key ps q ≡ true → seen q ≡ true) → fin.retain_keys ps seen ≡ ps
 all_seen ps seen all = same_by_keys (λ q. grind (look_ups, all q))
 
-pub left_stays : (v : View) (c : Text) → IsKnowing v → fin.get v.channels c ≡ None
-    → fin.retain_keys v.people (is_seen (fin.remove v.channels c)) ≡ v.people
-left_stays v c known none =
-    rw (removed_none v.channels c none) (all_seen v.people _ (λ q h. grind (arith, known q)))
+pub left_stays : (cs : fin.FinMap bytes_cmp Channel) (ps : fin.FinMap bytes_cmp Person) (c : Text)
+    → ((q : Text) → fin.contains_key ps q ≡ is_seen cs q) → fin.get cs c ≡ None
+    → fin.retain_keys ps (is_seen (fin.remove cs c)) ≡ ps
+left_stays cs ps c known none =
+    rw (removed_none cs c none) (all_seen ps _ (λ q h. grind (arith, known q)))
 
-module _ (v : View) (c name n : Text) (joiner : Person) (known : IsKnowing v)
-    (none : fin.get v.channels c ≡ None) where
+module _ (cs : fin.FinMap bytes_cmp Channel) (ps : fin.FinMap bytes_cmp Person) (c name n : Text)
+    (joiner : Person) (known : (q : Text) → fin.contains_key ps q ≡ is_seen cs q)
+    (none : fin.get cs c ≡ None) where
   abbrev new : fin.FinMap bytes_cmp Channel
-  new = fin.insert v.channels c (fresh_channel name n)
+  new = fin.insert cs c (fresh_channel name n)
 
   joiner_seen : (q : Text) → same q n ≡ true → is_seen new q ≡ true
   joiner_seen q e = seen_in new c q (grind look_ups)
 
-  other_seen : (q : Text) → fin.contains_key v.people q ≡ true → is_seen new q ≡ true
+  other_seen : (q : Text) → fin.contains_key ps q ≡ true → is_seen new q ≡ true
   other_seen q h =
-      let at = seen_somewhere v.channels q (grind (arith, known q)) in
+      let at = seen_somewhere cs q (grind (arith, known q)) in
       seen_in new (at.0) q (grind (look_ups, is_same (at.0) c, at.1))
 
-  pub entered_stays : fin.retain_keys (fin.insert v.people n joiner) (is_seen new)
-      ≡ fin.insert v.people n joiner
+  pub entered_stays : fin.retain_keys (fin.insert ps n joiner) (is_seen new)
+      ≡ fin.insert ps n joiner
   entered_stays = all_seen _ _ (λ q h. grind (look_ups, joiner_seen q, other_seen q))
 
 -- ---- 324
@@ -104,6 +77,3 @@ module _ (v : View) (c : Text) (ls : List Listing) where
       → ps ≡ people_listed v.people ls
       → record v { channels = cs; people = ps } ≡ listed_view v c ls
   listed_is ch cs ps there cs_is ps_is = grind arith
-
-  pub listed_none : None ≡ fin.get v.channels c → v ≡ listed_view v c ls
-  listed_none none = grind arith

@@ -42,6 +42,7 @@ fn setting_by<'a>(kind: Kind, plus: bool, param: Option<&'a [u8]>) -> Option<Set
 }
 
 /// Makes one change of the modes.
+#[tactic(auto, using(crate::proofs::LastLemmas::letter_maps))]
 fn change_mode<A: Allocator + Copy, B: Allocator>(
     alloc: A,
     modes: &mut Modes<A>,

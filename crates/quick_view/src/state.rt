@@ -45,6 +45,7 @@ impl<A: Allocator + Copy> State<A> {
     ghost use Rattle.quick_view.specs.Listing.{listings_in, listed_view};
 
     /// What is kept of a network that has not taken us in.
+    #[tactic(auto, using(crate::proofs::ViewLemmas::tables))]
     pub(crate) fn new(alloc: A) -> Result<State<A>, OutOfMemory>
         ensures { IfOk result (λ s. view_kept s ≡ empty_view) }
     {
@@ -72,6 +73,7 @@ impl<A: Allocator + Copy> State<A> {
     }
 
     /// `001`: all starts anew.
+    #[tactic(auto, using(crate::proofs::ViewLemmas::tables))]
     pub(crate) fn welcome(&mut self, nick: &[u8]) -> Result<(), OutOfMemory>
         ensures welcomed { OnOk result (view_kept self.new ≡ welcomed_view nick.now) }
         ensures kept { OnErr result (view_kept self.new ≡ view_kept self.old) }
@@ -87,6 +89,7 @@ impl<A: Allocator + Copy> State<A> {
     }
 
     /// A loss, or our own QUIT: we are on no channel, and nobody is in sight.
+    #[tactic(auto, using(crate::proofs::ViewLemmas::tables))]
     pub(crate) fn lose(&mut self)
         ensures { view_kept self.new ≡ lost_view (view_kept self.old) }
     {
@@ -148,6 +151,7 @@ impl<A: Allocator + Copy> State<A> {
     }
 
     /// Another's JOIN of a channel.
+    #[tactic(auto, using(crate::proofs::ViewLemmas::tables))]
     pub(crate) fn join(
         &mut self,
         channel: &[u8],
@@ -177,6 +181,7 @@ impl<A: Allocator + Copy> State<A> {
     }
 
     /// Another's PART of a channel, or that another was kicked off it.
+    #[tactic(auto, using(crate::proofs::ViewLemmas::tables))]
     pub(crate) fn part(&mut self, channel: &[u8], who: &[u8])
         ensures { view_kept self.new ≡ parted_view (view_kept self.old)
             (key_by self.old.support channel.now) (key_by self.old.support who.now) }
@@ -193,6 +198,7 @@ impl<A: Allocator + Copy> State<A> {
     }
 
     /// Another's QUIT.
+    #[tactic(auto, using(crate::proofs::ViewLemmas::tables))]
     pub(crate) fn quit(&mut self, who: &[u8])
         ensures { view_kept self.new ≡ quitted_view (view_kept self.old) (key_by self.old.support
             who.now) }
@@ -204,6 +210,7 @@ impl<A: Allocator + Copy> State<A> {
 
     /// Our own PART of a channel, or that we were kicked off it. Where we are not on it nothing
     /// changes, so long as who is in sight is a member of some channel.
+    #[tactic(auto, using(crate::proofs::ViewLemmas::tables, crate::proofs::ViewLemmas::left_stays))]
     pub(crate) fn leave(&mut self, channel: &[u8])
         ensures { IsKnowing (view_kept self.old) → view_kept self.new
             ≡ left_view (view_kept self.old) (key_by self.old.support channel.now) }
@@ -215,6 +222,7 @@ impl<A: Allocator + Copy> State<A> {
     }
 
     /// Our own JOIN of a channel: we are its one member.
+    #[tactic(auto, using(crate::proofs::ViewLemmas::tables, crate::proofs::ViewLemmas::entered_stays))]
     pub(crate) fn enter(
         &mut self,
         channel: &[u8],
@@ -246,6 +254,7 @@ impl<A: Allocator + Copy> State<A> {
     }
 
     /// A NICK that counts, ours or another's. Who is not in sight is a member of no channel.
+    #[tactic(auto, using(crate::proofs::ViewLemmas::tables, network_tables::proofs::SwapLemmas::freely_moved))]
     pub(crate) fn rename(&mut self, ours: bool, old: &[u8], new: &[u8]) -> Result<(), OutOfMemory>
         ensures taken { OnOk result (IsKnowing (view_kept self.old) → view_kept self.new
             ≡ renamed_view (view_kept self.old) ours (key_by self.old.support old.now)
@@ -270,6 +279,7 @@ impl<A: Allocator + Copy> State<A> {
     }
 
     /// MODE.
+    #[tactic(auto, using(network_tables::proofs::SwapLemmas::swaps))]
     pub(crate) fn take_mode<B: Allocator>(
         &mut self,
         channel: &[u8],
@@ -312,6 +322,7 @@ impl<A: Allocator + Copy> State<A> {
     }
 
     /// `353`.
+    #[tactic(auto, using(crate::proofs::ViewLemmas::tables, network_tables::proofs::SwapLemmas::swaps))]
     pub(crate) fn take_names<B: Allocator>(
         &mut self,
         channel: &[u8],

@@ -50,6 +50,7 @@ impl<A: Allocator + Copy> TableView<A> {
     ghost use Rattle.net_view.specs.View.{empty_view};
 
     /// A view to which nothing came.
+    #[tactic(auto, using(crate::proofs::TakeLemmas::no_lines))]
     pub fn new(alloc: A) -> Result<TableView<A>, OutOfMemory>
         ensures { IfOk result (λ v. v ≡ empty_view) }
     {
@@ -96,10 +97,12 @@ impl<A: Allocator + Copy> NetworkView for TableView<A> {
         bytes(&self.state.own)
     }
 
+    #[tactic(auto, using(crate::proofs::ReadLemmas::places))]
     fn channel_count(&self) -> usize {
         self.state.rooms.len()
     }
 
+    #[tactic(auto, using(crate::proofs::ReadLemmas::places))]
     fn channel_at(&self, i: usize) -> Option<Channel<'_>> {
         match self.state.rooms.at(i) {
             Some((_key, room)) => Some(Channel {
@@ -110,6 +113,7 @@ impl<A: Allocator + Copy> NetworkView for TableView<A> {
         }
     }
 
+    #[tactic(auto, using(crate::proofs::ReadLemmas::places))]
     fn mode_at(&self, i: usize, j: usize) -> Option<(u8, Option<&[u8]>)> {
         match self.state.rooms.at(i) {
             Some((_key, room)) => room.modes.at(j),
@@ -117,6 +121,7 @@ impl<A: Allocator + Copy> NetworkView for TableView<A> {
         }
     }
 
+    #[tactic(auto, using(crate::proofs::ReadLemmas::places))]
     fn member_count(&self, i: usize) -> usize {
         match self.state.rooms.at(i) {
             Some((_key, room)) => room.members.len(),
@@ -124,6 +129,7 @@ impl<A: Allocator + Copy> NetworkView for TableView<A> {
         }
     }
 
+    #[tactic(auto, using(crate::proofs::ReadLemmas::places))]
     fn member_at(&self, i: usize, j: usize) -> Option<Member<'_>> {
         let Some((_key, room)) = self.state.rooms.at(i) else {
             return None;
@@ -143,6 +149,7 @@ impl<A: Allocator + Copy> NetworkView for TableView<A> {
         }
     }
 
+    #[tactic(auto, using(crate::proofs::ReadLemmas::places))]
     fn account_of(&self, nick: &[u8]) -> Option<&[u8]> {
         if !is_nameable(nick) {
             return None;

@@ -7,12 +7,10 @@ loop-place-init g c = λ j d l. absurd (omega (arith, l))
 
 pub loop-place-preserved : goal.loop-place-preserved
 loop-place-preserved g c =
-    marked_next entry_of c.loop-place.marks.items c.args.slots.now.items _ c.loop-place.place
-    c.at.result.now _ (rw c.len-place-end.ensures at c.loop-place-test.true)
+    marked_next entry_of _ _ _ _ _ _ (rw c.len-place-end.ensures at c.loop-place-test.true)
     c.at.ensures c.at.result.now.same c.put_up.ensures c.loop-place.invariant
 
 pub returns : goal.returns
 returns g c =
     let n = rw c.len-place-end.ensures at c.loop-place-test.false in
-    all_marked entry_of c.loop-place.marks.items c.args.slots.now.items c.requires
-    (λ j d l. c.loop-place.invariant j d (omega (arith, l, n)))
+    all_marked entry_of _ _ c.requires (λ j d l. c.loop-place.invariant j d (omega (arith, l, n)))

@@ -1,7 +1,6 @@
 use Rattle.network_tables.proofs.person.retain_in.Goals as goal
-use Rattle.{net_view.specs.Step.is_seen, network_tables.proofs.Retaining.{taken_out}}
-use Rattle.{network_tables.specs.Rooms.rooms_of, std.proofs.Common.{arith}}
-use Rattle.std.{proofs.{Common.{◌-◌}, lemmas.Grind.common_steps}}
+use Rattle.{network_tables.proofs.Retaining.taken_out}
+use Rattle.std.proofs.{Common.{◌-◌, arith}, lemmas.Grind.common_steps}
 
 pub loop-place-preserved-then-not-is_seen : goal.loop-place-preserved-then-not-is_seen
 loop-place-preserved-then-not-is_seen g c =
@@ -10,8 +9,7 @@ loop-place-preserved-then-not-is_seen g c =
     let before = c.loop-place.invariant in
     record {
       looked = rw c.remove.ensures.items
-          (taken_out (λ slot. is_seen (rooms_of c.args.rooms.now.all) slot.entry.value.key.items)
-          _ _ n (n - 1) _
+          (taken_out _ _ _ n (n - 1) _
           (omega (arith, some)) before.within before.looked c.at.ensures
           (rw (c.is_seen.ensures, c.deref-in-loop-place.ensures.value, c.deref.ensures)
           at c.if-not-is_seen.true));

@@ -4,11 +4,9 @@ use Rattle.network_tables.specs.Table.{entry_of}
 
 pub invariant_of-index : goal.invariant_of-index
 invariant_of-index g c =
-    rw c.retain_in.ensures (tabled_by _
-    (retained entry_of _ c.index.inside.entries.items c.index.invariant.0)
+    rw c.retain_in.ensures (tabled_by _ (retained entry_of _ _ c.index.invariant.0)
     (marked_retained _ _ c.index.invariant.1 _))
 
 pub returns : goal.returns
 returns g c =
-    rw (← c.index.view_is, c.retain_in.ensures)
-    (retained entry_of _ c.index.inside.entries.items c.index.invariant.0).is
+    rw (← c.index.view_is, c.retain_in.ensures) (retained entry_of _ _ c.index.invariant.0).is

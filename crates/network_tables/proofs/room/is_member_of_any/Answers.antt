@@ -4,6 +4,6 @@ use Rattle.{network_tables.specs.Sought.sought_key}
 
 pub returns-then-contains_by : goal.returns-then-contains_by
 returns-then-contains_by g c =
-    any_at (is_in (sought_key c.args.who)) room_entry c.args.rooms.now.items c.loop-place.place _
+    any_at (is_in (sought_key c.args.who)) room_entry _ _ _
     (rw c.len-place-end.ensures at c.loop-place-test.true) c.at.ensures
     (rw (c.contains_by.ensures, c.deref.ensures) at c.if-contains_by.true)

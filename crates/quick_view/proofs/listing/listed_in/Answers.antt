@@ -14,13 +14,10 @@ loop-ranks-init g c =
 
 pub loop-ranks-preserved : goal.loop-ranks-preserved
 loop-ranks-preserved g c =
-    rw (
-      c.loop-ranks.invariant,
-      c.in-Some.ensures.steps,
-      passed_over c.args.support.now
-          (record { ranks = c.in-Some.ranks; nick = c.in-Some.name.now }) c.next.new.self
-          (rw c.is_nameable.ensures at c.if-is_nameable.false),
-    )
+    let over = passed_over c.args.support.now
+    (record { ranks = c.in-Some.ranks; nick = c.in-Some.name.now }) c.next.new.self
+    (rw c.is_nameable.ensures at c.if-is_nameable.false) in
+    rw (c.loop-ranks.invariant, c.in-Some.ensures.steps, over)
 
 pub returns : goal.returns
 returns g c = rw (c.loop-ranks.invariant, (c.in-None.ensures.steps).0, append-nil)

@@ -1,8 +1,7 @@
 use Rattle.std.specs.FinMap as fin
 use Rattle.quick_view.proofs.moding.change_modes.Given as goal
-use Rattle.{irc_support.specs.Line.changes_in, net_view.specs.{LookBack.last_in, Modes.setting_of}}
-use Rattle.{net_view.specs.StateLines.mode_change, std.proofs.Common.{ℕ, ◌≡◌}}
-use Rattle.std.specs.{List.filter_map, Option.unwrap_or}
+use Rattle.{irc_support.specs.Line.changes_in, std.proofs.Common.{◌≡◌, filter_map, unwrap_or, ℕ}}
+use Rattle.net_view.specs.{LookBack.last_in, Modes.setting_of, StateLines.mode_change}
 
 abbrev pub invariant-loop-change : goal.invariant-loop-change
 invariant-loop-change g l = (letter : ℕ) →

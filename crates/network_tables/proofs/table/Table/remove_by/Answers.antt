@@ -1,40 +1,32 @@
 use Rattle.network_tables.proofs.table.Table.remove_by.Goals as goal
-use Rattle.network_tables.proofs.{MarkLemmas.{marked_removed, not_there}, TableLemmas.by_bytes}
-use Rattle.network_tables.proofs.TableLemmas.{got, got_none, removed_none_of, removed_there}
-use Rattle.network_tables.{proofs.TableLemmas.tabled_by, specs.{Sought.sought_key, Table.entry_of}}
-use Rattle.std.proofs.Common.{rules, sym, ◌∙◌}
+use Rattle.network_tables.proofs.{MarkLemmas.{marked_removed, not_there}, TableLemmas.removed_there}
+use Rattle.network_tables.proofs.TableLemmas.{by_bytes, got, got_none, removed_none_of, tabled_by}
+use Rattle.{network_tables.specs.Table.entry_of, std.proofs.Common.{◌∙◌, rules, sym}}
 
 pub invariant_of-self : goal.invariant_of-self
 invariant_of-self g c =
-    rw c.remove.ensures.items (tabled_by _ (removed_there by_bytes entry_of
-    c.self.inside.entries.items c.self.invariant.0 (sought_key c.args.sought) c.in-Ok.place
+    rw c.remove.ensures.items (tabled_by _ (removed_there by_bytes entry_of _ c.self.invariant.0
     c.in-Ok.ensures.bound c.in-Ok.ensures.place c.remove.result)
     (marked_removed _ _ c.self.invariant.1 _))
 
 pub returns-in-Ok-clause-value : goal.returns-in-Ok-clause-value
 returns-in-Ok-clause-value g c =
-    rw (← c.self.view_is)
-    (got by_bytes entry_of c.self.inside.entries.items c.self.invariant.0
-    (sought_key c.args.sought) c.in-Ok.place c.in-Ok.ensures.bound c.in-Ok.ensures.place _
-    c.remove.ensures.value)
+    rw (← c.self.view_is) (got by_bytes entry_of _ c.self.invariant.0 c.in-Ok.ensures.bound
+    c.in-Ok.ensures.place _ c.remove.ensures.value)
 
 pub returns-in-Ok-clause-all : goal.returns-in-Ok-clause-all
 returns-in-Ok-clause-all g c =
+    let at = c.in-Ok.ensures in
     rw (← c.self.view_is, c.remove.ensures.items)
-    (removed_there by_bytes entry_of c.self.inside.entries.items c.self.invariant.0
-    (sought_key c.args.sought) c.in-Ok.place c.in-Ok.ensures.bound c.in-Ok.ensures.place
-    c.remove.result).is
+    (removed_there by_bytes entry_of _ c.self.invariant.0 at.bound at.place c.remove.result).is
 
 pub returns-in-Err : goal.returns-in-Err
 returns-in-Err g c =
-    let none = got_none by_bytes entry_of c.self.inside.entries.items c.self.invariant.0
-    (sought_key c.args.sought) c.in-Err.field-0 c.in-Err.ensures.bound c.in-Err.ensures.place in
-    rw (← c.self.view_is) (record {
-      value = none;
-      all = removed_none_of by_bytes _ _ none;
-      room = search rules;
-      left = search rules;
-    })
+    let at = c.in-Err.ensures in
+    let none = got_none by_bytes entry_of _ c.self.invariant.0 at.bound at.place in
+    let all = removed_none_of by_bytes _ _ none in
+    rw (← c.self.view_is)
+    (record { value = none; all = all; room = search rules; left = search rules })
 
 pub returns-then-not-is_up-clause-all : goal.returns-then-not-is_up-clause-all
 returns-then-not-is_up-clause-all g c =

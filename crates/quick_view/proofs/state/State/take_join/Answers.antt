@@ -1,8 +1,7 @@
 use Rattle.quick_view.proofs.state.State.take_join.Goals as goal
-use Rattle.net_view.proofs.{AfterJoin.{after_join, after_void_join}, AfterOwnJoin.after_own_join}
-use Rattle.{net_view.specs.Changes.readied, network_tables.proofs.Outcomes.on_ok}
-use Rattle.{quick_view.{proofs.TakeLemmas.own_there, specs.Kept.view_kept}, std.proofs.Common.ap}
-use Rattle.std.proofs.Common.{sym, ◌∙◌}
+use Rattle.net_view.proofs.AfterJoin.{after_join, after_own_join, after_void_join}
+use Rattle.{net_view.specs.Changes.readied, quick_view.proofs.TakeLemmas.{on_ok, own_there}}
+use Rattle.{quick_view.specs.Kept.view_kept, std.proofs.Common.{◌∙◌, ap, sym}}
 
 pub returns-then-not-is_us-clause-taken : goal.returns-then-not-is_us-clause-taken
 returns-then-not-is_us-clause-taken g c =

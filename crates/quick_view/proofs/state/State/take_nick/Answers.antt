@@ -1,9 +1,8 @@
 use Rattle.quick_view.proofs.state.State.take_nick.Goals as goal
 use Rattle.{irc_support.specs.Settings.key_by, net_view.proofs.AfterRename.after_no_rename}
 use Rattle.net_view.{proofs.AfterRename.after_rename, specs.Changes.renamed_channel}
-use Rattle.{net_view.specs.Names.{bytes_cmp, name_of}, network_tables.proofs.Outcomes.on_ok}
-use Rattle.{network_tables.proofs.ShownLemmas.get-shown, quick_view.specs.Kept.view_kept}
-use Rattle.std.proofs.Common.{sym}
+use Rattle.{net_view.specs.Names.{bytes_cmp, name_of}, network_tables.proofs.ShownLemmas.get-shown}
+use Rattle.{quick_view.{proofs.TakeLemmas.on_ok, specs.Kept.view_kept}, std.proofs.Common.sym}
 
 pub returns-then-is_us-clause-taken : goal.returns-then-is_us-clause-taken
 returns-then-is_us-clause-taken g c = on_ok c.rename.result c.rename.ensures.taken (λ e sound sets.
@@ -11,11 +10,8 @@ returns-then-is_us-clause-taken g c = on_ok c.rename.result c.rename.ensures.tak
     let old = key_by v.settings c.args.old.now in
     let new = name_of v.settings c.args.new.now in
     let ours = rw c.is_us.ensures at c.if-is_us.true in
-    rw (
-      after_rename v sets sound.known old new (rw ours) _
-          (get-shown bytes_cmp (renamed_channel old new.key) v.channels),
-      ours,
-    ) (e sound.known))
+    let moved = get-shown bytes_cmp (renamed_channel old new.key) v.channels in
+    rw (after_rename v sets sound.known old new (rw ours) _ moved, ours) (e sound.known))
 
 pub returns-then-is_us-2-clause-taken : goal.returns-then-is_us-2-clause-taken
 returns-then-is_us-2-clause-taken g c = λ sound sets.
@@ -32,8 +28,6 @@ returns-clause-taken g c = on_ok c.rename-2.result c.rename-2.ensures.taken (λ 
     let new = name_of v.settings c.args.new.now in
     let others = rw c.is_us.ensures at c.if-is_us.false in
     let not_ours = rw c.is_us-2.ensures at c.if-is_us-2.false in
-    rw (
-      after_rename v sets sound.known old new (rw (others, not_ours)) _
-          (get-shown bytes_cmp (renamed_channel old new.key) v.channels),
-      others,
-    ) (e sound.known))
+    let moved = get-shown bytes_cmp (renamed_channel old new.key) v.channels in
+    rw (after_rename v sets sound.known old new (rw (others, not_ours)) _ moved, others)
+    (e sound.known))

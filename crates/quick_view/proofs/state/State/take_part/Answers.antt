@@ -1,5 +1,5 @@
 use Rattle.quick_view.proofs.state.State.take_part.Goals as goal
-use Rattle.net_view.proofs.{AfterOwnPart.after_own_part, AfterPart.after_part}
+use Rattle.net_view.proofs.AfterPart.{after_own_part, after_part}
 use Rattle.std.proofs.Common.{sym, ◌∙◌}
 
 pub returns-then-is_us : goal.returns-then-is_us

@@ -1,5 +1,5 @@
 use Rattle.quick_view.proofs.state.State.take_supports.Goals as goal
-use Rattle.{net_view.proofs.AfterFacts.after_supports, network_tables.proofs.Outcomes.on_ok}
+use Rattle.{net_view.proofs.AfterFacts.after_supports, quick_view.proofs.TakeLemmas.on_ok}
 use Rattle.quick_view.{proofs.TakeLemmas.view_none, specs.Kept.view_kept}
 
 pub returns-then-not-welcomed-clause-taken : goal.returns-then-not-welcomed-clause-taken

@@ -1,26 +1,23 @@
 use Rattle.quick_view.proofs.table_view.TableViewNetworkView.take.Goals as goal
 use Rattle.net_view.{proofs.{Commands.is_read, StepLaw.view_unchanged}, specs.Arrival.Lost}
-use Rattle.{net_view.specs.Arrival.Received, network_tables.proofs.Outcomes.on_ok}
-use Rattle.quick_view.proofs.TakeLemmas.{after_line, line_taken, loss_taken, still_from_lines}
-use Rattle.{quick_view.specs.Kept.view_kept, std.proofs.Common.{ap, is_some, sym, ◌∙◌}}
+use Rattle.{net_view.specs.Arrival.Received, quick_view.proofs.TakeLemmas.{after_line, line_taken}}
+use Rattle.quick_view.proofs.TakeLemmas.{loss_taken, on_ok, still_from_lines}
+use Rattle.std.proofs.Common.{◌∙◌, ap, is_some, sym}
 
 pub invariant_of-self : goal.invariant_of-self
 invariant_of-self g c =
-    after_line (view_kept c.self.inside.state) (view_kept c.take_line.new.self) c.in-Line.line
-    c.take_line.result c.take_line.ensures.taken c.take_line.ensures.kept
-    c.self.invariant c.in-Some.ensures.writable
+    after_line _ _ c.in-Line.line c.take_line.result c.take_line.ensures.taken
+    c.take_line.ensures.kept c.self.invariant c.in-Some.ensures.writable
 
 pub invariant_of-self-in-Lost : goal.invariant_of-self-in-Lost
 invariant_of-self-in-Lost g c =
     let from = c.self.invariant in
-    still_from_lines (view_kept c.lose.new.self) (from.0) Lost (from.1) tt
-    (loss_taken _ _ (from.0) (from.2) c.lose.ensures)
+    still_from_lines _ (from.0) Lost (from.1) tt (loss_taken _ _ (from.0) (from.2) c.lose.ensures)
 
 pub returns-in-Some-clause-taken : goal.returns-in-Some-clause-taken
 returns-in-Some-clause-taken g c items e =
     on_ok c.take_line.result c.take_line.ensures.taken (λ taken.
-    rw c.in-Line.is (line_taken (view_kept c.self.inside.state) (view_kept c.take_line.new.self)
-    items c.in-Line.line (c.self.view_is ∙ e) taken))
+    rw c.in-Line.is (line_taken _ _ items c.in-Line.line (c.self.view_is ∙ e) taken))
 
 pub returns-in-Some-clause-free : goal.returns-in-Some-clause-free
 returns-in-Some-clause-free g c e =
@@ -36,5 +33,4 @@ returns-in-None-clause-taken g c items e =
 
 pub returns-in-Lost-clause-taken : goal.returns-in-Lost-clause-taken
 returns-in-Lost-clause-taken g c items e =
-    rw c.in-Lost.is (loss_taken (view_kept c.self.inside.state) (view_kept c.lose.new.self) items
-    (c.self.view_is ∙ e) c.lose.ensures)
+    rw c.in-Lost.is (loss_taken _ _ items (c.self.view_is ∙ e) c.lose.ensures)
