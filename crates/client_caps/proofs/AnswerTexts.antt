@@ -16,6 +16,13 @@ pub param_or_nothing : (line : Parts) (i : ℕ) → is_writable line ≡ true
     → is_clean (unwrap_or (slice_get line.params i) []) ≡ true
 param_or_nothing line i h = grind (arith, param_clean line.params i (split_written line h).2)
 
+pub lent : (o : Option (Bor Text)) (none : Bor Text) → none.now ≡ []
+    → (unwrap_or o none).now ≡ unwrap_or (option_map (λ (b : Bor Text). b.now) o) []
+lent o none is = grind arith
+
+-- what a request asks, or nothing
+pub ruleset asked_steps = (lent, param_or_nothing)
+
 -- what a client is called
 pub name_can_stand : (nick : Option (Bor Text)) (star : Bor Text) → star.now ≡ codes "*"
     → IfSome nick (λ n. is_nameable n.now ≡ true)

@@ -18,15 +18,10 @@ pub record IsDay (n : ℕ) (date : Date) : Type 0 where
   pub day : IsInRange 1 (days_in_month (pos date.year) date.month) date.day
 
 next_day : (n y m d : ℕ) → days_from_civil (pos y) m d ≡ pos n → IsInRange 1 12 m → 1 ≤ d
-    → d < days_in_month (pos y) m
-    → IsDay (suc n) (record { year = y; month = m; day = d + 1 })
+    → d < days_in_month (pos y) m → IsDay (suc n) (record { year = y; month = m; day = d + 1 })
 next_day n y m d e month first lt = record {
-  number = omega (
-    arith,
-    signed_arith,
-    e,
-    days_from_civil-day (pos y) m d (d + 1) first (omega arith),
-  );
+  number = let next = days_from_civil-day (pos y) m d (d + 1) first (omega arith) in
+      omega (arith, signed_arith, e, next);
   month = month;
   day = (omega arith, omega (arith, lt));
 }
@@ -45,32 +40,20 @@ next_year n y m d e twelve last =
     let long : days_in_month (pos y) 12 ≡ 31 = refl in
     let d31 : d ≡ 31 = last ∙ ap (days_in_month (pos y)) twelve ∙ long in
     let e' : days_from_civil (pos y) 12 31 ≡ pos n = rw (← twelve, ← d31) e in
+    let next = days_from_civil-next_year (pos y) (pos (y + 1)) (omega (arith, signed_arith))
+    (omega (arith, signed_arith)) in
     record {
-      number = omega (
-        arith,
-        signed_arith,
-        e',
-        days_from_civil-next_year (pos y) (pos (y + 1)) (omega (arith, signed_arith))
-            (omega (arith, signed_arith)),
-      );
+      number = omega (arith, signed_arith, e', next);
       month = (omega arith, omega arith);
       day = (omega arith, omega (arith, days_in_month_bounds (pos (y + 1)) 1));
     }
 
 day_after_is : (n : ℕ) (date : Date) → IsDay n date → IsDay (suc n) (day_after date)
 day_after_is n date is =
-    let y = date.year in
-    let m = date.month in
-    let d = date.day in
-    grind (
-      arith,
-      nat_tests,
-      is.month,
-      is.day,
-      next_day n y m d is.number is.month is.day.0,
-      next_month n y m d is.number is.month.0,
-      next_year n y m d is.number,
-    )
+    let day = next_day n date.year date.month date.day is.number is.month is.day.0 in
+    let month = next_month n date.year date.month date.day is.number is.month.0 in
+    let year = next_year n date.year date.month date.day is.number in
+    grind (arith, nat_tests, is.month, is.day, day, month, year)
 
 pub days_count : (n : ℕ) → IsDay n (date_of n)
 unfolding date_of
@@ -86,15 +69,9 @@ days_count (suc n) = day_after_is n (date_of n) (days_count n)
 same_in_year : (y : ℤ) (m d k e : ℕ) → IsCivilDate y m d → IsCivilDate y k e
     → day_count y m d ≡ day_count y k e → (m ≡ k) × (d ≡ e)
 same_in_year y m d k e a b same =
-    grind (
-      arith,
-      nat_tests,
-      same,
-      cases_order m k,
-      day_count-lt_month y m d k e a b.2.0,
-      day_count-lt_month y k e m d b a.2.0,
-      day_count-day y m d e a.2.0 b.2.0,
-    )
+    let less = day_count-lt_month y m d k e a b.2.0 in
+    let more = day_count-lt_month y k e m d b a.2.0 in
+    grind (arith, nat_tests, same, cases_order m k, less, more, day_count-day y m d e a.2.0 b.2.0)
 
 -- the calendar's dates go by their day numbers
 pub same_day : (n : ℕ) (date : Date) (y : ℤ) (m d : ℕ) → IsDay n date → IsCivilDate y m d
@@ -105,27 +82,20 @@ same_day n date y m d is civil e =
     let one : day_count y m d ≡ day_count (pos date.year) date.month date.day =
     omega (arith, signed_arith, e, is.number) in
     by_lt_z y (pos date.year)
-    (λ lt. absurd (omega (
-      arith,
-      one,
-      day_count-lt_year y m d (pos date.year) date.month date.day civil is.day.0 lt,
-    )))
+    (λ lt. let less = day_count-lt_year y m d _ date.month date.day civil is.day.0 lt in
+    absurd (omega (arith, one, less)))
     (λ ge. let civil' : IsCivilDate (pos date.year) date.month date.day =
     ((omega (arith, signed_arith, civil.0), omega (arith, signed_arith, civil.0)), is.month, is.day)
     in
     by_lt_z (pos date.year) y
-    (λ gt. absurd (omega (
-      arith,
-      one,
-      day_count-lt_year (pos date.year) date.month date.day y m d civil' civil.2.0 gt,
-    )))
+    (λ gt. let more = day_count-lt_year _ date.month date.day y m d civil' civil.2.0 gt in
+    absurd (omega (arith, one, more)))
     (λ le. let years : y ≡ pos date.year = omega (arith, signed_arith) in
     grind (arith, years, one, same_in_year y m d date.month date.day civil, civil')))
 
 -- so the calendar's date of a day number is the one that is counted to
-pub date_is : (n : ℕ) (date : civil.Date) → epoch_day date ≡ pos n
-    → (unsigned_abs date.year ≡ (date_of n).year) × (date.month ≡ (date_of n).month)
-    × (date.day ≡ (date_of n).day)
+pub date_is : (n : ℕ) (date : civil.Date) → epoch_day date ≡ pos n → (unsigned_abs date.year
+    ≡ (date_of n).year) × (date.month ≡ (date_of n).month) × (date.day ≡ (date_of n).day)
 date_is n date e =
     let same = same_day n (date_of n) date.year date.month date.day (days_count n)
     (date.year_in, date.month_in, date.day_in) e in

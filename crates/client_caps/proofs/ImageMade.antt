@@ -1,15 +1,15 @@
 -- What the image of a line is made of, and the part lines one by one.
 use Rattle.client_caps.proofs.{ImageWritten.{params_written, parts_written}, LossLaw.part_line}
-use Rattle.client_caps.proofs.{PartsWritten.{IsTagText, split_written, tags_written}, Words.Arrival}
-use Rattle.client_caps.proofs.Words.{Caps, Channel, Each, List, Option, Parts, Some, Text, View, []}
-use Rattle.client_caps.proofs.Words.{ap, append-nil, arith, image_params, inl, inr, is_part}
-use Rattle.client_caps.proofs.Words.{is_writable, line_of_parts, option_map, option_to_list, refl}
-use Rattle.client_caps.proofs.Words.{slice_get, suc, sym, take, take_all, time_tags, true}
-use Rattle.client_caps.proofs.Words.{view_sound, zero, ℕ, ◌++◌, ◌+◌, ◌∙◌, ◌∷◌, ◌≡◌, ◌≤◌}
+use Rattle.client_caps.proofs.{PartsWritten.{IsTagText, split_written, tags_written}, Words.◌++◌}
+use Rattle.client_caps.proofs.Words.{◌+◌, ◌∷◌, ◌≡◌, ◌≤◌, Arrival, Caps, Channel, Each, List, Option}
+use Rattle.client_caps.proofs.Words.{Parts, Some, Text, View, [], append-nil, arith, image_params}
+use Rattle.client_caps.proofs.Words.{is_part, is_writable, length, line_of_parts, map, option_map}
+use Rattle.client_caps.proofs.Words.{option_to_list, refl, slice_get, sym, take, take_all}
+use Rattle.client_caps.proofs.Words.{time_tags, true, view_sound, with_param, ℕ}
 use Rattle.{client_caps.specs.Images.part_lines_of, net_view.proofs.WrittenViews.views_are_clean}
 use Rattle.net_view.specs.{Readers.{channel_shown, channels_shown}, View.view_of}
-use Rattle.{net_view.specs.Written.AreWritten, std.proofs.lemmas.List.{length-map, take_more}}
-use Rattle.std.proofs.lemmas.Option.{slice_get-map, slice_get_cases}
+use Rattle.{net_view.specs.Written.AreWritten, std.specs.{Borrow.Bor, Prelude.slice_set}}
+use Rattle.std.proofs.lemmas.{List.{length-map, take_more}, Option.{slice_get-map, slice_get_cases}}
 
 -- a view that comes from lines that can be written
 abbrev pub IsFromLines : View → Type 0
@@ -25,16 +25,17 @@ image_can v caps tags time line from w ok e =
     (rw from.2 (views_are_clean from.0 from.1)) in
     grind (arith, e, tags_written caps time line ok, split_written line w, params)
 
+-- a name list with other words
+pub put_fourth : (ps : List (Bor Text)) (x : Bor Text) → 4 ≤ length ps
+    → map (λ p. p.now) (slice_set ps 3 x) ≡ with_param 3 (λ _. x.now) (map (λ p. p.now) ps)
+put_fourth (a ∷ b ∷ c ∷ d ∷ ps) x h = refl
+put_fourth _ x h = absurd (omega arith)
+
 -- ---- the part lines
 
 take_next : {X : Type 0} (xs : List X) (i : ℕ)
     → take (i + 1) xs ≡ take i xs ++ option_to_list (slice_get xs i)
-take_next xs i =
-    elim (slice_get_cases xs i).1 [
-      | inl found ↦ rw (found.2, take_more xs i found.0 found.1, found.3) refl
-      | inr past ↦
-          rw (past.1, take_all (i + 1) xs (omega arith), take_all i xs past.0, append-nil xs) refl
-    ]
+take_next xs i = grind (arith, slice_get_cases xs i, take_more xs i, take_all, append-nil)
 
 -- the part line at a place, by the channel there
 pub part_at : (v : View) (i : ℕ) (name : Option Text)
@@ -56,8 +57,7 @@ parts_all v i h = take_all i (part_lines_of v) (grind (arith, length-map))
 each_at : {X : Type 0} (P : X → Type 0) (xs : List X) (i : ℕ) (x : X) → Each P xs
     → slice_get xs i ≡ Some x → P x
 each_at P [] i x each e = cc
-each_at P (y ∷ ys) zero x each e = grind (arith, each.0)
-each_at P (y ∷ ys) (suc i) x each e = each_at P ys i x each.1 e
+each_at P (y ∷ ys) i x each e = grind (arith, each_at P ys)
 
 -- each of them can be written
 pub part_can : (v : View) (i : ℕ) (name : Text) → IsFromLines v

@@ -1,8 +1,8 @@
 -- Texts joined one by one.
 use Rattle.client_caps.proofs.Words.{◌++◌, ◌+◌, ◌<◌, ◌∷◌, ◌≡◌, Bool, List, Text, [], append-nil}
 use Rattle.client_caps.proofs.Words.{append_assoc, arith, cond, drop, false, join_with_byte, length}
-use Rattle.client_caps.proofs.Words.{map, refl, true, ℕ}
-use Rattle.std.proofs.{Common.drop-cons, Common.get_or, lemmas.List.drop_all}
+use Rattle.{client_caps.proofs.Words.{map, true, ℕ}, std.proofs.Common.{drop-cons, get_or}}
+use Rattle.std.proofs.lemmas.List.{drop_all}
 
 -- a text so far, and the texts behind it; the first is joined with no byte before it
 abbrev pub joined_on : ℕ → Bool → Text → List Text → Text

@@ -1,10 +1,8 @@
--- What the words of a name list tell: the members that they list, and with the highest symbols
--- alone the same persons with their highest ranks alone.
-use Rattle.client_caps.proofs.{NamesTold.{IsRanked, highest_listing}, Words.{IsPlain, List}}
-use Rattle.client_caps.proofs.Words.{Listing, Text, Token, [], ap, arith, highest_plain}
-use Rattle.client_caps.proofs.Words.{join_with_byte, listings_of, map, names_with_highest, refl}
-use Rattle.client_caps.proofs.Words.{sym, symbols_before, with_highest, word_of}
-use Rattle.client_caps.proofs.Words.{words_between, ◌∙◌, ◌∷◌, ◌≡◌}
+-- What the words of a name list tell: members; with the highest symbols alone, their highest ranks.
+use Rattle.client_caps.proofs.{Telling.{IsRanked, highest_listing}, Words.{◌∷◌, ◌≡◌, IsPlain, List}}
+use Rattle.client_caps.proofs.Words.{Listing, Text, Token, [], arith, highest_plain, join_with_byte}
+use Rattle.client_caps.proofs.Words.{listings_of, map, names_with_highest, refl, symbols_before}
+use Rattle.client_caps.proofs.Words.{with_highest, word_of, words_between}
 use Rattle.irc_support.proofs.{HighestWords.highest_read, SpelledWords.{words_joined, words_plain}}
 use Rattle.{irc_support.specs.NamesReply.{shows_rank, words}, net_view.specs.StateLines.listing}
 use Rattle.std.specs.List.{AllByRecursion, filter_map}
@@ -26,8 +24,7 @@ module _ (settings : List Token) where
 
   pub listings_joined : (ws : List Text) → AllByRecursion IsPlain ws
       → listings_of settings (join_with_byte 32 ws) ≡ listed settings ws
-  listings_joined ws each =
-      listings-words (join_with_byte 32 ws) ∙ ap (listed settings) (words_joined ws each)
+  listings_joined ws each = simp (listings-words, words_joined)
 
   -- ---- with the highest symbols alone
 
@@ -44,10 +41,8 @@ module _ (settings : List Token) where
   pub listings_highest : (text : Text) → listings_of settings (names_with_highest settings text)
       ≡ map highest_listing (listings_of settings text)
   listings_highest text =
-      listings_joined (map (with_highest settings) (words_between text))
-      (each_highest (words_between text) (words_plain text))
-      ∙ listed_highest (words_between text)
-      ∙ ap (map highest_listing) (sym (listings-words text))
+      let plain = each_highest (words_between text) (words_plain text) in
+      rw (listings_joined _ plain, listed_highest, listings-words text) refl
 
   -- ---- the ranks are a set
 

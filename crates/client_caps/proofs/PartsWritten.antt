@@ -1,18 +1,16 @@
 -- Which tags and parameters can be written.
-use Rattle.client_caps.proofs.Words
-use Words.{◌&&◌, ◌++◌, ◌∙◌, ◌∷◌, ◌≡◌, Bool, Caps, IfSome, IsAccount, IsCleanView, IsSound}
-use Words.{List, None, Option, Parts, Person, Some, Text, Token, View, [], actor_nick}
-use Words.{are_params, arith, codes, cond, eqb-true, false, fits_form, has_form}
-use Words.{is_clean, is_nameable, is_part, is_space, is_writable, join_params, key_by, known_at}
-use Words.{list_all, list_any, nat_tests, option_and_then, option_or, refl, slice_get}
-use Words.{suc, sym, time_form, time_of, time_tags, true, unwrap_or, when_sound, zero, ℕ}
 use Rattle.irc_support.specs.Text as support
-use Rattle.irc_line.proofs.Logic.{and_first, and_second}
 use Rattle.std.specs.FinMap as fin
-use Rattle.irc_line.specs.{Tags.is_tag_byte, Tags.value_behind, Line.is_command, Writing.is_word}
-use Rattle.irc_support.specs.{Settings.is_channel, Settings.is_outside_channel}
-use Rattle.net_view.proofs.{PartsSound.then_sound}
-use Rattle.net_view.specs.{Readers.account_shown, Sound.IsSoundPerson}
+use Rattle.client_caps.proofs.Words
+use Words.{◌++◌, ◌∷◌, ◌≡◌, Bool, Caps, IfSome, IsAccount, IsCleanView, IsSound, List, None, Option}
+use Words.{Parts, Person, Some, Text, Token, View, [], actor_nick, are_params, arith, codes, cond}
+use Words.{false, has_form, is_clean, is_nameable, is_part, is_space, is_writable, join_params}
+use Words.{key_by, known_at, list_all, list_any, nat_tests, option_and_then, option_or, refl}
+use Words.{slice_get, suc, time_form, time_of, time_tags, true, unwrap_or, zero, ℕ}
+use Rattle.irc_line.{proofs.Logic.{and_first, and_second}, specs.Line.is_command}
+use Rattle.{irc_line.specs.{Tags.is_tag_byte, Writing.is_word}, std.proofs.lemmas.Bool.eqb-true}
+use Rattle.{irc_support.specs.Settings.{is_channel, is_outside_channel}, std.specs.Option.ForSome}
+use Rattle.net_view.{proofs.PartsSound.{then_sound, when_sound}, specs.Readers.account_shown}
 
 -- ---- bytes of tags
 
@@ -20,23 +18,18 @@ use Rattle.net_view.specs.{Readers.account_shown, Sound.IsSoundPerson}
 abbrev pub IsTagText : Text → Type 0
 IsTagText text = list_all is_tag_byte text ≡ true
 
-fitted : (b f : ℕ) → is_tag_byte f ≡ true → fits_form b f ≡ true → is_tag_byte b ≡ true
-fitted b f ok h = grind (arith, nat_tests, eqb-true b f)
-
 pub formed : (form text : Text) → IsTagText form → has_form form text ≡ true → IsTagText text
 formed [] [] ok h = refl
 formed [] (b ∷ text) ok h = cc
 formed (f ∷ form) [] ok h = cc
-formed (f ∷ form) (b ∷ text) ok h = grind (arith, fitted b f, formed form text)
+formed (f ∷ form) (b ∷ text) ok h = grind (arith, nat_tests, eqb-true b f, formed form text)
 
 -- the time of a line has the form of one
 abbrev pub HasForm : Text → Type 0
 HasForm time = has_form time_form time ≡ true
 
 pub time_has_form : (line : Parts) → IfSome (time_of line) HasForm
-time_has_form line =
-    then_sound HasForm line.tags _ (λ tags. then_sound HasForm (value_behind (codes "time=") tags) _
-    (λ value. when_sound HasForm (has_form time_form value) value (λ e. e)))
+time_has_form line = search (then_sound, when_sound)
 
 pub time_fits : (line : Parts) → IfSome (time_of line) IsTagText
 time_fits line = grind (arith, time_has_form line, λ (time : Text). formed time_form time refl)
@@ -67,8 +60,7 @@ param_clean [] i h = tt
 param_clean (p ∷ []) zero h = h
 param_clean (p ∷ []) (suc i) h = tt
 param_clean (p ∷ q ∷ params) zero h = and_second (is_word p) _ (and_first _ _ h)
-param_clean (p ∷ q ∷ params) (suc i) h =
-    param_clean (q ∷ params) i (and_second (is_word p && is_clean p) _ h)
+param_clean (p ∷ q ∷ params) (suc i) h = param_clean (q ∷ params) i (and_second _ _ h)
 
 pub same_words : (text : Text) → support.is_word text ≡ is_word text
 unfolding support.is_word
@@ -99,34 +91,29 @@ account_word first known f k =
       star : (is_word (codes "*") ≡ true) × (is_clean (codes "*") ≡ true)
       star = (refl, refl)
 
-when_known : {X : Type 0} (P : X → Type 0) (b : Bool) (o : Option X)
-    → ((x : X) → o ≡ Some x → P x) → IfSome (cond b o None) P
-when_known P b o h = grind arith
+-- an account that is known is one
+pub accounts : (v : View) → IsSound v
+    → (n : Text) → IfSome (known_at (λ p. p.account) v n) IsAccount
+accounts v sound n =
+    grind (arith, λ (p : Person) (e : fin.get v.people n ≡ Some p). (sound.people n p e).account)
 
-pub known_written : (v : View) → IsSound v → IsCleanView v → (nick : Option Text)
-    → IfSome (option_and_then (account_shown v) nick) (λ a. (is_word a ≡ true)
-    × (is_clean a ≡ true))
+known_word : (b : Bool) (known : Option Text) → IfSome known IsAccount
+    → ForSome known (λ a. is_clean a ≡ true)
+    → IfSome (cond b known None) (λ a. (is_word a ≡ true) × (is_clean a ≡ true))
+known_word b known account clean = grind (arith, λ (a : Text). same_words a)
+
+pub known_written : (v : View) → IsSound v → IsCleanView v → (nick : Option Text) → IfSome
+    (option_and_then (account_shown v) nick) (λ a. (is_word a ≡ true) × (is_clean a ≡ true))
 known_written v sound clean None = tt
 known_written v sound clean (Some nick) =
     let n = key_by v.settings nick in
-    when_known (λ a. (is_word a ≡ true) × (is_clean a ≡ true)) (is_nameable nick)
-    (known_at (λ p. p.account) v n) (λ a e. (
-      sym (same_words a) ∙ (account (fin.get v.people n) (sound.people n) a e).word,
-      clean.accounts n a e,
-    )) where
-      account : {n : Text} (o : Option Person) → ((p : Person) → o ≡ Some p → IsSoundPerson v n p)
-          → (a : Text) → option_and_then (λ (p : Person). p.account) o ≡ Some a → IsAccount a
-      account None h a e = cc
-      account (Some p) h a e = (h p refl).account a e
+    known_word (is_nameable nick) _ (accounts v sound n) (clean.accounts n)
 
 pub join_written : (v : View) (caps : Caps) (line : Parts) (channel : Text) → IsSound v
     → IsCleanView v → are_params line.params ≡ true → slice_get line.params 0 ≡ Some channel
     → is_channel v.settings channel ≡ true → are_params (join_params v caps line channel) ≡ true
 join_written v caps line channel sound clean params at is =
-    grind (
-      arith,
-      param_clean line.params 0 params,
-      channel_word v.settings channel is,
-      account_word (slice_get line.params 1) (option_and_then (account_shown v) (actor_nick line))
-          (param_clean line.params 1 params) (known_written v sound clean (actor_nick line)),
-    )
+    let known = known_written v sound clean (actor_nick line) in
+    let clean_at = λ (i : ℕ). param_clean line.params i params in
+    let account = account_word (slice_get line.params 1) _ (clean_at 1) known in
+    grind (arith, clean_at 0, channel_word v.settings channel is, account)

@@ -1,16 +1,12 @@
 -- Requests, read word by word.
-use Rattle.client_caps.proofs.Words.{Bool, Caps, List, None, Option, Some, Text, [], arith}
-use Rattle.client_caps.proofs.Words.{option_or, unwrap_or, words_between, ◌∷◌, ◌≡◌}
-use Rattle.client_caps.specs.{Caps.{Cap, with_cap}, Request.{caps_after, request_of, wish_of}}
-
-said_before : (later here : Option Bool) (before : Bool)
-    → unwrap_or (option_or later here) before ≡ unwrap_or later (unwrap_or here before)
-said_before later here before = grind arith
+use Rattle.client_caps.proofs.Words.{◌∷◌, ◌≡◌, Bool, Caps, List, None, Some, Text, [], arith}
+use Rattle.client_caps.{proofs.Words.words_between, specs.Caps.{Cap, with_cap}}
+use Rattle.client_caps.specs.Request.{caps_after, request_of, wish_of}
 
 -- the first wish, and then the others
 after_first : (caps : Caps) (cap : Cap) (held : Bool) (wishes : List (Cap × Bool))
     → caps_after caps ((cap, held) ∷ wishes) ≡ caps_after (with_cap caps cap held) wishes
-after_first caps cap held wishes = grind (arith, said_before)
+after_first caps cap held wishes = grind arith
 
 module _ (caps : Caps) (text word rest : Text)
     (split : words_between text ≡ word ∷ words_between rest) where

@@ -1,10 +1,10 @@
 -- The text of a moment has the form of a time.
 use Rattle.client_caps.proofs.PartsWritten.{IsTagText, formed, time_fits, time_has_form}
-use Rattle.client_caps.proofs.Words.{Date, Parts, Some, Text, [], arith, codes, has_form}
-use Rattle.client_caps.proofs.Words.{is_ascii_digit, length, nat_tests, refl, time_form, time_of}
-use Rattle.client_caps.proofs.Words.{true, unwrap_or, ℕ, ◌++◌, ◌+◌, ◌<◌, ◌∷◌, ◌≡◌}
-use Rattle.client_caps.specs.Moment.{date_of, day_text, hour_text, last_moment, time_text_of}
-use Rattle.std.{proofs.Common.{◌%◌, ◌/◌}, specs.Prelude.min}
+use Rattle.client_caps.proofs.Words.{◌++◌, ◌+◌, ◌<◌, ◌∷◌, ◌≡◌, Date, Parts, Some, Text, [], arith}
+use Rattle.client_caps.proofs.Words.{codes, has_form, length, nat_tests, refl, time_form, time_of}
+use Rattle.client_caps.{proofs.Words.{true, unwrap_or, ℕ}, specs.Moment.{date_of, day_text}}
+use Rattle.{client_caps.specs.Moment.{hour_text, last_moment, time_text_of}, std.proofs.Common.◌%◌}
+use Rattle.std.{proofs.Common.◌/◌, specs.{Char.is_ascii_digit, Prelude.min}}
 
 digit : (n : ℕ) → is_ascii_digit (48 + n % 10) ≡ true
 digit n = let low : n % 10 < 10 = omega arith in grind (arith, nat_tests)

@@ -1,8 +1,12 @@
--- What images are, in a reader's words.
-use Rattle.client_caps.proofs.Words.{Caps, Parts, Some, Text, View, [], account_joined, arith}
-use Rattle.client_caps.proofs.Words.{as_sent, false, image_params, is_passed_on, nat_tests}
-use Rattle.client_caps.{proofs.Words.{slice_get, true, ◌∷◌, ◌≡◌}, specs.Caps.all_caps}
-use Rattle.{client_caps.specs.Images.{image_of, is_bare_join}, irc_line.proofs.Logic.cases_Bool}
+-- What images are, and what agreement means, in a reader's words.
+use Rattle.std.specs.FinMap as fin
+use Rattle.client_caps.proofs.Words.{◌∷◌, ◌≡◌, Agrees, Caps, HeldCaps, Parts, Some, Text, View, []}
+use Rattle.client_caps.proofs.Words.{account_joined, arith, as_sent, false, get-thinned_channels}
+use Rattle.client_caps.proofs.Words.{had_rank, image_params, is_passed_on, is_some, is_some_map}
+use Rattle.client_caps.proofs.Words.{kept_alike, nat_tests, old-thinned, old_member, option_map}
+use Rattle.client_caps.proofs.Words.{slice_get, thinned, thinned_ranks, true, ℕ}
+use Rattle.client_caps.specs.{Caps.all_caps, Images.{image_of, is_bare_join}}
+use Rattle.{irc_line.proofs.Logic.cases_Bool, net_view.proofs.RankSets.has_of_set}
 
 -- an image is the line as it is sent
 pub image_is : (v : View) (caps : Caps) (moment : Text) (line image : Parts)
@@ -22,3 +26,23 @@ joined_params v channel line h first = grind (arith, nat_tests)
 
 -- an image, and its parameters with all six
 pub ruleset what_is_sent = (image_is, same_params, joined_params)
+
+-- ---- agreement
+
+module _ (caps : HeldCaps) (w v : View) (a : Agrees caps w v) (c n : Text) where
+  -- a member of a channel of w, from the same of v
+  member_thin : old_member (fin.get w.channels c) n
+      ≡ option_map (thinned_ranks caps (a.shown c n)) (old_member (fin.get v.channels c) n)
+  member_thin =
+      let kept = kept_alike caps w (thinned caps a.shown v) a.kept in
+      simp (kept.channels, get-thinned_channels, old-thinned)
+
+  -- the members are the same
+  pub same_members : is_some (old_member (fin.get w.channels c) n)
+      ≡ is_some (old_member (fin.get v.channels c) n)
+  same_members = rw member_thin (is_some_map _ _)
+
+  -- and each rank that a client knows is held
+  pub known_ranks_are_held : (rank : ℕ) → had_rank rank (old_member (fin.get w.channels c) n) ≡ true
+      → had_rank rank (old_member (fin.get v.channels c) n) ≡ true
+  known_ranks_are_held rank h = grind (arith, member_thin, has_of_set)

@@ -89,6 +89,7 @@ impl Asked {
 /// there is none.
 ///
 /// [`read_request`]: crate::read_request
+#[tactic(auto, using(crate::proofs::AnswerTexts::asked_steps))]
 pub fn asked_text<A: Allocator>(line: &Line<A>) -> &[u8]
     ensures text { result.now ≡ asked_text line.now }
     // It can be said again, as the last parameter of a line.
@@ -111,6 +112,7 @@ fn from_bouncer<B: Allocator + Drop>(
 }
 
 /// What a client is called: by its nick, where it has one yet, else `*`.
+#[tactic(auto, using(crate::proofs::AnswerTexts::name_can_stand))]
 fn name_shown(nick: Option<&[u8]>) -> &[u8]
     requires { IfSome nick (λ n. IsTrue (is_nameable n.now)) }
     ensures name { result.now ≡ name_shown (option_map (λ n. n.now) nick.entry) }

@@ -132,6 +132,7 @@ fn all_params<A: Allocator, B: Allocator>(
 }
 
 /// Puts these words in the place of a `353`'s own, parameter 3, where it has any.
+#[tactic(auto, using(crate::proofs::ImageMade::put_fourth))]
 fn put_names<'a>(params: &mut [&'a [u8]], names: &'a [u8])
     ensures { map (λ p. p.now) params.new
         ≡ with_param 3 (λ _. names.now) (map (λ p. p.now) params.old) }

@@ -1,14 +1,9 @@
 use Rattle.client_caps.proofs.images.listed.Goals as goal
-use Rattle.client_caps.proofs.Words.{◌∷◌, ◌≡◌, ◌≤◌, List, Parts, Text, Token, [], ap, arith, codes}
+use Rattle.client_caps.proofs.Words.{◌≡◌, ◌≤◌, List, Parts, Text, Token, [], ap, arith, codes}
 use Rattle.client_caps.proofs.Words.{has_command, join_with_byte, length, map, names_with_highest}
-use Rattle.client_caps.proofs.Words.{refl, slice_get, true, unwrap_or, with_param, words_between}
-use Rattle.irc_support.specs.{Line.split_words_in, NamesReply.split_word, NamesReply.split_words}
-use Rattle.irc_support.specs.{Written.highest_text}
-
-mapped_twice : {A B C : Type 0} (f : B → C) (g : A → B) (xs : List A)
-    → map f (map g xs) ≡ map (λ x. f (g x)) xs
-mapped_twice f g [] = refl
-mapped_twice f g (x ∷ xs) = rw (mapped_twice f g xs) refl
+use Rattle.client_caps.proofs.Words.{slice_get, true, unwrap_or, with_param, words_between}
+use Rattle.irc_support.specs.{Line.split_words_in, NamesReply.{split_word, split_words}}
+use Rattle.{irc_support.specs.Written.highest_text, std.proofs.lemmas.Simd.map-map}
 
 -- the words taken apart and put together
 highest_in : (settings : List Token) (line : Parts) → has_command line (codes "353") ≡ true →
@@ -16,7 +11,7 @@ highest_in : (settings : List Token) (line : Parts) → has_command line (codes 
     ≡ names_with_highest settings (unwrap_or (slice_get line.params 3) [])
 unfolding split_words
 highest_in settings line is =
-    rw is (ap (join_with_byte 32) (mapped_twice (highest_text settings) (split_word settings)
+    rw is (ap (join_with_byte 32) (map-map (highest_text settings) (split_word settings)
     (words_between (unwrap_or (slice_get line.params 3) []))))
 
 -- parameter 3, where there is one, and nothing else
@@ -33,10 +28,7 @@ returns g c =
     let params = c.args.line.now.params in
     let put : with_param 3 (λ _. c.deref.result.now) params
     ≡ with_param 3 (names_with_highest settings) params =
-    rw (
-      c.deref.ensures.value,
-      c.in_ok-names.ensures,
-      highest_in settings c.args.line.now
-          c.requires.names,
-    ) (put_at_3 (names_with_highest settings) params (omega arith)) in
+    let high = highest_in settings c.args.line.now c.requires.names in
+    rw (c.deref.ensures.value, c.in_ok-names.ensures, high)
+    (put_at_3 (names_with_highest settings) params (omega arith)) in
     rw (← put) c.relisted.ensures
