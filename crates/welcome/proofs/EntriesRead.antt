@@ -1,8 +1,9 @@
 -- What the entries of a map tell one after the other: keys rise, so the last word on a key is the
 -- only one.
 use Rattle.std.specs.FinMap as fin
-use Rattle.welcome.proofs.Words.{◌∷◌, ◌≡◌, List, None, Option, Ordering, Some, [], arith, below_all}
-use Rattle.welcome.proofs.Words.{cond, eq_by_cmp, is_equal, last_in, map, option_map, refl, true}
+use Rattle.{std.specs.Ordering.eq_by_cmp, welcome.proofs.Words.{◌∷◌, ◌≡◌, List, None, Option}}
+use Rattle.welcome.proofs.Words.{Ordering, Some, [], arith, below_all, cond, is_equal, last_in, map}
+use Rattle.welcome.proofs.Words.{option_map, refl, true}
 
 module _ {K X : Type 0} (R : K → K → Ordering) (exact : fin.IsAntisymmetric R) (q : K) where
   -- a key that is below all is none of them

@@ -18,7 +18,7 @@ use std::alloc::Allocator;
 
 /// The packet of the burst, from its bytes. That its lines can be written follows from where the
 /// view and the messages come from.
-#[tactic(auto, using(crate::proofs::PacketBytes::lines_back, crate::proofs::WrittenLaw::burst_written, crate::proofs::WrittenLaw::state_is_packet))]
+#[tactic(auto, using(crate::proofs::WrittenLaw::lines_back, crate::proofs::WrittenLaw::burst_written, crate::proofs::WrittenLaw::state_is_packet))]
 fn packet_of_burst<V: NetworkView, A: Allocator + Clone, B: Allocator>(
     text: Vec<u8, A>,
     view: &V,
@@ -43,6 +43,7 @@ fn packet_of_burst<V: NetworkView, A: Allocator + Clone, B: Allocator>(
 /// lines, so they can be written. One growing buffer holds its bytes.
 ///
 /// `OutOfMemory` is told where an allocation was refused, and for no other cause.
+#[tactic(auto, using(crate::proofs::PlaybackWhole::said_steps))]
 pub fn burst<V: NetworkView, A: Allocator + Copy, B: Allocator>(
     alloc: A,
     view: &V,

@@ -171,7 +171,7 @@ fn push_batch<A: Allocator + Copy, B: Allocator>(
 
 /// Adds the messages of the channel at a place, with batch between `:bnc BATCH +h0 chathistory #c`
 /// and `:bnc BATCH -h0`; nothing where there are none.
-#[tactic(auto, using(crate::proofs::Grouping::plain_backlog))]
+#[tactic(auto, using(crate::proofs::PlaybackWhole::plain_backlog))]
 fn push_backlog<A: Allocator + Copy, B: Allocator>(
     text: &mut Vec<u8, A>,
     caps: Caps,
@@ -193,6 +193,7 @@ fn push_backlog<A: Allocator + Copy, B: Allocator>(
 }
 
 /// Adds the messages of all channels, by the names of the channels and the groups of messages.
+#[tactic(auto, using(crate::proofs::PlaybackWhole::backlog_steps))]
 fn push_backlogs<A: Allocator + Copy, B: Allocator>(
     text: &mut Vec<u8, A>,
     caps: Caps,
@@ -211,6 +212,7 @@ fn push_backlogs<A: Allocator + Copy, B: Allocator>(
 }
 
 /// Adds the messages of all groups: those of the channels, and then the last group.
+#[tactic(auto, using(crate::proofs::PlaybackWhole::last_steps))]
 fn push_groups<A: Allocator + Copy, B: Allocator>(
     text: &mut Vec<u8, A>,
     caps: Caps,
@@ -248,7 +250,7 @@ pub fn push_playback<V: NetworkView, A: Allocator + Copy, B: Allocator>(
 
 /// The packet of the playback, from its bytes. That its lines can be written follows from where the
 /// view and the messages come from.
-#[tactic(auto, using(crate::proofs::PacketBytes::lines_back, crate::proofs::WrittenLaw::playback_written, crate::proofs::WrittenLaw::state_is_packet))]
+#[tactic(auto, using(crate::proofs::WrittenLaw::lines_back, crate::proofs::WrittenLaw::playback_written, crate::proofs::WrittenLaw::state_is_packet))]
 fn packet_of_playback<V: NetworkView, A: Allocator + Clone, B: Allocator>(
     text: Vec<u8, A>,
     view: &V,

@@ -32,7 +32,7 @@ fn push_name<'v, V: NetworkView, A: Allocator>(
 }
 
 /// The names of the channels, in key order.
-#[tactic(auto, using(crate::proofs::Grouping::name_steps))]
+#[tactic(auto, using(crate::proofs::PlaybackWhole::name_steps))]
 pub fn channel_names<'v, V: NetworkView, A: Allocator>(
     alloc: A,
     view: &'v V,
@@ -67,7 +67,7 @@ fn place_of(mapping: CaseMapping, names: &[&[u8]], target: &[u8]) -> usize
 }
 
 /// A group without entries for each name, and one more.
-#[tactic(auto, using(crate::proofs::Grouping::group_steps))]
+#[tactic(auto, using(crate::proofs::PlaybackWhole::group_steps))]
 fn empty_groups<'e, A: Allocator + Copy, B: Allocator>(
     alloc: A,
     names: &[&[u8]],
@@ -84,6 +84,7 @@ fn empty_groups<'e, A: Allocator + Copy, B: Allocator>(
 }
 
 /// Adds an entry to the group at a place.
+#[tactic(auto, using(crate::proofs::PlaybackWhole::push_steps))]
 fn push_at<'e, A: Allocator, B: Allocator>(
     groups: &mut Vec<Vec<&'e Entry<B>, A>, A>,
     place: usize,
@@ -101,6 +102,7 @@ fn push_at<'e, A: Allocator, B: Allocator>(
 /// The entries by the channels that they are for, in the order of the names and each group oldest
 /// first, and last those that are for none of them. Each target is looked up once among the names,
 /// which stand in key order.
+#[tactic(auto, using(crate::proofs::PlaybackWhole::grouped_steps))]
 pub fn grouped<'e, A: Allocator + Copy, B: Allocator>(
     alloc: A,
     mapping: CaseMapping,

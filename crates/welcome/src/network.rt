@@ -14,6 +14,7 @@ use std::alloc::Allocator;
 
 /// Adds the greeting, the settings and the channels, in this order: 001 to 004, the 005 lines, 422,
 /// and for each channel in key order JOIN, 332, 324, the 353 lines and 366.
+#[tactic(auto, using(crate::proofs::PlaybackWhole::said_steps))]
 pub fn push_network<V: NetworkView, A: Allocator + Copy>(
     text: &mut Vec<u8, A>,
     view: &V,

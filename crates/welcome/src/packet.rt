@@ -54,7 +54,7 @@ impl<A: Allocator + Clone> Packet<A> {
     }
 
     /// The packet of lines that were written one behind the other.
-    #[tactic(auto, using(crate::proofs::PacketBytes::ends_counted))]
+    #[tactic(auto, using(crate::proofs::WrittenLaw::ends_counted))]
     pub(crate) fn of_lines(text: Vec<u8, A>) -> Result<Packet<A>, OutOfMemory>
         requires { IsPacket text.items (length (lines_of text.items)) }
         ensures { IfOk result (λ packet. packet ≡ lines_of text.items) }
@@ -73,6 +73,7 @@ impl<A: Allocator + Clone> Packet<A> {
     }
 
     /// The packet of some lines, in order. Their bytes are written into one growing allocation.
+    #[tactic(auto, using(crate::proofs::WrittenLaw::packet_steps))]
     pub fn all<B: Allocator>(alloc: A, lines: &[Line<B>]) -> Result<Packet<A>, OutOfMemory>
         ensures { IfOk result (λ packet. packet ≡ lines.now) }
     {

@@ -13,6 +13,7 @@ use net_view::{NetworkView, OutOfMemory};
 use std::alloc::Allocator;
 
 /// Adds the lines of the state part.
+#[tactic(auto, using(crate::proofs::WrittenLaw::state_steps))]
 pub fn push_state<V: NetworkView, A: Allocator + Copy>(
     text: &mut Vec<u8, A>,
     view: &V,
@@ -28,7 +29,7 @@ pub fn push_state<V: NetworkView, A: Allocator + Copy>(
 
 /// The packet of the state part, from its bytes. That its lines can be written follows from where
 /// the view comes from.
-#[tactic(auto, using(crate::proofs::PacketBytes::lines_back, crate::proofs::WrittenLaw::state_is_packet, crate::proofs::WrittenLaw::state_written))]
+#[tactic(auto, using(crate::proofs::WrittenLaw::lines_back, crate::proofs::WrittenLaw::state_is_packet, crate::proofs::WrittenLaw::state_written))]
 fn packet_of_state<V: NetworkView, A: Allocator + Clone>(
     text: Vec<u8, A>,
     view: &V,

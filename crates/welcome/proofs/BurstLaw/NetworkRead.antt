@@ -1,7 +1,6 @@
 -- The lines of channels and of persons bring a client to where the view stands.
 pub mod ChannelsRead
-pub use ChannelsRead.*
-use Rattle.std.specs.FinMap as fin
+unfoldable pub use ChannelsRead.*
 
 -- ---- the lines of all channels, and their name lists where a client is on them
 
@@ -14,23 +13,19 @@ module _ (v : View) (caps : Caps) where
   put cs e = fin.insert cs e.0 (thin e.0 e.1)
 
   get-put_all : (es : List (Text × Channel)) → AreIn v.channels es
-      → (cs : fin.FinMap bytes_cmp Channel) (c : Text) → fin.get (fold put cs es) c
-      ≡ cond (list_any (same c) (map (λ e. e.0) es)) (option_map (thin c) (fin.get v.channels c))
-      (fin.get cs c)
+      → (cs : fin.FinMap bytes_cmp Channel) (c : Text) → fin.get (fold put cs es) c ≡ cond (list_any
+      (same c) (map (λ e. e.0) es)) (option_map (thin c) (fin.get v.channels c)) (fin.get cs c)
   get-put_all [] each cs c = refl
   get-put_all (e ∷ es) each cs c =
-      let rest = get-put_all es each.1 (put cs e) c in
-      grind (look_ups, rest, is_same c e.0, each.0)
+      grind (look_ups, get-put_all es each.1 (put cs e) c, is_same c e.0, each.0)
 
   -- all channels put, where there were no others
   pub all_put : (cs : fin.FinMap bytes_cmp Channel)
-      → ((c : Text) → fin.get v.channels c ≡ None → fin.get cs c ≡ None)
-      → fold put cs (fin.entries v.channels)
-      ≡ thinned_channels (held caps) (highest_of v) v.channels
+      → ((c : Text) → fin.get v.channels c ≡ None → fin.get cs c ≡ None) → fold put cs
+      (fin.entries v.channels) ≡ thinned_channels (held caps) (highest_of v) v.channels
   all_put cs off =
-      same_by_keys (λ c.
-      let all = get-put_all (fin.entries v.channels) (all_in v.channels) cs c in
-      grind (arith, all, get-thinned_channels, fin.contains_key-keys v.channels c, off c))
+      same_by_keys (λ c. let all = get-put_all (fin.entries v.channels) (all_in v.channels) cs c
+      in grind (arith, all, get-thinned_channels, fin.contains_key-keys v.channels c, off c))
 
   -- ---- name lists of channels that a client is on
 
@@ -48,9 +43,8 @@ module _ (v : View) (caps : Caps) where
       (facts : Text → Person) (cs : fin.FinMap bytes_cmp Channel) (there : AreThere facts cs) where
     seen_alike_then : (n : Text) → is_seen (fin.insert cs k (thin k ch)) n ≡ is_seen cs n
     seen_alike_then n =
-        let at = there.at k ch found in
-        let alike = there.alike k ch n in
-        seen_alike cs _ n n (λ c. grind (look_ups, is_same c k, at, alike, get-thinned_members))
+        seen_alike cs _ n n (λ c.
+        grind (look_ups, is_same c k, there.at k ch found, there.alike k ch n, get-thinned_members))
 
     pub still_there : AreThere facts (fin.insert cs k (thin k ch))
     still_there = record {
@@ -63,11 +57,10 @@ module _ (v : View) (caps : Caps) where
     pub listing_leads : Leads (read_view v cs facts) (listing_lines v caps ch)
         (read_view v (fin.insert cs k (thin k ch)) facts)
     listing_leads =
-        let ok = src.sound.channels k ch found in
-        leading_to (listing_read v src caps k ch found (read_view v cs facts) refl (there.members k ch)
-        (there.at k ch found) (λ n h. sym (there.alike k ch n) ∙ h))
-        (λ is. facts_alike v (fin.insert cs k (thin k ch)) _ facts (λ n seen.
-        grind (arith, get_read cs facts n, seen_alike_then n, there.spelled n, ok.spelled n)))
+        let ok = src.sound.channels k ch found in leading_to (listing_read v src caps k ch found
+        (read_view v cs facts) refl (there.members k ch) (there.at k ch found) (λ n h. sym
+        (there.alike k ch n) ∙ h)) (λ is. facts_alike v (fin.insert cs k (thin k ch)) _ facts (λ n
+        seen. grind (arith, get_read cs facts n, seen_alike_then n, there.spelled n, ok.spelled n)))
 
 -- ---- the lines of persons tell what is known of them
 
@@ -119,21 +112,21 @@ pub record Tells (v : View) (cs : fin.FinMap bytes_cmp Channel) (m : Text) (line
   pub on : (facts : Text → Person)
       → Leads (read_view v cs facts) lines (read_view v cs (changed_at m change facts))
 
+tells : {v : View} {cs : fin.FinMap bytes_cmp Channel} {m : Text} {lines : List Parts}
+    {change : Person → Person} → ((facts : Text → Person) → Leads (read_view v cs facts) lines
+    (read_view v cs (changed_at m change facts))) → Tells v cs m lines change
+tells on = record { on = on }
+
 module _ (v : View) (sound : IsSound v) (m : Text) (p : Person) (found : fin.get v.people m ≡ Some p)
     (cs : fin.FinMap bytes_cmp Channel) where
   nothing : (f : Person → Person) → ((x : Person) → f x ≡ x) → Tells v cs m [] f
-  nothing f same = record {
-    on = λ facts.
-        leading_to (no_lines _) (λ _. facts_alike v cs facts _ (λ n seen. grind (arith, same (facts n))));
-  }
+  nothing f same = tells (λ facts. leading_to (no_lines _) (λ _. facts_alike v cs facts _ (λ n seen.
+      grind (arith, same (facts n)))))
 
   both : {f g : Person → Person} (a b : List Parts) (h : Person → Person) → Tells v cs m a f
       → Tells v cs m b g → ((x : Person) → g (f x) ≡ h x) → Tells v cs m (a ++ b) h
-  both a b h one two same = record {
-    on = λ facts.
-        leading_to (and_then a b (one.on facts) (two.on _))
-        (λ _. facts_alike v cs _ _ (λ n seen. grind (arith, same (facts n))));
-  }
+  both a b h one two same = tells (λ facts. leading_to (and_then a b (one.on facts) (two.on _))
+      (λ _. facts_alike v cs _ _ (λ n seen. grind (arith, same (facts n)))))
 
   -- the line is the person's
   actor_is : (line : Parts) → line.source ≡ p.spelled
@@ -145,47 +138,35 @@ module _ (v : View) (sound : IsSound v) (m : Text) (p : Person) (found : fin.get
       → Tells v cs m (said_line p (codes "ACCOUNT") (text ∷ []) ∷ []) (with_account account)
   account_leads text account said =
       let line = said_line p (codes "ACCOUNT") (text ∷ []) in
-      record {
-        on = λ facts.
-            one_line (read_view v cs facts) line (HasAccount m account) _
-            (simp (told_of_account v.settings line refl, actor_is line refl, said))
-            (λ is. after_account _ is.sets is.sound.known m account
-            ∙ person_changed v cs facts m (with_account account));
-      }
+      tells (λ facts. one_line (read_view v cs facts) line (HasAccount m account) _
+      (simp (told_of_account v.settings line refl, actor_is line refl, said)) (λ is. after_account
+      _ is.sets is.sound.known m account ∙ person_changed v cs facts m (with_account account)))
 
-  away_leads : (params : List Text) (away : Option Text)
-      → option_and_then unless_empty (slice_get params 0) ≡ away
-      → Tells v cs m (said_line p (codes "AWAY") params ∷ []) (with_away away)
+  away_leads : (params : List Text) (away : Option Text) → option_and_then unless_empty (slice_get
+      params 0) ≡ away → Tells v cs m (said_line p (codes "AWAY") params ∷ []) (with_away away)
   away_leads params away said =
       let line = said_line p (codes "AWAY") params in
-      record {
-        on = λ facts.
-            one_line (read_view v cs facts) line (IsAway m away) _
-            (simp (told_of_away v.settings line refl, actor_is line refl, said))
-            (λ is. after_away _ is.sets is.sound.known m away
-            ∙ person_changed v cs facts m (with_away away));
-      }
+      tells (λ facts. one_line (read_view v cs facts) line
+      (IsAway m away) _ (simp (told_of_away v.settings line refl, actor_is line refl, said)) (λ is.
+      after_away _ is.sets is.sound.known m away ∙ person_changed v cs facts m (with_away away)))
 
   -- ---- what the burst tells: what is known, where the capability lets it
 
-  more_account : (said : Option Text) → ForSome said IsAccount
-      → Tells v cs m (line_of_person p (codes "ACCOUNT") said)
-      (λ x. record x { account = option_or said x.account })
+  more_account : (said : Option Text) → ForSome said IsAccount → Tells v cs m (line_of_person p
+      (codes "ACCOUNT") said) (λ x. record x { account = option_or said x.account })
   more_account None ok = nothing _ (λ x. refl)
   more_account (Some text) ok =
       account_leads text (Some text) (account_written (Some text) (ok text refl))
 
-  more_away : (said : Option Text) → ForSome said IsFilled
-      → Tells v cs m (line_of_person p (codes "AWAY") said)
-      (λ x. record x { away = option_or said x.away })
+  more_away : (said : Option Text) → ForSome said IsFilled → Tells v cs m
+      (line_of_person p (codes "AWAY") said) (λ x. record x { away = option_or said x.away })
   more_away None ok = nothing _ (λ x. refl)
-  more_away (Some text) ok =
-      away_leads (text ∷ []) (Some text) (filled_said text (ok text refl))
+  more_away (Some text) ok = away_leads (text ∷ []) (Some text) (filled_said text (ok text refl))
 
   pub person_leads : (caps : Caps) → Tells v cs m (person_lines caps p) (told_more caps p)
   person_leads caps =
-      let ok = sound.people m p found in
-      both _ _ _ (more_account (cond caps.account_notify p.account None) (λ t e. ok.account t (grind arith)))
+      let ok = sound.people m p found in both _ _ _
+      (more_account (cond caps.account_notify p.account None) (λ t e. ok.account t (grind arith)))
       (more_away (cond caps.away_notify p.away None) (λ t e. ok.away t (grind arith))) (λ x. refl)
 
   -- ---- what the catch-up tells: all that is known, and that nothing is
@@ -206,12 +187,11 @@ module _ (v : View) (sound : IsSound v) (m : Text) (p : Person) (found : fin.get
 
 -- what is kept then of a client on all channels is what there is
 pub persons_kept : (v : View) → IsSound v → (caps : Caps) (change : Person → Person → Person)
-    → ((p q : Person) → change p (change p q) ≡ change p q) → (facts : Text → Person)
-    → ((n : Text) (p : Person) → fin.get v.people n ≡ Some p
-    → kept_person (held caps) (change p (facts n)) ≡ kept_person (held caps) p) →
-    kept_by (held caps) (read_view v (thinned_channels (held caps) (highest_of v) v.channels)
-    (fold (tell change) facts (fin.entries v.people)))
-    ≡ kept_by (held caps) (thinned (held caps) (highest_of v) v)
+    → ((p q : Person) → change p (change p q) ≡ change p q)
+    → (facts : Text → Person) → ((n : Text) (p : Person) → fin.get v.people n ≡ Some p → kept_person
+    (held caps) (change p (facts n)) ≡ kept_person (held caps) p) → kept_by (held caps)
+    (read_view v (thinned_channels (held caps) (highest_of v) v.channels) (fold (tell change) facts
+    (fin.entries v.people))) ≡ kept_by (held caps) (thinned (held caps) (highest_of v) v)
 persons_kept v sound caps change again facts kept =
     let cs = thinned_channels (held caps) (highest_of v) v.channels in
     let now = fold (tell change) facts (fin.entries v.people) in

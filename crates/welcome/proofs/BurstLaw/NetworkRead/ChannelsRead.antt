@@ -1,23 +1,6 @@
 -- The lines of a channel bring a client to that channel.
 pub mod LinesRead
-pub use LinesRead.*
-use Rattle.std.specs.FinMap as fin
-pub use Rattle.{client_caps.proofs.Highest.has-first, irc_support.specs.Edits.kept}
-pub use Rattle.net_view.proofs.{AfterFacts.{after_account, after_away}, AfterMaps.seen_in}
-pub use Rattle.net_view.proofs.{AfterMaps.seen_somewhere, AfterModes.{after_modes, after_topic}}
-pub use Rattle.net_view.proofs.{AfterOwnJoin.after_own_join, Commands.told_of_account}
-pub use Rattle.net_view.proofs.{Commands.told_of_away, Thinned.{alike_kept, seen-thinned}}
-pub use Rattle.net_view.specs.Changes.{fresh_channel, told_person, with_account, with_away}
-pub use Rattle.net_view.specs.{Changes.with_topic, Seen.thinned_ranks, StateLines.actor_nick}
-pub use Rattle.{net_view.specs.Told.{HasAccount, IsAway}, std.specs.Option.option_or}
-pub use Rattle.welcome.proofs.{EachOf.flat, Words.{Shown, account_line, away_line, channel_lines}}
-pub use Rattle.welcome.proofs.Words.{fact_lines, get-thinned_channels, get-thinned_members, held}
-pub use Rattle.welcome.proofs.Words.{highest, kept_by, kept_person, length, line_of_person}
-pub use Rattle.welcome.proofs.Words.{list_any, listing_lines, mode_lines, names_end, old_member}
-pub use Rattle.welcome.proofs.Words.{option_to_list, person_lines, state_lines, thinned}
-pub use Rattle.welcome.proofs.Words.{thinned_channel, thinned_channels, topic_lines, ◌&&◌}
-
--- ---- the lines of a channel bring a client to that channel
+unfoldable pub use LinesRead.*
 
 -- the highest rank of each member
 abbrev pub highest_of : View → Shown
@@ -34,7 +17,55 @@ first_person v caps me n = record {
 module _ (v : View) (src : IsSource v) (caps : Caps) (k : Text) (ch : Channel)
     (found : fin.get v.channels k ≡ Some ch) where
   abbrev us : Text
-  us = me v src caps k ch found
+  us = key_by v.settings src.nick
+
+  abbrev ok : IsSoundChannel v k ch
+  ok = src.sound.channels k ch found
+
+  -- we are a member
+  here : is_some (fin.get ch.members us) ≡ true
+  here = grind (arith, src.own, ok.own)
+
+  -- ---- the members, in rows of words and in one list
+
+  row_read : (row : List Text) → Each IsPlain row
+      → told v.settings (Received (name_row v ch.name row)) ≡ Present k (listed v.settings row)
+  row_read row each =
+      let line = name_row v ch.name row in
+      simp (told_of_names v.settings line refl, ok.key, listings_joined v.settings row each)
+
+  rows_read : (row : List Text) (rows : List (List Text)) (w : View) → w.settings ≡ v.settings
+      → Each IsPlain (all_of (row ∷ rows)) → Leads w (map (name_row v ch.name) (row ∷ rows))
+      (after_told w (Present k (listed v.settings (all_of (row ∷ rows)))))
+  rows_read row [] w s each =
+      one_line w (name_row v ch.name row) (Present k (listed v.settings row)) _
+      (rw s (row_read row (each_front IsPlain row [] each))) (λ _. simp append-nil)
+  rows_read row (next ∷ rows) w s each =
+      let rest = all_of (next ∷ rows) in
+      let t = Present k (listed v.settings row) in
+      leading_to (and_then (name_row v ch.name row ∷ []) _ (one_line w (name_row v ch.name row) t
+      (after_told w t) (rw s (row_read row (each_front IsPlain row rest each))) (λ _. refl))
+      (rows_read next rows (after_told w t) s (each_back IsPlain row rest each)))
+      (λ is. rw (← view_in_parts w k (listed v.settings row) (listed v.settings rest) is.sound)
+      (ap (λ ls. after_told w (Present k ls)) (sym (filter_map-append _ row rest))))
+
+  names_read : (w : View) → w.settings ≡ v.settings → Leads w
+      (names_lines v caps ch) (after_told w (Present k (listings v caps.multi_prefix ch.members)))
+  names_read w s = by_rows (rows_of is_short words) refl where
+    words : List Text
+    words = map (member_word v caps.multi_prefix) (fin.entries ch.members)
+
+    by_rows : (rows : List (List Text)) → rows_of is_short words ≡ rows → Leads w (map (name_row
+        v ch.name) rows) (after_told w (Present k (listings v caps.multi_prefix ch.members)))
+    by_rows [] e =
+        let none = nil_from_length (fin.entries ch.members) (sym (length-map
+        (fin.entries ch.members) _) ∙ ap length (sym (rw e at (rows_all is_short words)))) in
+        absurd (grind (arith, none, fin.get-entries ch.members us, here))
+    by_rows (row ∷ rows) e =
+        let written = members_written v src k ch found in
+        let whole : all_of (row ∷ rows) ≡ words = ap all_of (sym e) ∙ rows_all is_short words in
+        rw (← members_read v caps.multi_prefix _ written, ← whole) (rows_read row rows w s (rw whole
+        (mapped (IsWrittenMember v) IsPlain _ (word_plain v caps.multi_prefix) _ written)))
 
   abbrev seen_here : Channel
   seen_here = thinned_channel (held caps) (highest_of v) k ch
@@ -42,12 +73,12 @@ module _ (v : View) (src : IsSource v) (caps : Caps) (k : Text) (ch : Channel)
   thin_read : (n : Text) (ranks : List ℕ) → fin.get ch.members n ≡ Some ranks
       → ranks_read caps.multi_prefix ranks ≡ thinned_ranks (held caps) (highest_of v k n) ranks
   thin_read n ranks there =
-      let ranked = src.ranked k ch found n ranks there in
-      ranks_alike _ _ (λ rank h. grind (arith, has-first (has_rank ranks) rank h, ranked, found, there))
+      let ranked = src.formed.ranks k ch found n ranks there in ranks_alike _ _
+      (λ rank h. grind (arith, has-first (has_rank ranks) rank h, ranked, found, there))
 
-  members_read : (n : Text) → fin.get seen_here.members n
+  seen_read : (n : Text) → fin.get seen_here.members n
       ≡ option_map (ranks_read caps.multi_prefix) (fin.get ch.members n)
-  members_read n = grind (arith, get-thinned_members (held caps) (highest_of v) k ch n, thin_read n)
+  seen_read n = grind (arith, get-thinned_members (held caps) (highest_of v) k ch n, thin_read n)
 
   pub listing_read : (w : View) → w.settings ≡ v.settings → (ms : fin.FinMap bytes_cmp (List ℕ))
       → fin.get w.channels k ≡ Some (record ch { members = ms })
@@ -58,10 +89,9 @@ module _ (v : View) (src : IsSource v) (caps : Caps) (k : Text) (ch : Channel)
       })
   unfolding state_lines
   listing_read w s ms there within =
-      and_then (names_lines v caps ch) (names_end v ch ∷ [])
-      (leading_to (names_read v src caps k ch found w s) (λ is.
-      list_read v caps.multi_prefix ch.members w is.sets k (record ch { members = ms }) there within
-      seen_here.members members_read)) (unread_line _ (names_end v ch) refl)
+      and_then (names_lines v caps ch) (names_end v ch ∷ []) (leading_to (names_read w s)
+      (λ is. list_read v caps.multi_prefix ch.members w is.sets k (record ch { members = ms })
+      there within seen_here.members seen_read)) (unread_line _ (names_end v ch) refl)
 
   -- ---- our JOIN
 
@@ -74,132 +104,100 @@ module _ (v : View) (src : IsSource v) (caps : Caps) (k : Text) (ch : Channel)
   abbrev fresh : Channel
   fresh = fresh_channel ch.name us
 
-  module _ (cs : fin.FinMap bytes_cmp Channel) where
-    seen_before : (n : Text) → same n us ≡ false → is_seen (fin.insert cs k fresh) n ≡ true
-        → is_seen cs n ≡ true
-    seen_before n other seen =
-        let at = seen_somewhere (fin.insert cs k fresh) n seen in grind (look_ups, at.1, fin.get-empty)
+  -- the account that our JOIN tells
+  abbrev own_said : Option (Option Text)
+  own_said = cond caps.extended_join (Some (known_at (λ p. p.account) v us)) None
 
-    join_leads : Leads (read_view v cs first) (join_line v caps ch ∷ [])
-        (read_view v (fin.insert cs k fresh) joined)
+  module _ (cs : fin.FinMap bytes_cmp Channel) where
+    -- with one channel more
+    abbrev seen_with : Channel → (Text → Person) → View
+    seen_with there facts = read_view v (fin.insert cs k there) facts
+
+    join_leads : Leads (read_view v cs first) (join_line v caps ch ∷ []) (seen_with fresh joined)
     join_leads =
+        let line = join_line v caps ch in
+        let nameable = src.sound.own src.nick src.own in
+        let own = account_named v src.nick nameable in
+        let written = account_written (known_at (λ p. p.account) v us) (if_some IsAccount _ (λ a e.
+        option_and_then_some (λ (p : Person). p.account) (fin.get v.people us) a e
+        (λ p is at. (src.sound.people us p is).account a at))) in
+        let said : option_and_then account_said (slice_get line.params 1) ≡ own_said =
+        grind (arith, src.own, own, written) in
+        let actor = actor_of_nick line src.nick src.own nameable in
         let w = read_view v cs first in
         let ds = fin.insert cs k fresh in
-        let said = own_said v src caps k ch found in
-        one_line w (join_line v caps ch) _ _ (join_read v src caps k ch found) (λ is.
-        let old = told_person (Some (Some src.nick)) said None (fin.get w.people us) in
+        let us_named = name_of v.settings src.nick in
+        one_line w line (Joined (record { key = k; spelled = ch.name }) true us_named own_said) _
+        (simp (told_of_join v.settings line refl, actor, said, ok.key, ok.name)) (λ is.
+        let old = told_person (Some (Some src.nick)) own_said None (fin.get w.people us) in
         let ours : us_of w us ≡ true = grind (arith, src.own, same_refl us) in
+        let before : (n : Text) → same n us ≡ false → is_seen ds n ≡ true → is_seen cs n ≡ true =
+        λ n other seen. grind (look_ups, (seen_somewhere ds n seen).1, fin.get-empty) in
         let people : fin.retain_keys (fin.insert w.people us old) (is_seen ds)
         ≡ people_read ds joined = same_by_keys (λ n.
-        grind (look_ups, get_read cs first, get_read ds joined, seen_before n, is_same n us)) in
+        grind (look_ups, get_read cs first, get_read ds joined, before n, is_same n us)) in
         let ready : is_some v.own ≡ v.ready = ap is_some src.own ∙ sym src.ready in
-        after_own_join w is.sets is.sound.known (record { key = k; spelled = ch.name })
-        (name_of v.settings src.nick) said ours
-        ∙ (λ i. record v { ready = ready i; channels = ds; people = people i }))
+        after_own_join w is.sets is.sound.known (record { key = k; spelled = ch.name }) us_named
+        own_said ours ∙ (λ i. record v { ready = ready i; channels = ds; people = people i }))
 
     -- ---- topic and modes
 
     abbrev titled : Channel
     titled = record fresh { topic = ch.topic }
 
-    topic_leads : (o : Option Text) → ForSome o IsFilled
-        → Leads (read_view v (fin.insert cs k fresh) joined)
-        (map (λ text. reply v (codes "332") (ch.name ∷ text ∷ [])) (option_to_list o))
-        (read_view v (fin.insert cs k (record fresh { topic = o })) joined)
-    topic_leads None filled = no_lines _
-    topic_leads (Some text) filled =
-        let w = read_view v (fin.insert cs k fresh) joined in
-        one_line w (reply v (codes "332") (ch.name ∷ text ∷ [])) _ _
-        (topic_read v src caps k ch found text (filled text refl)) (λ is.
-        after_topic w is.sets is.sound.known k (Some text)
-        ∙ on_this_channel v cs k fresh joined (with_topic (Some text)) (λ n. refl))
-
-    modes_lead : (es : List (ℕ × Option Text)) → fin.entries ch.modes ≡ es
-        → Leads (read_view v (fin.insert cs k titled) joined) (mode_lines v ch es)
-        (read_view v (fin.insert cs k (record titled { modes = ch.modes })) joined)
-    modes_lead [] e =
-        rw (fin.empty_of_len ch.modes (fin.len-entries ch.modes ∙ ap length e)) (no_lines _)
-    modes_lead (m ∷ es) e =
-        let w = read_view v (fin.insert cs k titled) joined in
-        let shown = map shown_mode (fin.entries ch.modes) in
-        one_line w (reply v (codes "324") (ch.name ∷ mode_params (m ∷ es))) (Listed k shown) _
-        (subst (λ ms. told v.settings (Received (reply v (codes "324") (ch.name ∷ mode_params ms)))
-        ≡ Listed k shown) e (modes_line_read v src caps k ch found)) (λ is.
-        after_modes w is.sets is.sound.known k shown titled (grind look_ups) ch.modes
-        (λ letter. sym (modes_listed ch.modes letter))
-        ∙ channel_changed v cs k titled (record titled { modes = ch.modes }) (λ n. refl) joined)
-
-    -- ---- members
-
     abbrev moded : Channel
     moded = record titled { modes = ch.modes }
 
-    -- who is seen then was a member already, or is one of this channel
-    seen_already : (n : Text) → is_seen (fin.insert cs k seen_here) n ≡ true
-        → fin.get ch.members n ≡ None → is_seen (fin.insert cs k moded) n ≡ true
-    seen_already n seen none =
-        let at = seen_somewhere (fin.insert cs k seen_here) n seen in
-        seen_in (fin.insert cs k moded) at.0 n (grind (look_ups, at.1, members_read n, none))
+    topic_leads : (o : Option Text) → ForSome o IsFilled → Leads (seen_with fresh joined)
+        (map (λ text. reply v (codes "332") (ch.name ∷ text ∷ [])) (option_to_list o))
+        (seen_with (record fresh { topic = o }) joined)
+    topic_leads None filled = no_lines _
+    topic_leads (Some text) filled =
+        let line = reply v (codes "332") (ch.name ∷ text ∷ []) in
+        one_line (seen_with fresh joined) line (Titled k (Some text)) _ (simp
+        (told_of_topic_reply v.settings line refl, ok.key, filled_said text (filled text refl)))
+        (λ is. after_topic _ is.sets is.sound.known k
+        (Some text) ∙ on_this_channel v cs k fresh joined (with_topic (Some text)) (λ n. refl))
+
+    modes_lead : (es : List (ℕ × Option Text)) → fin.entries ch.modes ≡ es
+        → Leads (seen_with titled joined) (mode_lines v ch es) (seen_with moded joined)
+    modes_lead [] e =
+        rw (fin.empty_of_len ch.modes (fin.len-entries ch.modes ∙ ap length e)) (no_lines _)
+    modes_lead (m ∷ es) e =
+        let line = reply v (codes "324") (ch.name ∷ mode_params (m ∷ es)) in
+        let shown = map shown_mode (m ∷ es) in
+        let changed = changes_read v.settings (m ∷ es) (rw e at (modes_written v src k ch found)) in
+        one_line (seen_with titled joined) line (Listed k shown) _
+        (simp (told_of_mode_reply v.settings line refl, ok.key, changed)) (λ is. after_modes
+        _ is.sets is.sound.known k shown titled (grind look_ups) ch.modes (λ letter. sym (rw e at
+        (modes_listed ch.modes letter))) ∙ channel_changed v cs k titled moded (λ n. refl) joined)
+
+    -- ---- members
 
     -- what a name list leaves of the facts
     facts_then : (n : Text) → is_seen (fin.insert cs k seen_here) n ≡ true
-        → listed_person v (read_view v (fin.insert cs k moded) joined) ch.members n ≡ first n
+        → listed_person v (seen_with moded joined) ch.members n ≡ first n
     facts_then n seen =
         let ds = fin.insert cs k moded in
-        let we = here v src caps k ch found in
+        let at = seen_somewhere (fin.insert cs k seen_here) n seen in
+        let already : fin.get ch.members n ≡ None → is_seen ds n ≡ true =
+        λ none. seen_in ds at.0 n (grind (look_ups, at.1, seen_read n, none)) in
         let seen_us : is_seen ds us ≡ true = seen_in ds k us (grind look_ups) in
-        let spelled = (src.sound.channels k ch found).spelled n in
-        grind (arith, get_read ds joined n, seen_already n, seen_us, is_same n us, we, spelled)
+        let spelled = ok.spelled n in
+        grind (arith, get_read ds joined n, already, seen_us, is_same n us, here, spelled)
 
-    members_lead : Leads (read_view v (fin.insert cs k moded) joined) (listing_lines v caps ch)
-        (read_view v (fin.insert cs k seen_here) first)
+    members_lead : Leads (seen_with moded joined) (listing_lines v caps ch)
+        (seen_with seen_here first)
     members_lead =
         let ds = fin.insert cs k moded in
-        let w = read_view v ds joined in
-        let we = here v src caps k ch found in
-        leading_to (listing_read w refl moded.members (grind look_ups)
-        (λ n h. grind (look_ups, fin.get-empty, we))) (λ is.
+        let w = read_view v ds joined in leading_to (listing_read w refl moded.members
+        (grind look_ups) (λ n h. grind (look_ups, fin.get-empty, here))) (λ is.
         ap (λ cs. read_view v cs (listed_person v w ch.members)) (put_twice cs k moded seen_here)
         ∙ facts_alike v (fin.insert cs k seen_here) _ first facts_then)
 
-  pub channel_read : (cs : fin.FinMap bytes_cmp Channel)
-      → Leads (read_view v cs first) (channel_lines v caps ch)
-      (read_view v (fin.insert cs k seen_here) first)
+  pub channel_read : (cs : fin.FinMap bytes_cmp Channel) → Leads (read_view v cs first)
+      (channel_lines v caps ch) (read_view v (fin.insert cs k seen_here) first)
   channel_read cs =
-      and_then (join_line v caps ch ∷ []) _ (join_leads cs)
-      (and_then (topic_lines v ch) _ (topic_leads cs ch.topic (src.sound.channels k ch found).topic)
-      (and_then (mode_lines v ch (fin.entries ch.modes)) (listing_lines v caps ch)
-      (modes_lead cs (fin.entries ch.modes) refl) (members_lead cs)))
-
--- ---- the lines of what is got under each key
-
--- entries of this map
-abbrev pub AreIn : {X : Type 0} → fin.FinMap bytes_cmp X → List (Text × X) → Type 0
-AreIn m es = Each (λ e. fin.get m e.0 ≡ Some e.1) es
-
-pub all_in : {X : Type 0} (m : fin.FinMap bytes_cmp X) → AreIn m (fin.entries m)
-all_in m = entries_got (λ e. fin.get m e.0 ≡ Some e.1) m (λ e is. is)
-
--- of what is got under a key each gives only what has a property
-pub each_entry : {X Y : Type 0} (P : Y → Type 0) (m : fin.FinMap bytes_cmp X) (gives : X → List Y)
-    → ((k : Text) (x : X) → fin.get m k ≡ Some x → Each P (gives x))
-    → Each P (flat_map (λ (e : Text × X). gives e.1) (fin.entries m))
-each_entry P m gives h =
-    flat P _ (λ e. gives e.1) (λ e at. h e.0 e.1 at) (fin.entries m) (all_in m)
-
--- the lines of what is got under each key, of which each leads a step on
-module _ {X S : Type 0} (m : fin.FinMap bytes_cmp X) (state : S → View) (lines : X → List Parts)
-    (step : S → Text × X → S) (Is : S → Type 0)
-    (one : (k : Text) (x : X) → fin.get m k ≡ Some x → (s : S) → Is s
-    → Leads (state s) (lines x) (state (step s (k, x))) × Is (step s (k, x))) where
-  some_lead : (es : List (Text × X)) → AreIn m es → (s : S) → Is s
-      → Leads (state s) (flat_map (λ (e : Text × X). lines e.1) es) (state (fold step s es))
-  some_lead [] each s is = no_lines _
-  some_lead (e ∷ es) each s is =
-      let next = one e.0 e.1 each.0 s is in
-      and_then (lines e.1) _ next.0 (some_lead es each.1 (step s e) next.1)
-
-  pub all_lead : (s : S) → Is s
-      → Leads (state s) (flat_map (λ (e : Text × X). lines e.1) (fin.entries m))
-      (state (fold step s (fin.entries m)))
-  all_lead = some_lead (fin.entries m) (all_in m)
+      and_then (join_line v caps ch ∷ []) _ (join_leads cs) (and_then (topic_lines v ch) _
+      (topic_leads cs ch.topic ok.topic) (and_then (mode_lines v ch (fin.entries ch.modes))
+      (listing_lines v caps ch) (modes_lead cs (fin.entries ch.modes) refl) (members_lead cs)))

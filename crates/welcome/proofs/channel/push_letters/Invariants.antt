@@ -1,5 +1,5 @@
-use Rattle.welcome.proofs.Words.{◌++◌, ◌≡◌, length, map, modes_at}
 use Rattle.welcome.proofs.channel.push_letters.Given as goal
+use Rattle.welcome.proofs.Words.{◌++◌, ◌≡◌, length, map, modes_at}
 
 abbrev pub invariant-loop-letter : goal.invariant-loop-letter
 invariant-loop-letter g l =

@@ -1,5 +1,5 @@
-use Rattle.welcome.proofs.Words.{◌≡◌, channel_names_of, map, take}
 use Rattle.welcome.proofs.groups.channel_names.Given as goal
+use Rattle.welcome.proofs.Words.{◌≡◌, channel_names_of, map, take}
 
 abbrev pub invariant-loop-i : goal.invariant-loop-i
 invariant-loop-i g l =

@@ -1,6 +1,5 @@
-use Rattle.welcome.proofs.Words.{◌+◌, ◌≡◌, [], length, map, vec_capacity, vec_len}
 use Rattle.welcome.proofs.groups.empty_groups.Given as goal
-use Rattle.std.proofs.{Common.replicate}
+use Rattle.welcome.proofs.Words.{◌+◌, ◌≡◌, [], length, map, replicate, vec_capacity, vec_len}
 
 abbrev pub invariant-loop : goal.invariant-loop
 invariant-loop g l = record {

@@ -1,6 +1,5 @@
-use Rattle.welcome.proofs.Words.{◌≡◌, AllByRecursion, HasHead, map, person_lent}
 use Rattle.welcome.proofs.in_sight.members_of.Given as goal
-use Rattle.welcome.proofs.{PersonsAt.persons_so_far}
+use Rattle.welcome.proofs.PersonsAt.{◌≡◌, AllByRecursion, HasHead, map, person_lent, persons_so_far}
 
 abbrev pub invariant-loop-i : goal.invariant-loop-i
 invariant-loop-i g l =

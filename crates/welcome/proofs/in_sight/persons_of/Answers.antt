@@ -1,5 +1,5 @@
 use Rattle.welcome.proofs.in_sight.persons_of.Goals as goal
-use Rattle.welcome.proofs.{PersonsAt.persons_gathered, Words.{view_sound}}
+use Rattle.welcome.proofs.{PersonsAt.persons_gathered, Words.view_sound}
 
 pub returns : goal.returns
 returns g c =

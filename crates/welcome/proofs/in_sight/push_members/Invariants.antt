@@ -1,6 +1,6 @@
+use Rattle.welcome.proofs.in_sight.push_members.Given as goal
 use Rattle.welcome.proofs.Words.{◌++◌, ◌≡◌, AllByRecursion, HasHead, length, map, member_parts_at}
 use Rattle.welcome.proofs.Words.{person_lent, person_shown}
-use Rattle.welcome.proofs.in_sight.push_members.Given as goal
 
 abbrev pub invariant-loop-member : goal.invariant-loop-member
 invariant-loop-member g l = record {

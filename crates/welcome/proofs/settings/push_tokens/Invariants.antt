@@ -1,5 +1,5 @@
-use Rattle.welcome.proofs.Words.{◌+◌, ◌∷◌, ◌≡◌, length, map, take, vec_capacity, vec_len}
 use Rattle.welcome.proofs.settings.push_tokens.Given as goal
+use Rattle.welcome.proofs.Words.{◌+◌, ◌∷◌, ◌≡◌, length, map, take, vec_capacity, vec_len}
 
 abbrev pub invariant-loop-token : goal.invariant-loop-token
 invariant-loop-token g l = record {

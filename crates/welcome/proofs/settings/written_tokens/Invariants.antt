@@ -1,5 +1,5 @@
-use Rattle.welcome.proofs.Words.{◌≡◌, ◌≤◌, length, map, take, token_text, vec_capacity, vec_len}
 use Rattle.welcome.proofs.settings.written_tokens.Given as goal
+use Rattle.welcome.proofs.Words.{◌≡◌, ◌≤◌, length, map, take, token_text, vec_capacity, vec_len}
 
 abbrev pub invariant-loop-place : goal.invariant-loop-place
 invariant-loop-place g l = record {

@@ -1,5 +1,5 @@
 use Rattle.welcome.proofs.packet.Packet.followed_by.Goals as goal
-use Rattle.welcome.proofs.{PacketBytes.{few_lines, joined}, Words.{◌++◌, ◌∙◌, arith, rules}}
+use Rattle.welcome.proofs.{Words.{◌++◌, ◌∙◌, arith, rules}, WrittenLaw.{few_lines, packets_joined}}
 
 pub overflow_add-self-inside : goal.overflow_add-self-inside
 overflow_add-self-inside g c =
@@ -8,10 +8,11 @@ overflow_add-self-inside g c =
     omega (arith, front, back, c.len.ensures.value, c.len-2.ensures.value)
 
 pub of_text-requires : goal.of_text-requires
-of_text-requires g c = (joined _ _ _ _ _ c.self.invariant c.other.invariant (search rules)).packet
+of_text-requires g c =
+    (packets_joined _ _ _ _ _ c.self.invariant c.other.invariant (search rules)).packet
 
 pub returns : goal.returns
 returns g c =
-    let all = joined c.self.inside.text c.other.inside.text c.extend_from_slice-2.new.self.items
-    _ _ c.self.invariant c.other.invariant (search rules) in
+    let all = packets_joined c.self.inside.text c.other.inside.text
+    c.extend_from_slice-2.new.self.items _ _ c.self.invariant c.other.invariant (search rules) in
     rw (all.lines ∙ (λ k. c.self.view_is k ++ c.other.view_is k)) at c.of_text.ensures

@@ -1,10 +1,10 @@
-use Rattle.welcome.proofs.Words.{◌∷◌, [], append-nil, writable-again}
 use Rattle.welcome.proofs.packet.Packet.one.Goals as goal
-use Rattle.welcome.proofs.{PacketBytes.is_packet, PacketBytes.lines_back}
+use Rattle.welcome.proofs.WrittenLaw.{◌∷◌, [], append-nil, is_packet, lines_back, writable-again}
 
 pub of_text-requires : goal.of_text-requires
 of_text-requires g c =
-    is_packet _ (c.args.line.now ∷ []) (rw (c.in_ok-write.ensures.ok, c.new-text.ensures.items, append-nil))
+    is_packet _
+    (c.args.line.now ∷ []) (rw (c.in_ok-write.ensures.ok, c.new-text.ensures.items, append-nil))
     ((writable-again c.args.line.now).1 c.write.ensures.again, tt)
 
 pub returns : goal.returns

@@ -1,7 +1,6 @@
 -- Modes, members and name lists that are written out are read back as they are.
 pub mod Leading
-pub use Leading.*
-use Rattle.std.specs.FinMap as fin
+unfoldable pub use Leading.*
 use Rattle.irc_support.proofs.ModesRead as spelled_modes
 use Rattle.irc_support.proofs.NamesRead as spelled_names
 
@@ -15,41 +14,26 @@ shown_mode m = record { letter = m.0; setting = Some m.1 }
 abbrev pub IsWritten : List Token → ℕ × Option Text → Type 0
 IsWritten settings m = (is_sign m.0 ≡ false) × IsKept (kind_of settings m.0) m.1
 
--- the change that sets a mode of this kind sets it
-set_by : (kind : Kind) (p : Option Text) → IsKept kind p
-    → (setting_by kind true p ≡ Some (Some p)) × (is_some p ≡ takes_parameter kind true)
-set_by kind p k = grind (arith, k)
-
-written_modes : (settings : List Token) (modes : List (ℕ × Option Text))
-    → Each (IsWritten settings) modes → Each (IsWrittenMode settings) modes
-written_modes settings [] each = tt
-written_modes settings (m ∷ modes) each =
-    ((each.0.0, (set_by (kind_of settings m.0) m.1 each.0.1).1), written_modes settings modes each.1)
-
 modes_set : (settings : List Token) (modes : List (ℕ × Option Text))
-    → Each (IsWritten settings) modes
-    → filter_map (mode_change settings) (map set_change modes) ≡ map shown_mode modes
-modes_set settings [] each = refl
-modes_set settings (m ∷ modes) each =
-    simp ((set_by (kind_of settings m.0) m.1 each.0.1).0, modes_set settings modes each.1)
+    → Each (IsWritten settings) modes → Each (IsWrittenMode settings) modes
+    × (filter_map (mode_change settings) (map set_change modes) ≡ map shown_mode modes)
+modes_set settings [] each = (tt, refl)
+modes_set settings (m ∷ modes) each = grind (arith, each.0, modes_set settings modes each.1)
 
 -- what the letters behind a plus and their parameters change
 pub changes_read : (settings : List Token) (modes : List (ℕ × Option Text))
-    → Each (IsWritten settings) modes
-    → filter_map (mode_change settings) (changes settings (mode_params modes))
-    ≡ map shown_mode modes
+    → Each (IsWritten settings) modes → filter_map
+    (mode_change settings) (changes settings (mode_params modes)) ≡ map shown_mode modes
 changes_read settings modes each =
-    rw (spelled_modes.changes_read settings modes (written_modes settings modes each))
-    (modes_set settings modes each)
+    let set = modes_set settings modes each in
+    rw (spelled_modes.changes_read settings modes set.0) set.1
 
 -- a channel's modes as the list of them tells them
-pub modes_listed : (m : fin.FinMap nat_cmp (Option Text)) (letter : ℕ)
-    → unwrap_or (last_in (setting_of letter) (map shown_mode (fin.entries m))) None
-    ≡ fin.get m letter
+pub modes_listed : (m : fin.FinMap nat_cmp (Option Text)) (letter : ℕ) → unwrap_or
+    (last_in (setting_of letter) (map shown_mode (fin.entries m))) None ≡ fin.get m letter
 modes_listed m letter =
-    let told = told_at nat_cmp fin.nat_cmp-IsAntisymmetric letter (setting_of letter) shown_mode
-    Some (λ e. refl) m in
-    grind (arith, told)
+    let told = told_at nat_cmp fin.nat_cmp-IsAntisymmetric letter
+    (setting_of letter) shown_mode Some (λ e. refl) m in grind (arith, told)
 
 -- ---- members that are written out in name lists are read back as they are
 
@@ -60,29 +44,29 @@ pub record IsWrittenMember (v : View) (member : Text × List ℕ) : Type 0 where
   pub spells : IsSpelling v.settings member.0 nick
   pub ranks : Each (HasSymbol v.settings) member.1
 
+-- the ranks of a member as they are read
+abbrev pub ranks_read : Bool → List ℕ → List ℕ
+ranks_read multi_prefix ranks = ranks_that (has_rank (ranks_shown multi_prefix ranks))
+
+-- the spelling that the list has
+abbrev pub spelled_by : View → Text → Text
+spelled_by v n = unwrap_or (known_at (λ p. p.spelled) v n) n
+
 -- a member as it is read: the ranks that are shown
 abbrev pub shown_member : View → Bool → Text × List ℕ → Listing
-shown_member v multi_prefix member = record {
-  person = record {
-    key = member.0;
-    spelled =
-        unwrap_or (known_at (λ p. p.spelled) v member.0) member.0;
-  };
-  ranks = ranks_that (has_rank (ranks_shown multi_prefix member.1));
-}
+shown_member v mp m =
+    record { person = record { key = m.0; spelled = spelled_by v m.0 }; ranks = ranks_read mp m.1 }
 
 some_shown : (settings : List Token) (multi_prefix : Bool) (ranks : List ℕ)
     → Each (HasSymbol settings) ranks → Each (HasSymbol settings) (ranks_shown multi_prefix ranks)
-some_shown settings true ranks each = each
-some_shown settings false [] each = tt
-some_shown settings false (r ∷ ranks) each = (each.0, tt)
+some_shown settings multi_prefix ranks each = grind (arith, each)
 
 module _ (v : View) (multi_prefix : Bool) (member : Text × List ℕ)
     (w : IsWrittenMember v member) where
   pub word_plain : IsPlain (member_word v multi_prefix member)
   word_plain =
-      rw w.known
-      (spelled_names.word_plain v.settings (ranks_shown multi_prefix member.1) w.nick w.spells.nameable)
+      rw w.known (spelled_names.word_plain v.settings
+      (ranks_shown multi_prefix member.1) w.nick w.spells.nameable)
 
   word_read : listing v.settings (word_of v.settings (member_word v multi_prefix member))
       ≡ Some (shown_member v multi_prefix member)
@@ -93,21 +77,12 @@ module _ (v : View) (multi_prefix : Bool) (member : Text × List ℕ)
 
 pub members_read : (v : View) (multi_prefix : Bool) (es : List (Text × List ℕ))
     → Each (IsWrittenMember v) es
-    → listed v.settings (map (member_word v multi_prefix) es)
-    ≡ map (shown_member v multi_prefix) es
+    → listed v.settings (map (member_word v multi_prefix) es) ≡ map (shown_member v multi_prefix) es
 members_read v multi_prefix [] each = refl
 members_read v multi_prefix (e ∷ es) each =
     simp (word_read v multi_prefix e each.0, members_read v multi_prefix es each.1)
 
 -- ---- a name list that has all members of a channel
-
--- the ranks of a member as they are read
-abbrev pub ranks_read : Bool → List ℕ → List ℕ
-ranks_read multi_prefix ranks = ranks_that (has_rank (ranks_shown multi_prefix ranks))
-
--- the spelling that the list has
-abbrev pub spelled_by : View → Text → Text
-spelled_by v n = unwrap_or (known_at (λ p. p.spelled) v n) n
 
 -- a person after the list
 abbrev pub listed_person : View → View → fin.FinMap bytes_cmp (List ℕ) → Text → Person
@@ -144,19 +119,16 @@ module _ (v : View) (mp : Bool) (members : fin.FinMap bytes_cmp (List ℕ)) wher
         (λ e. grind (arith, is_same n e.0)) members
 
     -- a member after the list, which names all who were there
-    member_listed : (found before : Option (List ℕ))
-        → (is_some before ≡ true → is_some found ≡ true) →
-        cond (unwrap_or (cond (is_some found) (Some true) None) (is_some before))
-        (Some (ranks_that (λ rank. unwrap_or
-        (option_map (λ r. has_rank (ranks_read mp r) rank) found) (had_rank rank before)))) None
-        ≡ option_map (ranks_read mp) found
+    member_listed : (found before : Option (List ℕ)) → (is_some before ≡ true → is_some found
+        ≡ true) → cond (unwrap_or (cond (is_some found) (Some true) None) (is_some before)) (Some
+        (ranks_that (λ rank. unwrap_or (option_map (λ r. has_rank (ranks_read mp r) rank) found)
+        (had_rank rank before)))) None ≡ option_map (ranks_read mp) found
     member_listed None before h = grind arith
     member_listed (Some r) before h = ap Some (ranks_alike _ _ (has-ranks _))
 
   -- the view after the list, where the channel was known with some of these members
-  module _ (w : View) (sets : HasSets w) (k : Text) (before : Channel)
-      (there : fin.get w.channels k ≡ Some before)
-      (within : (n : Text) → is_some (fin.get before.members n) ≡ true
+  module _ (w : View) (sets : HasSets w) (k : Text) (before : Channel) (there : fin.get w.channels k
+      ≡ Some before) (within : (n : Text) → is_some (fin.get before.members n) ≡ true
       → is_some (fin.get members n) ≡ true) (read : fin.FinMap bytes_cmp (List ℕ))
       (are : (n : Text) → fin.get read n ≡ option_map (ranks_read mp) (fin.get members n)) where
     abbrev is : Channel
@@ -169,10 +141,9 @@ module _ (v : View) (mp : Bool) (members : fin.FinMap bytes_cmp (List ℕ)) wher
     list_read =
         let t = Present k listings in
         let ds = fin.insert w.channels k is in
-        let made = channel_is (us_of w) t k (Some before) is refl (λ letter. refl) (λ n.
-        simp (same_refl k, listed_found, rank_found)
-        (member_listed n (fin.get members n) (fin.get before.members n) (within n) ∙ sym (are n)))
-        in
+        let made = channel_is (us_of w) t k (Some before) is refl
+        (λ letter. refl) (λ n. simp (same_refl k, listed_found, rank_found) (member_listed n
+        (fin.get members n) (fin.get before.members n) (within n) ∙ sym (are n))) in
         view_put w sets t k (λ d h. grind look_ups) is _ (grind (look_ups, there, made))
         (λ n. grind (look_ups, get_read ds (listed_person v w members) n, spelled_found n))
 
@@ -180,34 +151,26 @@ module _ (v : View) (mp : Bool) (members : fin.FinMap bytes_cmp (List ℕ)) wher
 
 pub record IsSource (v : View) : Type 0 where
   pub sound : IsSound v
+  pub formed : IsWellFormed v
   pub nick : Text
   pub own : v.own ≡ Some nick
   pub ready : v.ready ≡ true
-  pub unsigned : (c : Text) (ch : Channel) → fin.get v.channels c ≡ Some ch
-      → (letter : ℕ) (param : Option Text) → fin.get ch.modes letter ≡ Some param
-      → is_sign letter ≡ false
-  pub ranked : (c : Text) (ch : Channel) → fin.get v.channels c ≡ Some ch
-      → (n : Text) (ranks : List ℕ) → fin.get ch.members n ≡ Some ranks
-      → ranks_that (has_rank ranks) ≡ ranks
 
-pub source_of : (items : List Arrival) → (view_of items).ready ≡ true → (own : Option Text)
-    → (view_of items).own ≡ own → IsSource (view_of items)
-source_of items ready None e =
-    absurd (no_true (sym (ap (λ (u : View). u.ready) ((view_sound items).unwelcomed e)) ∙ ready))
-source_of items ready (Some nick) e = record {
-  sound = view_sound items;
-  nick = nick;
-  own = e;
-  ready = ready;
-  unsigned = letters_unsigned items;
-  ranked = view_ranked items;
-}
-
--- where we are on a channel there is one
-pub source_at : (items : List Arrival) (c : Text) (ch : Channel)
-    → fin.get (view_of items).channels c ≡ Some ch → IsSource (view_of items)
-source_at items c ch found =
-    source_of items ((view_sound items).channels c ch found).ready (view_of items).own refl
+pub source_of : (items : List Arrival) → (view_of items).ready ≡ true → IsSource (view_of items)
+unfolding view_of
+source_of items ready =
+    let sound = view_sound items in
+    let own : (nick : Text) × ((view_of items).own ≡ Some nick) =
+    grind (arith, ready, sound.unwelcomed) in
+    let tokens = tokens_formed (reverse items) in
+    record {
+      sound = sound;
+      formed =
+          record { tokens = tokens; letters = letters_unsigned items; ranks = view_ranked items };
+      nick = own.0;
+      own = own.1;
+      ready = ready;
+    }
 
 each_of : (P : ℕ → Type 0) (ranks : List ℕ) → ((rank : ℕ) → has_rank ranks rank ≡ true → P rank)
     → Each P ranks
@@ -232,13 +195,12 @@ spelled_member v n ranks (Some nick) e h each =
 module _ (v : View) (src : IsSource v) (c : Text) (ch : Channel)
     (at : fin.get v.channels c ≡ Some ch) where
   pub members_written : Each (IsWrittenMember v) (fin.entries ch.members)
-  members_written = entries_got (IsWrittenMember v) ch.members (λ e is.
-      let ok = src.sound.channels c ch at in
-      let ranks = each_of (HasSymbol v.settings) e.1
-      (λ rank h. rank_symbol v.settings rank (ok.ranks e.0 e.1 is rank h)) in
-      spelled_member v e.0 e.1 _ refl (ok.spelled e.0 (ap is_some is)) ranks)
+  members_written =
+      entries_got (IsWrittenMember v) ch.members (λ e is. let ok = src.sound.channels c ch at in let
+      ranks = each_of (HasSymbol v.settings) e.1 (λ rank h. rank_symbol v.settings rank (ok.ranks
+      e.0 e.1 is rank h)) in spelled_member v e.0 e.1 _ refl (ok.spelled e.0 (ap is_some is)) ranks)
 
   pub modes_written : Each (IsWritten v.settings) (fin.entries ch.modes)
   modes_written =
-      letters_got (IsWritten v.settings) ch.modes
-      (λ e is. (src.unsigned c ch at e.0 e.1 is, (src.sound.channels c ch at).modes e.0 e.1 is))
+      letters_got (IsWritten v.settings) ch.modes (λ e is.
+      (src.formed.letters c ch at e.0 e.1 is, (src.sound.channels c ch at).modes e.0 e.1 is))

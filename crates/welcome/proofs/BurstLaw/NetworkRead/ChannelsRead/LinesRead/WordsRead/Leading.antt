@@ -1,39 +1,65 @@
 -- The view of a client, and where lines lead it.
+pub use Rattle.std.specs.FinMap as fin
+unfoldable pub use Words.{catchup_of, state_lines, state_part_of, view_of}
+unfoldable pub use Rattle.irc_support.specs.{Text.is_word, Tokens.set_tokens}
+unfoldable pub use Rattle.net_view.specs.Step.{after}
 use Rattle.welcome.proofs.Words
-pub use Words.{◌++◌, ◌<◌, ◌∙◌, ◌∷◌, ◌≡◌, AreTokens, Arrival, Bool, Caps, Channel, Each, ForSome}
-pub use Words.{IfSome, IsAccount, IsFilled, IsKept, IsSomeAnd, IsSound, IsSpelling, Kind, List}
-pub use Words.{Listed, None, Option, Parts, Person, Received, Some, Text, Token, View, []}
-pub use Words.{account_said, actor_of_nick, ap, append-nil, append_assoc, arith, as_received}
-pub use Words.{bytes_cmp, bytes_exact, codes, cond, entries_got, false, filter_map, flat_map, fold}
-pub use Words.{get_or, greeting_of, had_rank, has-ranks, has_rank, if_some, is_same, is_seen}
-pub use Words.{is_short, is_some, is_state_line, is_token_row, join_line, join_with_byte, key_by}
-pub use Words.{kind_of, known_at, last_in, length-append, letters_got, look_ups, map, map-append}
-pub use Words.{member_word, mode_params, name_of, names_lines, nat_cmp, nat_list_cmp_total, no_motd}
-pub use Words.{no_true, option_and_then, option_map, ranking_of, ranks_alike, ranks_shown, refl}
-pub use Words.{reply, rows_from, rows_of, same, same_by_keys, same_refl, seen_alike, settings_lines}
-pub use Words.{slice_get, state_lines, subst, sym, token_text, told, true, unless_empty, unwrap_or}
-pub use Words.{us_of, view_of, view_sound, view_unchanged, ℕ}
-use Rattle.std.specs.FinMap as fin
-pub use Rattle.client_caps.proofs.Listings.{listed, listings_joined}
+pub use Words.{◌&&◌, ◌++◌, ◌-◌, ◌<◌, ◌||◌, ◌∙◌, ◌∷◌, ◌≡◌, ◌≤◌, Arrival, Bool, Caps, Channel, Each}
+pub use Words.{EntryParts, ForSome, IfSome, IsKept, IsSomeAnd, IsSound, IsSpelling, List, None}
+pub use Words.{Option, Parts, Person, Received, Some, Text, Token, View, [], ap, append-nil}
+pub use Words.{append_assoc, arith, as_received, burst_of, bytes_cmp, bytes_exact, channel_lines}
+pub use Words.{codes, cond, entries_got, fact_lines, false, filter_map, flat_map, fold, get_or}
+pub use Words.{greeting_of, is_same, is_short, is_some, is_state_line, is_token_row, join_line}
+pub use Words.{key_by, kind_of, known_at, last_in, length, length-append, length-map, letters_got}
+pub use Words.{list_any, listing_lines, map, map-append, member_word, mode_lines, mode_params}
+pub use Words.{name_row, names_end, names_lines, nat_cmp, nat_list_cmp_total, nil_from_length}
+pub use Words.{no_motd, old_member, option_and_then, option_map, option_to_list, person_lines}
+pub use Words.{playback_of, ranking_of, ranks_shown, refl, reply, reverse, rows_from, rows_of, same}
+pub use Words.{same_by_keys, same_refl, settings_lines, slice_get, slice_get-get_or, sym, take_at}
+pub use Words.{token_text, topic_lines, true, unwrap_or, view_sound, view_unchanged, ℕ}
+pub use Rattle.client_caps.proofs.{Highest.has-first, ImageLaw.{images_keep_the_view, seen_agrees}}
+pub use Rattle.client_caps.proofs.{Listings.{listed, listings_joined}, LossLaw.actor_of_nick}
+pub use Rattle.client_caps.specs.{Caps.{held, no_caps}, LateAttach.sent_for}
 pub use Rattle.irc_support.proofs.{RankPlaces.ranking_of-is, SpelledWords.IsPlain, Spelling.paired}
-pub use Rattle.irc_support.{proofs.TokensRead.tokens_read, specs.ChanModes.takes_parameter}
-pub use Rattle.irc_support.specs.{ModeChanges.changes, NamesReply.word_of, Ranks.ranks_that}
-pub use Rattle.irc_support.specs.{Text.is_word, Tokens.{after_param, set_tokens, token_params}}
-pub use Rattle.irc_support.specs.Written.{HasSymbol, IsWrittenMode, is_sign, set_change}
-pub use Rattle.net_view.proofs.{Accounts.account_named, AfterAlike.{HasSets, channel_is, get_put}}
-pub use Rattle.net_view.proofs.{AfterAlike.{view_put, view_sets}, AfterFacts.after_settled}
-pub use Rattle.net_view.proofs.{AfterFacts.after_supports, Emptied.{alone, emptied, no_keys}}
-pub use Rattle.net_view.proofs.{FormSound.{letters_unsigned, view_ranked}, NameLists.view_in_parts}
-pub use Rattle.net_view.{proofs.{People.seen_none, StepLaw.view_step}, specs.Changes.on_channel}
-pub use Rattle.net_view.specs.{Changes.on_person, Facts.spelled_in, Members.lists}
-pub use Rattle.net_view.specs.{Members.rank_in_listing, Modes.setting_of, Sound.IsSoundChannel}
-pub use Rattle.net_view.specs.{Sound.{IsSoundPerson, rank_limit}, StateLines.{listing, mode_change}}
-pub use Rattle.net_view.specs.{StateLines.setting_by, Step.{after, after_told, everyone}}
-pub use Rattle.net_view.specs.{Table.{table, table_gets}, Told.{Joined, Listing, ModeChange}}
-pub use Rattle.net_view.specs.Told.{Present, Settles, Supports, Titled, Told, Welcomed}
-pub use Rattle.std.proofs.{Common.eq-eqb, lemmas.{Grind.fold-append, List.take_at}}
-pub use Rattle.std.proofs.lemmas.{List.Elements.filter_map-append, Option.slice_get-get_or}
-pub use Rattle.welcome.proofs.{EachOf.{each_back, each_front, mapped}, EntriesRead.told_at}
+pub use Rattle.irc_support.{proofs.TokensRead.tokens_read, specs.{Edits.kept, ModeChanges.changes}}
+pub use Rattle.irc_support.specs.{NamesReply.word_of, Ranks.{has_rank, ranks_that}}
+pub use Rattle.irc_support.specs.{Tokens.after_param, Written.{HasSymbol, IsWrittenMode, is_sign}}
+pub use Rattle.{irc_support.specs.Written.set_change, net_view.proofs.Accounts.account_named}
+pub use Rattle.net_view.proofs.AfterAlike.{HasSets, channel_is, get_put, look_ups, seen_alike}
+pub use Rattle.net_view.proofs.{AfterAlike.{us_of, view_put, view_sets}, AfterFacts.after_account}
+pub use Rattle.net_view.proofs.AfterFacts.{after_away, after_settled, after_supports}
+pub use Rattle.net_view.proofs.{AfterMaps.{seen_in, seen_somewhere}, AfterModes.after_modes}
+pub use Rattle.net_view.proofs.{AfterModes.after_topic, AfterJoin.after_own_join}
+pub use Rattle.net_view.proofs.{Channels.channels_get, Commands.{told_of_account, told_of_away}}
+pub use Rattle.net_view.proofs.Commands.{told_of_join, told_of_mode_reply, told_of_names}
+pub use Rattle.net_view.proofs.{Commands.told_of_topic_reply, Emptied.{alone, emptied, no_keys}}
+pub use Rattle.net_view.proofs.FormSound.{letters_unsigned, tokens_formed, view_ranked}
+pub use Rattle.net_view.proofs.{Holds.if_some, NameLists.view_in_parts, People.member_found}
+pub use Rattle.net_view.proofs.{People.seen_none, RankSets.{has-ranks, is_rank, ranks_alike}}
+pub use Rattle.net_view.proofs.SeenStep.{highest_alike, old_of_member, seen_is_thinned}
+pub use Rattle.net_view.proofs.{SeenStep.thinned_alike, StepLaw.view_step, Tests.is_some_map}
+pub use Rattle.net_view.proofs.{Tests.no_true, Thinned.{IsKeptAlike, alike_kept}}
+pub use Rattle.net_view.proofs.Thinned.{get-thinned_channels, get-thinned_members, kept_alike}
+pub use Rattle.net_view.{proofs.Thinned.seen-thinned, specs.{Agrees.Agrees, Changes.fresh_channel}}
+pub use Rattle.net_view.specs.Changes.{on_channel, on_person, told_person, with_account, with_away}
+pub use Rattle.net_view.specs.{Changes.with_topic, Facts.spelled_in, Members.holds_rank}
+pub use Rattle.net_view.specs.Members.{is_member, lists, rank_decided, rank_in_listing}
+pub use Rattle.net_view.specs.{Modes.setting_of, Names.name_of, Seen.{HeldCaps, Shown, highest}}
+pub use Rattle.net_view.specs.Seen.{kept_by, kept_person, seen_since, thinned, thinned_channel}
+pub use Rattle.net_view.specs.{Seen.{thinned_channels, thinned_ranks, was_shown}, Sound.IsAccount}
+pub use Rattle.net_view.specs.Sound.{IsFilled, IsSoundChannel, IsWellFormed, rank_limit}
+pub use Rattle.net_view.specs.StateLines.{account_said, actor_nick, listing, mode_change, told}
+pub use Rattle.net_view.specs.{StateLines.unless_empty, Step.{after_told, everyone, had_rank}}
+pub use Rattle.net_view.specs.{Step.is_seen, Table.{table, table_gets}, Told.{HasAccount, IsAway}}
+pub use Rattle.net_view.specs.Told.{Joined, Listed, Listing, ModeChange, Present, Settles, Supports}
+pub use Rattle.net_view.specs.{Told.{Titled, Told, Welcomed}, Transcript.{Reading, readings_of}}
+pub use Rattle.{net_view.specs.View.{channels_of, view_back}, std.proofs.Common.{eq-eqb, subst}}
+pub use Rattle.std.proofs.lemmas.{Grind.fold-append, List.Elements.filter_map-append}
+pub use Rattle.std.{proofs.lemmas.Option.option_and_then_some, specs.Option.option_or}
+pub use Rattle.welcome.proofs.{EachOf.{each_back, each_front, flat, mapped}, EntriesRead.told_at}
+pub use Rattle.welcome.proofs.PlaybackTold.{IsMessage, playback_unread, unread_lines}
+pub use Rattle.welcome.specs.{Burst.line_of_person, Catchup.{account_line, away_line}}
+pub use Rattle.welcome.specs.LateAttach.{Dated, sent_after, sent_since, undated}
 
 -- ---- the view of a client that is on these channels, with these facts of each person on them
 
@@ -96,11 +122,10 @@ module _ (v : View) (cs : fin.FinMap bytes_cmp Channel) (k : Text) (a b : Channe
       λ i. record v { channels = put i; people = people i }
 
 -- what a law of the step says of the channel, once it is found
-pub on_this_channel : (v : View) (cs : fin.FinMap bytes_cmp Channel) (k : Text) (a : Channel)
-    (facts : Text → Person) (change : Channel → Channel)
-    → ((n : Text) → is_some (fin.get a.members n) ≡ is_some (fin.get (change a).members n))
-    → on_channel (read_view v (fin.insert cs k a) facts) k change
-    ≡ read_view v (fin.insert cs k (change a)) facts
+pub on_this_channel : (v : View) (cs : fin.FinMap bytes_cmp Channel) (k : Text)
+    (a : Channel) (facts : Text → Person) (change : Channel → Channel) → ((n : Text) → is_some
+    (fin.get a.members n) ≡ is_some (fin.get (change a).members n)) → on_channel (read_view v
+    (fin.insert cs k a) facts) k change ≡ read_view v (fin.insert cs k (change a)) facts
 on_this_channel v cs k a facts change members =
     let there : fin.get (fin.insert cs k a) k ≡ Some a = grind look_ups in
     rw there (channel_changed v cs k a (change a) members facts)
@@ -134,8 +159,7 @@ leading_to one is_next = record {
 
 -- a line of which is known what it tells
 pub one_line : (w : View) (line : Parts) (t : Told) (u : View)
-    → told w.settings (Received line) ≡ t → (IsView w → after_told w t ≡ u)
-    → Leads w (line ∷ []) u
+    → told w.settings (Received line) ≡ t → (IsView w → after_told w t ≡ u) → Leads w (line ∷ []) u
 unfolding after
 one_line w line t u tells step =
     leading_to {u = after_told w (told w.settings (Received line))}
@@ -143,8 +167,7 @@ one_line w line t u tells step =
     (λ v. ap (after_told w) tells ∙ step v)
 
 -- some lines, and then others
-pub and_then : {w u x : View} (a b : List Parts) → Leads w a u → Leads u b x
-    → Leads w (a ++ b) x
+pub and_then : {w u x : View} (a b : List Parts) → Leads w a u → Leads u b x → Leads w (a ++ b) x
 and_then a b one two = record {
   on = λ items is.
       ap view_of (sym (with_more items a b)) ∙ two.on (items ++ as_received a) (one.on items is);
