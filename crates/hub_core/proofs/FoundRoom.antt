@@ -1,13 +1,12 @@
 -- Outlets in which room was found, or in memory, out of which packets were taken.
 use Rattle.hub_core.specs.declared.hub.HubError.TheVariants as fault
 use Rattle.hub_core.specs.declared.said.Said.TheVariants as said
-use Rattle.hub_core.proofs.Words.{Bool, Delivered, Forwards, HubState, IsSome, List, None}
-use Rattle.hub_core.proofs.Words.{OutletState, Parts, SessionState, Took, [], arith, heard}
-use Rattle.hub_core.proofs.Words.{is_online, is_some, refl, true, ℕ, ◌+◌, ◌-◌, ◌<◌, ◌∷◌, ◌≡◌, ◌≤◌}
-use Rattle.hub_core.specs.{InMemory.Drains, Saying.{Sent, Stays, given_others}}
-use Rattle.hub_core.specs.declared.{hub.HubError.HubError, said.Said.Said}
-use Rattle.{hub_ends.specs.Outlets.FindsRoom, std.{proofs.Common.{cond, min}, specs.Prelude.Err}}
-use Rattle.std.specs.Prelude.{IfErr, IfOk, Ok, Result}
+use Rattle.hub_core.proofs.Words.{◌+◌, ◌-◌, ◌<◌, ◌∷◌, ◌≡◌, ◌≤◌, Bool, Delivered, Forwards, HubState}
+use Rattle.hub_core.proofs.Words.{IsSome, List, None, OutletState, Parts, SessionState, Took, []}
+use Rattle.hub_core.proofs.Words.{arith, heard, is_online, is_some, refl, true, ℕ}
+use Rattle.hub_core.specs.{InMemory.Drains, declared.{hub.HubError.HubError, said.Said.Said}}
+use Rattle.{hub_core.specs.Saying.{Sent, Stays, given_others}, std.proofs.Common.{cond, min}}
+use Rattle.{hub_ends.specs.Outlets.FindsRoom, std.specs.Prelude.{Err, IfErr, IfOk, Ok, Result}}
 
 -- a packet was taken once room was found
 pub found_took : (alone : Bool) (o m o' : OutletState) (p : List Parts) → FindsRoom alone o m

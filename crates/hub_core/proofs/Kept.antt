@@ -1,14 +1,14 @@
 -- What is kept are messages, and each message has its number.
 use Rattle.hub_core.proofs.Words
-use Words.{[], AllByRecursion, append-nil, append_assoc, arith, Arrival, Bool, Came, content_said}
-use Words.{entry_for, EntryParts, false, filter_map, IfSome, inl, inr, is_message}
-use Words.{is_message_command, IsSome, length, length-append, List, Lost, Messages, nat_tests, None}
-use Words.{Option, option_map, option_map_or, option_to_list, OutletState, Parts, Received, refl}
-use Words.{rules, Some, Text, true, with_entry, ℕ, ◌++◌, ◌+◌, ◌<◌, ◌∷◌, ◌≡◌}
+use Words.{◌++◌, ◌+◌, ◌<◌, ◌∷◌, ◌≡◌, AllByRecursion, Arrival, Bool, Came, EntryParts, IfSome}
+use Words.{IsSome, List, Messages, None, Option, OutletState, Parts, Some, Text, [], append-nil}
+use Words.{append_assoc, arith, content_said, entry_for, false, filter_map, inl, inr, is_message}
+use Words.{is_message_command, length, length-append, nat_tests, option_map, option_map_or}
+use Words.{option_to_list, refl, true, with_entry, ℕ}
 use Rattle.history.{proofs.LastMessages.all_kept, specs.Entry.{IsWrittenEntry, message_of}}
 use Rattle.history.specs.Messages.{is_missed, missed_of, no_messages, with_message}
 use Rattle.hub_core.specs.{Pumping.{Puts, pong_for}, Running.{AreMessages, AreNumbered, content}}
-use Rattle.{irc_line.specs.Writing.untagged_line, std.proofs.Common.{filter, ◌^◌}}
+use Rattle.{irc_line.specs.Writing.untagged_line, std.proofs.Common.{◌^◌, filter}}
 use Rattle.std.proofs.lemmas.List.Elements.{Contains-append_cases, Contains-append_left}
 use Rattle.std.proofs.lemmas.List.Elements.{Contains-append_right, filter_map-append}
 use Rattle.{std.specs.{List.Contains, Prelude.IsTrue}, welcome.proofs.EachOf.{each_kept, mapped}}
@@ -16,8 +16,7 @@ use Rattle.{std.specs.{List.Contains, Prelude.IsTrue}, welcome.proofs.EachOf.{ea
 -- what is kept of an item is a message
 pub entry_is_message : (x : Came)
     → IfSome (entry_for x) (λ e. IsTrue (is_message_command e.command))
-entry_is_message (Received line, moment) = grind arith
-entry_is_message (Lost, moment) = search rules
+entry_is_message x = grind arith
 
 -- what holds of each message, and of one more if it has a number
 pub all_stay : (P : ℕ × EntryParts → Type 0) (h : Messages) (e : EntryParts) (o : Option ℕ)
@@ -29,9 +28,7 @@ all_stay P h e (Some number) rest here = all_kept P h number e rest (here number
 pub messages_stay : (h : Messages) (e : Option EntryParts) → AreMessages h.kept
     → IfSome e (λ e. IsTrue (is_message_command e.command)) → AreMessages (with_entry h e).kept
 messages_stay h None all is = all
-messages_stay h (Some e) all is =
-    all_stay (λ (m : ℕ × EntryParts). IsTrue (is_message_command m.1.command)) h e h.next all
-    (λ _. is)
+messages_stay h (Some e) all is = all_stay _ h e h.next all (λ _. is)
 
 -- what somebody missed are messages
 pub missed_are_messages : (mark : Option ℕ) (kept : List (ℕ × EntryParts)) → AreMessages kept

@@ -3,10 +3,8 @@ pub mod Each
 pub mod Walk
 pub mod FoundRoom
 pub mod Sets
-pub mod Prepared
 pub mod Kept
 pub mod Running
-pub mod Taken
 pub mod Splits
 pub mod Unread
 pub mod LostChannels

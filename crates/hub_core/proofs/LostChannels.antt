@@ -1,25 +1,24 @@
 -- The channels of a view, the key of one, and the channels to be joined again.
 use Rattle.std.specs.FinMap as fin
-use Rattle.hub_core.proofs.Words.{Arrival, Bool, IfSome, List, Lost, None, Option, Received, Some}
-use Rattle.hub_core.proofs.Words.{Text, View, [], ap, append-nil, arith, bytes_cmp, bytes_exact}
-use Rattle.hub_core.proofs.Words.{drop, false, joining, length, length-map, list_any, lost_channels}
-use Rattle.hub_core.proofs.Words.{nat_list_cmp_total, nat_tests, option_and_then, option_map}
-use Rattle.hub_core.proofs.Words.{option_to_list, refl, reverse, shown, take, view_of, ℕ, ◌++◌, ◌+◌}
-use Rattle.hub_core.{proofs.Words.{◌∷◌, ◌≡◌, ◌≤◌}, specs.LostChannels.{Joining, Joinings}}
-use Rattle.hub_core.specs.LostChannels.{channels_of_view, joining_of, key_of_channel, lost_at}
-use Rattle.hub_core.specs.LostChannels.{lost_by, lost_then, put_all, settles}
-use Rattle.{hub_core.specs.declared.lost.LostChannel.LostChannel, irc_support.specs.Settings.key_by}
+use Rattle.hub_core.proofs.Words
+use Words.{◌++◌, ◌+◌, ◌∷◌, ◌≡◌, ◌≤◌, Arrival, Bool, IfSome, List, Lost, None, Option, Received}
+use Words.{Some, Text, View, [], ap, append-nil, arith, bytes_cmp, bytes_exact, drop, false}
+use Words.{joining, length, length-map, list_any, lost_channels, nat_list_cmp_total, nat_tests}
+use Words.{option_and_then, option_map, option_to_list, refl, reverse, shown, take, view_of, ℕ}
+use Rattle.hub_core.specs.LostChannels.{Joining, Joinings, channels_of_view, joining_of}
+use Rattle.hub_core.specs.LostChannels.{key_of_channel, lost_at, lost_by, lost_then, put_all}
+use Rattle.hub_core.specs.{LostChannels.settles, declared.lost.LostChannel.LostChannel}
+use Rattle.{irc_support.specs.Settings.key_by, std.proofs.lemmas.List.{reverse-append, take_all}}
 use Rattle.net_view.proofs.{Channels.{channels_get, covers_on}, KeyPlaces.entry_at, Keys.is_same}
 use Rattle.net_view.proofs.{Keys.same_by_keys, SoundStep.view_sound, Tests.absent, Walks.first_left}
 use Rattle.net_view.specs.{Named.{channels_in, named}, Names.same, Readers.channel_shown}
 use Rattle.net_view.specs.{Readers.{channels_shown, mode_shown}, Sound.IsSound, Table.table_gets}
 use Rattle.net_view.specs.{Transcript.readings_of, View.{Channel, view_back}, Written.AreWritten}
 use Rattle.{network_tables.proofs.ShownLemmas.{entries-shown, get-shown}, std.proofs.Common.T}
-use Rattle.std.proofs.lemmas.{List.{reverse-append, take_all}, Option.slice_get-map}
-use Rattle.std.specs.{FinMap.Entries.find, Iterator.YieldsFirstBy, Option.option_or}
-use Rattle.std.specs.{Ordering.{eq_by_cmp, nat_cmp}, Prelude.slice_get}
-use Rattle.welcome.proofs.{EntriesRead.none_below, Places.{Mode, mode_here, take_next}}
-use Rattle.welcome.specs.Lent.{modes_at}
+use Rattle.std.{proofs.lemmas.Option.slice_get-map, specs.FinMap.Entries.find}
+use Rattle.std.specs.{Iterator.YieldsFirstBy, Option.option_or, Ordering.{eq_by_cmp, nat_cmp}}
+use Rattle.{std.specs.Prelude.slice_get, welcome.proofs.{EntriesRead.none_below, Places.Mode}}
+use Rattle.welcome.{proofs.Places.{mode_here, take_next}, specs.Lent.modes_at}
 
 -- ---- the key
 
@@ -59,10 +58,6 @@ module _ (v : View) (i : ℕ) where
 abbrev keyed_of : Text × Channel → Text × Joining
 keyed_of e = (e.0, joining_of e.1)
 
-channel_at_place : (v : View) (i : ℕ)
-    → slice_get (channels_of_view v) i ≡ option_map keyed_of (slice_get (fin.entries v.channels) i)
-channel_at_place v i = slice_get-map keyed_of (fin.entries v.channels) i
-
 -- all of them
 pub channels_all : (v : View) (i : ℕ) → channels_shown v ≤ i
     → take i (channels_of_view v) ≡ channels_of_view v
@@ -93,13 +88,14 @@ pub added : (v : View) → IsSound v → (i : ℕ) (name folded copy : Text) (ke
     → key ≡ option_and_then key_of_channel (channel_shown v i)
     → (folded, (copy, key)) ∷ [] ≡ option_to_list (slice_get (channels_of_view v) i)
 added v sound i name folded copy key e under same k =
-    grind (arith, channel_at_place v i, name_key v sound i)
+    grind (arith, slice_get-map keyed_of (fin.entries v.channels) i, name_key v sound i)
 
 -- where there is no channel, nothing is
 pub none_added : (v : View) (i : ℕ) (now : List (Text × Joining))
     → None ≡ option_map (λ (ch : Channel). ch.name) (channel_shown v i)
     → now ≡ now ++ option_to_list (slice_get (channels_of_view v) i)
-none_added v i now e = grind (arith, channel_at_place v i, e, append-nil now)
+none_added v i now e =
+    grind (arith, slice_get-map keyed_of (fin.entries v.channels) i, e, append-nil now)
 
 -- ---- by place
 

@@ -1,25 +1,29 @@
--- The running fact goes on.
+-- The running fact goes on; and a network that is online has taken us in, so we have a nick there.
 use Rattle.hub_core.proofs.Words
-use Words.{[], append-nil, arith, Arrival, as_received, Bool, Came, Caps, content_said, Delivered}
-use Words.{EachFits, entry_for, EntryParts, false, filter_map, Fits, heard, HubState, IfSome}
-use Words.{is_message_command, is_online, is_some, IsSome, length-append, lines_sent, List}
-use Words.{lost_channels, map-append, Messages, None, Option, option_map, option_map_or}
-use Words.{option_to_list, OutletState, packet_for, packet_of, Parts, refl, Sends, SessionState}
-use Words.{Some, time_text_of, Took, true, View, view_now, view_of, with_entry, with_outlet, ℕ}
-use Words.{◌++◌, ◌<◌, ◌∙◌, ◌∷◌, ◌≡◌}
+use Words.{◌++◌, ◌<◌, ◌∙◌, ◌∷◌, ◌≡◌, Arrival, Bool, Came, Caps, Delivered, EachFits, EntryParts}
+use Words.{Fits, HubState, IfSome, IsSome, List, Lost, Messages, None, Option, OutletState, Parts}
+use Words.{Received, Sends, SessionState, Some, Text, Took, View, [], append-nil, arith}
+use Words.{as_received, content_said, entry_for, false, filter_map, heard, if◌then◌else◌}
+use Words.{is_message_command, is_online, length-append, lines_sent, lost_channels, map-append}
+use Words.{option_and_then, option_map, option_map_or, option_to_list, packet_for, packet_of, refl}
+use Words.{reverse, time_text_of, true, view_now, view_of, with_entry, with_outlet, ℕ}
 use Rattle.client_caps.{proofs.ImageLaw.agreement_stays, specs.Caps.held}
 use Rattle.history.specs.{Entry.IsWrittenEntry, Marks.NameMarks, Messages.missed_by}
 use Rattle.hub_core.proofs.{Each.{each_append, each_sent}, Kept.{adds_heard, adds_said}}
 use Rattle.hub_core.proofs.Kept.{entry_is_message, filter_more, missed_are_messages, numbered_start}
 use Rattle.hub_core.proofs.{Kept.{numbered_step, pong_unsaid, puts_unsaid}, LostChannels.no_loss}
-use Rattle.hub_core.specs.{Attaching.refusal_of, Given.with_caps, LostChannels.Joinings}
-use Rattle.hub_core.specs.{Online.says_online, Pumping.{Comes, Next, Takes}, Running.IsRunning}
+use Rattle.hub_core.specs.{Attaching.refusal_of, Given.with_caps, Online.{is_welcome, says_online}}
+use Rattle.hub_core.specs.{LostChannels.Joinings, Pumping.{Next, Takes}, Running.IsRunning}
 use Rattle.hub_core.specs.{Running.{content, content_heard, messages_of}, States.{less, started}}
-use Rattle.{hub_ends.specs.Came.arrivals, net_view.{proofs.StepLaw.view_start, specs.Agrees.Agrees}}
-use Rattle.{net_view.specs.{LookBack.last_in, View.empty_view}, std.proofs.Common.{cond, ◌^◌}}
-use Rattle.std.{proofs.lemmas.{Grind.flat_map-append, List.{take_all, take_at}}, specs.FinMap.empty}
-use Rattle.{std.specs.{Option.option_or, Prelude.IsTrue}, welcome.proofs.BurstLaw.burst_agrees}
-use Rattle.welcome.specs.Playback.{burst_of}
+use Rattle.{hub_ends.specs.Came.arrivals, irc_line.specs.Line.has_command}
+use Rattle.{irc_names.specs.Nick.is_nameable, net_view.proofs.Commands.told_of_welcome}
+use Rattle.{irc_support.specs.Tokens.Token, std.specs.{Option.option_or, Prelude.{IsTrue, codes}}}
+use Rattle.net_view.{proofs.{StepLaw.{view_start, view_step}, Tests.and_parts}, specs.Agrees.Agrees}
+use Rattle.net_view.specs.{LookBack.last_in, StateLines.{or_silent, told}, Step.after, Told.Renamed}
+use Rattle.net_view.specs.{Told.{Told, Welcomed}, Transcript.{Standing, own_after}, View.empty_view}
+use Rattle.std.proofs.{Common.◌^◌, lemmas.{Grind.flat_map-append, List.reverse-append}}
+use Rattle.std.{proofs.lemmas.List.{reverse-reverse, take_all, take_at}, specs.FinMap.empty}
+use Rattle.welcome.{proofs.BurstLaw.burst_agrees, specs.Playback.burst_of}
 
 -- ---- what was heard
 
@@ -28,13 +32,6 @@ less_none xs = grind (arith, take_all)
 
 pub less_some : (xs : List Came) (x y : Came) → less (xs ++ x ∷ []) (Some y) ≡ xs
 less_some xs x y = grind (arith, length-append xs (x ∷ []), take_at)
-
--- what was taken is what was heard, and then the item
-pub next_taken : (alone : Bool) (taken : List Came) (held : Option Came) (ahead : List Came)
-    (x : Came) (now later : List Came) → taken ≡ less taken held ++ option_to_list held
-    → now ≡ taken ++ cond (is_some held) [] (x ∷ []) → Comes alone held ahead x later
-    → now ≡ less taken held ++ x ∷ []
-next_taken alone taken held ahead x now later last e comes = grind (arith, append-nil)
 
 pub heard_more : (done : List Came) (x : Came) (now : List Came) → now ≡ done ++ x ∷ []
     → arrivals (less now None) ≡ arrivals done ++ x.0 ∷ []
@@ -63,8 +60,7 @@ lines_in None = []
 lines_in (Some lines) = lines
 
 pub in_packet : (lines : List Parts) → lines_in (packet_of lines) ≡ lines
-in_packet [] = refl
-in_packet (line ∷ lines) = refl
+in_packet lines = grind arith
 
 lines_more : (packets : List (List Parts)) (p : Option (List Parts))
     → lines_sent (packets ++ option_to_list p) ≡ lines_sent packets ++ lines_in p
@@ -109,9 +105,7 @@ online_more items x = grind (arith, last_more says_online)
 module _ {alone : Bool} {h h' : HubState} {v : View} {online : Bool} {lost : Joinings} (x : Came)
     (next : Next alone h x h') (run : IsRunning h v online lost) where
   now : h'.taken ≡ less h.taken h.held ++ x ∷ []
-  now =
-      next_taken alone h.taken h.held h.ahead x h'.taken h'.ahead run.held_last next.taken
-      next.ahead
+  now = grind (arith, append-nil, run.held_last, next.taken, next.ahead)
 
   -- it is held
   pub holds_on : (w : View) (lost' : Joinings) → w ≡ v → lost' ≡ lost → h'.held ≡ Some x
@@ -130,7 +124,7 @@ module _ {alone outlet : Bool} {h h' : HubState} {v : View} {online : Bool} {los
       (says_online t.item.0) online → lost' ≡ lost_channels (heard h ++ t.item.0 ∷ [])
       → IfSome (entry_for t.item) IsWrittenEntry → IsRunning h' w online' lost'
   goes_on w online' lost' view on left written =
-      let then : heard h' ≡ heard h ++ t.item.0 ∷ [] = grind (arith, taken, heard_more, t.held) in
+      let all : heard h' ≡ heard h ++ t.item.0 ∷ [] = grind (arith, taken, heard_more, t.held) in
       let quiet = puts_unsaid outlet _ _ _ (pong_unsaid t.item.0) t.upstream in
       let here = filter_map content_heard (less h.taken h.held) in
       let fits = each_fits_after outlet (heard h) t.item h.sessions h'.sessions in
@@ -139,9 +133,9 @@ module _ {alone outlet : Bool} {h h' : HubState} {v : View} {online : Bool} {los
       t.number (entry_is_message t.item) written run.numbered in
       record {
         held_last = grind (arith, t.held, append-nil, less_none);
-        view_is = rw then view;
-        online_is = grind (arith, then, on, run.online_is, online_more (heard h) t.item.0);
-        lost_is = rw then left;
+        view_is = rw all view;
+        online_is = grind (arith, all, on, run.online_is, online_more (heard h) t.item.0);
+        lost_is = rw all left;
         fit = rw view (fits (rw run.view_is at run.fit) t.sessions);
         numbered = let more = filter_more content_heard in
             grind (arith, t.held, less_none, taken, quiet, t.others, t.history, more, step);
@@ -190,3 +184,47 @@ said_on h v online ss upstream history images e p run k u c some is written fit 
     let adds = adds_said here (filter_map content_said h.upstream.sent) (option_map content e) in
     let step = numbered_step (messages_of h) _ h.first h.history e adds some is written in
     grind (arith, filter_more content_said, step)
+
+-- ---- our nick
+
+-- a line that takes us in tells our nick
+named : (o : Option Text) (s : Standing) → option_map_or is_nameable o false ≡ true
+    → IsSome (own_after (or_silent
+    (option_and_then (λ n. if is_nameable n then Some (Welcomed n) else None) o)) s)
+named o s e = grind arith
+
+-- who has a nick keeps one
+stays_named : (t : Told) (s : Standing) → IsSome s.own → IsSome (own_after t s)
+stays_named (Welcomed nick) s some = refl
+stays_named (Renamed old new) s some = grind (arith, some)
+stays_named _ s some = some
+
+owned_line : (settings : List Token) (s : Standing) (line : Parts) (old welcome : Bool)
+    → is_welcome line ≡ welcome → (old ≡ true → IsSome s.own)
+    → option_map_or (λ said. said) (if welcome then Some true else None) old ≡ true
+    → IsSome (own_after (told settings (Received line)) s)
+owned_line settings s line old true e before now =
+    let parts = and_parts (has_command line (codes "001")) in
+    grind (arith, parts, e, told_of_welcome settings line, named)
+owned_line settings s line old false e before now =
+    stays_named (told settings (Received line)) s (before now)
+
+owned_step : (v : View) (x : Arrival) (old : Bool) → (old ≡ true → IsSome v.own)
+    → option_map_or (λ said. said) (says_online x) old ≡ true → IsSome (after v x).own
+unfolding after
+owned_step v (Received line) old before now =
+    owned_line v.settings _ line old (is_welcome line) refl before now
+owned_step v Lost old before now = cc
+
+owned_back : (older : List Arrival) → is_online (reverse older) ≡ true
+    → IsSome (view_of (reverse older)).own
+owned_back [] e = cc
+owned_back (x ∷ older) e =
+    let turned : reverse (x ∷ older) ≡ reverse older ++ x ∷ [] = reverse-append (x ∷ []) older in
+    let step = owned_step (view_of (reverse older)) x (is_online (reverse older)) in
+    let online = online_more (reverse older) x in
+    grind (arith, turned, view_step (reverse older) x, step, owned_back older, online)
+
+-- we have a nick where we are online
+pub online_owned : (items : List Arrival) → is_online items ≡ true → IsSome (view_of items).own
+online_owned items e = rw reverse-reverse at (owned_back (reverse items) (rw reverse-reverse e))

@@ -1,9 +1,12 @@
--- What was made for sets of capabilities.
-use Rattle.hub_core.proofs.Words.{AllByRecursion, Bool, Caps, List, None, Option, Some, [], arith}
-use Rattle.hub_core.proofs.Words.{false, get_or, length, list_any, map, nat_tests, position, refl}
-use Rattle.hub_core.{proofs.Words.{true, ℕ, ◌++◌, ◌∷◌, ◌≡◌}, specs.Given.{more_sets, same_caps}}
-use Rattle.std.proofs.{Common.nat_lt, lemmas.List.Elements.All-from_recursion}
-use Rattle.std.{proofs.lemmas.List.Quantifiers.position-Some, specs.List.position_or_len}
+-- What was made for sets of capabilities, and what sessions are to be sent of it.
+use Rattle.hub_core.proofs.Words.{◌++◌, ◌+◌, ◌<◌, ◌∷◌, ◌≡◌, AllByRecursion, Bool, Caps, List, None}
+use Rattle.hub_core.proofs.Words.{Option, Parts, SessionState, Some, [], arith, get_or, is_some}
+use Rattle.hub_core.proofs.Words.{length, length-map, list_any, map, nat_tests, position, refl, set}
+use Rattle.hub_core.{proofs.Words.{take, true, ℕ}, specs.Given.{all_sets_but, more_sets, same_caps}}
+use Rattle.{hub_core.specs.Given.sets_but, std.proofs.Common.nat_lt}
+use Rattle.std.proofs.{SliceLists.all_by_recursion_push, lemmas.List.Quantifiers.position-Some}
+use Rattle.std.proofs.lemmas.List.{get_or-map, map-set, set-get_or, take_more, take_more_set}
+use Rattle.std.{proofs.lemmas.List.Elements.All-from_recursion, specs.List.position_or_len}
 
 -- ---- sets are compared one by one
 
@@ -19,16 +22,12 @@ same_is a b h = λ i. record {
 
 -- ---- a set that was found
 
-abbrev pub is_found : Option ℕ → Bool
-is_found None = false
-is_found (Some i) = true
-
 any_len : {X : Type 0} (p : X → Bool) (xs : List X)
     → list_any p xs ≡ nat_lt (position_or_len p xs) (length xs)
 any_len p [] = refl
 any_len p (x ∷ xs) = grind (arith, nat_tests, any_len p xs)
 
-pub is_there : {X : Type 0} (p : X → Bool) (xs : List X) → list_any p xs ≡ is_found (position p xs)
+pub is_there : {X : Type 0} (p : X → Bool) (xs : List X) → list_any p xs ≡ is_some (position p xs)
 is_there p xs = grind (arith, any_len p xs)
 
 module _ {M : Type 0} (caps : M → Caps) where
@@ -52,3 +51,31 @@ module _ {M : Type 0} (caps : M → Caps) where
       → AllByRecursion (λ x. P x (caps x)) ms
       → position (λ x. same_caps (caps x) set) ms ≡ Some i → m ≡ get_or ms i m → P m set
   found P set ms i m all e is = grind (arith, position-Some, same_is, All-from_recursion)
+
+-- ---- sessions, prepared one after the other
+
+sets_more : (except : Option ℕ) (sets : List Caps) (ss : List SessionState) (s : SessionState)
+    → all_sets_but except sets (ss ++ s ∷ []) ≡ sets_but except (all_sets_but except sets ss) s
+sets_more except sets [] s = refl
+sets_more except sets (r ∷ ss) s = grind (arith, sets_more except (sets_but except sets r) ss s)
+
+module _ {S : Type 0} (state : S → SessionState) (coming : S → Option (List Parts))
+    (give : SessionState → Option (List Parts)) (except : Option ℕ) where
+  -- the first i are prepared
+  pub record IsPrepared (olds now : List S) (sets : List Caps) (i : ℕ) : Type 0 where
+    pub states : map state now ≡ map state olds
+    pub coming_are : AllByRecursion (λ s. coming s ≡ give (state s)) (take i now)
+    pub sets_are : sets ≡ all_sets_but except [] (take i (map state now))
+
+  pub one_prepared : (olds now : List S) (sets more : List Caps) (i : ℕ) (s t : S) → i < length now
+      → s ≡ get_or now i s → state t ≡ state s → coming t ≡ give (state s)
+      → more ≡ sets_but except sets (state s) → IsPrepared olds now sets i
+      → IsPrepared olds (set now i t) more (i + 1)
+  one_prepared olds now sets more i s t less is same here new w =
+      let here' : get_or (map state now) i (state s) ≡ state s = grind (arith, get_or-map) in
+      let stays : map state (set now i t) ≡ map state now =
+      grind (arith, map-set, set-get_or, here') in
+      let on = take_more (map state now) i (state s) in
+      let push = all_by_recursion_push (λ x. coming x ≡ give (state x)) (take i now) t in
+      let long = length-map now state in
+      grind (arith, stays, take_more_set, push, w, same, here, on, here', long, sets_more, new)

@@ -1,9 +1,9 @@
 -- What sessions are sent of what others say, and of answers, tells them nothing of the network.
 use Rattle.hub_core.proofs.Words
-use Words.{AllByRecursion, arith, Bool, Came, Caps, Delivered, EachFits, entry_for, EntryParts}
-use Words.{false, Fits, given_but, IfSome, is_message, is_message_command, List, Messages, None}
-use Words.{Option, option_map, option_to_list, OutletState, packet_for, packet_of, Parts, Received}
-use Words.{Sends, SessionState, Text, true, View, with_entry, with_outlet, ℕ, ◌≡◌}
+use Words.{◌≡◌, AllByRecursion, Bool, Came, Caps, Delivered, EachFits, EntryParts, Fits, IfSome}
+use Words.{List, Messages, None, Option, OutletState, Parts, Received, Sends, SessionState, Text}
+use Words.{View, arith, entry_for, false, given_but, is_message, option_map, option_to_list}
+use Words.{packet_for, packet_of, true, with_entry, with_outlet, ℕ}
 use Rattle.client_caps.{proofs.ImageWritten.nick_written, specs.Images.image_of}
 use Rattle.{hub_core.proofs.{Each.each_sent, Running.fits_sent}, irc_line.specs.Writing.is_part}
 use Rattle.{irc_names.specs.Nick.is_nameable, net_view.proofs.Commands.no_state_line}
@@ -30,9 +30,6 @@ each_fits_unread alone v give ss ts quiet fit d =
 
 -- ---- messages
 
-message_unread : (line : Parts) → is_message line ≡ true → is_state_line line ≡ false
-message_unread line e = no_state_line line (grind (arith, e))
-
 image_unread : (v : View) (caps : Caps) (moment : Text) (line : Parts) → is_state_line line ≡ false
     → AllByRecursion IsUnread (lines_in (packet_of (option_to_list (image_of v caps moment line))))
 unfolding image_of
@@ -41,7 +38,7 @@ image_unread v caps moment line quiet = grind (arith, quiet)
 -- what the others are sent of a message of ours
 pub said_unread : (v : View) (line : Parts) (moment : ℕ) (caps : Caps) → is_message line ≡ true
     → AllByRecursion IsUnread (lines_in (packet_for v (Received line, moment) caps))
-said_unread v line moment caps e = grind (arith, image_unread, message_unread)
+said_unread v line moment caps e = grind (arith, image_unread, no_state_line)
 
 -- and so of all but one that is left out
 pub given_unread : (except : Option ℕ) (f : Caps → Option (List Parts))
@@ -51,12 +48,9 @@ given_unread except f quiet s = grind (arith, quiet s.caps)
 
 -- ---- items that a view may need memory for
 
-no_message : (line : Parts) → is_state_line line ≡ true → is_message_command line.command ≡ false
-no_message line need = grind (arith, no_state_line)
-
 -- a state line is no message
 pub no_entry : (x : Came) → may_need_memory x.0 ≡ true → entry_for x ≡ None
-no_entry x need = grind (arith, no_message)
+no_entry x need = grind (arith, no_state_line)
 
 -- so where a view may have refused an item, nothing was kept of it
 pub nothing_kept : (x : Came) (h k : Messages) (e : Option EntryParts) → may_need_memory x.0 ≡ true

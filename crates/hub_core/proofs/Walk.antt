@@ -1,16 +1,15 @@
 -- Walks over all sessions: from the last to the first, and one that learns how much room there is.
-use Rattle.hub_core.proofs.Words
-use Words.{[], AllByRecursion, ap, arith, Bool, Delivered, EachFits, get_or, inl, inr, length}
-use Words.{length-map, List, map, map-append, None, Option, Parts, refl, Sends}
-use Words.{SessionState, set, sym, take, View, with_outlet, ℕ, ◌++◌, ◌+◌, ◌-◌, ◌<◌, ◌∙◌, ◌∷◌, ◌≡◌}
-use Words.{append-nil, append_assoc, if◌then◌else◌, reverse}
-use Rattle.hub_core.{proofs.Running.fits_same, specs.{Given.Full, Upkeep.AreFreed}}
-use Rattle.{hub_core.specs.Upkeep.{is_nearly_full, nearly_full}, hub_ends.specs.Outlets.FindsRoom}
-use Rattle.std.proofs.{Common.{suc, zero}, Math.Seq.{get_or-append_seam, set-append_seam}}
-use Rattle.std.proofs.lemmas.{Grind.reverse_onto, List.Edits.remove-append_right}
-use Rattle.std.proofs.lemmas.List.{Elements.filter-append, get_or-map, length-reverse, map-set}
-use Rattle.std.proofs.lemmas.List.{nil_from_length, reverse-reverse, take_more_set}
-use Rattle.std.specs.List.{remove}
+use Rattle.hub_core.{proofs.Running.fits_same, specs.Upkeep.{AreFreed, is_nearly_full, nearly_full}}
+use Rattle.hub_core.proofs.Words.{◌++◌, ◌+◌, ◌-◌, ◌<◌, ◌∙◌, ◌∷◌, ◌≡◌, AllByRecursion, Bool}
+use Rattle.hub_core.proofs.Words.{Delivered, EachFits, List, None, Option, Parts, Sends}
+use Rattle.hub_core.proofs.Words.{SessionState, View, [], ap, append-nil, append_assoc, arith}
+use Rattle.hub_core.proofs.Words.{get_or, if◌then◌else◌, inl, inr, length, length-map, map}
+use Rattle.hub_core.proofs.Words.{map-append, refl, reverse, set, sym, take, with_outlet, ℕ}
+use Rattle.{hub_core.specs.Given.Full, hub_ends.specs.Outlets.FindsRoom, std.proofs.Common.suc}
+use Rattle.std.proofs.{Common.zero, Math.Seq.get_or-append_seam, lemmas.List.Elements.filter-append}
+use Rattle.std.proofs.{Math.Seq.set-append_seam, lemmas.{Grind.reverse_onto, List.get_or-map}}
+use Rattle.std.proofs.lemmas.List.{length-reverse, map-set, nil_from_length, reverse-reverse}
+use Rattle.std.{proofs.lemmas.List.{take_more_set, Edits.remove-append_right}, specs.List.remove}
 
 module _ {S : Type 0} (state : S → SessionState) (coming : S → Option (List Parts))
     (alone : Bool) where

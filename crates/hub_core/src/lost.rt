@@ -219,6 +219,7 @@ fn add(lost: &mut LostChannels, new: Vec<LostEntry>)
 }
 
 /// Takes channels off, or else adds these, for which there is room.
+#[tactic(auto, using(crate::proofs::LostChannels::put_in))]
 pub fn renew(lost: &mut LostChannels, settled: Settled<'_>, new: Option<Vec<LostEntry>>)
     requires room { IfSome new (λ channels. length channels.items ≤ lost.old.spare) }
     requires order { IfSome new (λ channels. T (fin.is_sorted bytes_cmp

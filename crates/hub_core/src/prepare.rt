@@ -45,6 +45,7 @@ fn coming_for<V: NetworkView, O: Outlet>(
 
 /// Makes what each session but one is to be sent of an item, once for each set of capabilities.
 /// Nothing is sent yet: after a refusal each session is as it was.
+#[tactic(auto, using(irc_line::proofs::Outcomes::not_ok))]
 fn prepare<V: NetworkView, O: Outlet>(
     incoming: &Incoming<'_, V>,
     sessions: &mut Vec<Session<O>>,

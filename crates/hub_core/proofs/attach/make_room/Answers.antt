@@ -1,9 +1,8 @@
 use Rattle.std.specs.FinMap as map
 use Rattle.hub_core.proofs.attach.make_room.Goals as goal
-use Rattle.{history.specs.Marks.{NameMarks, admitted, withdrawn}, hub_core.proofs.Words.Bool}
-use Rattle.hub_core.proofs.Words.{None, Option, Some, Text, arith, false, if◌then◌else◌, refl}
-use Rattle.hub_core.{proofs.Words.{rules, ◌≡◌}, specs.Attaching.{is_new_name, with_name}}
-use Rattle.{hub_core.specs.Attaching.without_name, net_view.proofs.AfterAlike.look_ups}
+use Rattle.{history.specs.Marks.NameMarks, hub_core.proofs.Words.{◌≡◌, Bool, None, Option, Text}}
+use Rattle.hub_core.{proofs.Words.{arith, false, if◌then◌else◌, rules}, specs.Attaching.is_new_name}
+use Rattle.{hub_core.specs.Attaching.{with_name, without_name}, net_view.proofs.AfterAlike.look_ups}
 use Rattle.net_view.proofs.{Keys.same_by_keys, Tests.none_of_is_some}
 
 -- what is put at a new name and removed again leaves no trace
@@ -11,14 +10,9 @@ removed_again : (m : NameMarks) (n : Text) → map.contains_key m n ≡ false
     → map.remove (map.insert m n None) n ≡ m
 removed_again m n new = same_by_keys (λ q. grind (look_ups, none_of_is_some (map.get m n) new))
 
-withdrawn_again : (m : NameMarks) (n : Text) → map.contains_key m n ≡ false
-    → withdrawn n (admitted n m) ≡ m
-withdrawn_again m n new = grind (look_ups, new, removed_again m n new)
-
 withdrawn_of : (name : Option Text) (m : NameMarks)
     → (if is_new_name name m then without_name name (with_name name m) else with_name name m) ≡ m
-withdrawn_of None m = refl
-withdrawn_of (Some n) m = grind (arith, withdrawn_again m n)
+withdrawn_of name m = grind (look_ups, removed_again m)
 
 -- a call that admits a name, and withdraws it where it was new, changes nothing
 taken_back : (name : Option Text) (old mid new : NameMarks) (is_new : Bool)

@@ -1,7 +1,6 @@
 use Rattle.hub_core.proofs.lost.add.Goals as goal
-use Rattle.hub_core.proofs.Words.{ap, arith, bytes_cmp, bytes_exact, joining, length}
-use Rattle.hub_core.proofs.Words.{nat_list_cmp_total}
-use Rattle.network_tables.proofs.ShownLemmas.{insert-shown}
+use Rattle.{hub_core.proofs.Words.{ap, arith}, network_tables.proofs.ShownLemmas.insert-shown}
+use Rattle.hub_core.proofs.Words.{bytes_cmp, bytes_exact, joining, length, nat_list_cmp_total}
 
 pub insert-requires : goal.insert-requires
 insert-requires c = omega (arith, ap length c.in-Some.ensures.steps.0, c.loop-channel.invariant.2)

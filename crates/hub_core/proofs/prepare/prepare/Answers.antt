@@ -1,8 +1,7 @@
 use Rattle.hub_core.proofs.prepare.prepare.Goals as goal
-use Rattle.hub_core.proofs.{Prepared.{one_more, same_place}, Words.{ap, arith, arrival_of}}
-use Rattle.hub_core.proofs.Words.{given_but, length, length-set, map, packet_for, refl, state_of}
-use Rattle.hub_core.{proofs.Words.{◌<◌, ◌∙◌}, specs.Given.sets_but}
-use Rattle.irc_line.proofs.Outcomes.{not_ok}
+use Rattle.hub_core.proofs.{Sets.one_prepared, Splits.there, Words.{◌<◌, ◌∙◌, ap, arith}}
+use Rattle.hub_core.proofs.Words.{arrival_of, given_but, length, length-set, map, packet_for, refl}
+use Rattle.hub_core.{proofs.Words.state_of, specs.Given.sets_but}
 
 pub loop-i-preserved : goal.loop-i-preserved
 loop-i-preserved g c =
@@ -13,10 +12,10 @@ loop-i-preserved g c =
     let less : c.loop-i.i < length c.loop-i.sessions.items =
     (let a = c.loop-i-test.true in let b = c.len-i-end.ensures in
     let d = c.loop-i.invariant.long in omega arith) in
-    let same = same_place c.loop-i.sessions.items c.loop-i.i c.index.result.now
-    c.index_mut.result.now less c.index.ensures c.index_mut.ensures.value in
+    let same = c.index.ensures ∙ there c.loop-i.sessions.items c.loop-i.i c.index.result.now
+    c.index_mut.result.now less c.index_mut.ensures.value in
     record {
-      prepared = one_more state (λ s. s.coming) give c.args.except _ c.loop-i.sessions.items
+      prepared = one_prepared state (λ s. s.coming) give c.args.except _ c.loop-i.sessions.items
           (map (λ m. m.caps) c.loop-i.made.items) _ c.loop-i.i c.index_mut.result.now _ less
           c.index_mut.ensures.value refl
           (c.in_ok-coming.ensures.packet ∙ ap (λ s. give (state s)) same)
@@ -29,9 +28,3 @@ loop-i-preserved g c =
 
 pub returns-in_err-coming-clause-states : goal.returns-in_err-coming-clause-states
 returns-in_err-coming-clause-states g c = c.loop-i.invariant.prepared.states
-
-pub returns-in_err-coming-clause-coming : goal.returns-in_err-coming-clause-coming
-returns-in_err-coming-clause-coming g c = not_ok _ c.from_residual.result c.from_residual.ensures.0
-
-pub returns-in_err-coming-clause-sets : goal.returns-in_err-coming-clause-sets
-returns-in_err-coming-clause-sets g c = not_ok _ c.from_residual.result c.from_residual.ensures.0

@@ -1,6 +1,6 @@
 use Rattle.hub_core.proofs.prepare.prepare.Given as goal
-use Rattle.hub_core.proofs.{Prepared.IsPrepared, Words.{AllByRecursion, arrival_of, given_but}}
-use Rattle.hub_core.proofs.Words.{length, map, packet_for, state_of, ◌≡◌}
+use Rattle.hub_core.proofs.{Sets.IsPrepared, Words.{◌≡◌, AllByRecursion, arrival_of, given_but}}
+use Rattle.hub_core.proofs.Words.{length, map, packet_for, state_of}
 
 abbrev pub invariant-loop-i : goal.invariant-loop-i
 invariant-loop-i g l = record {

@@ -1,5 +1,5 @@
 use Rattle.hub_runs.proofs.apply.apply.Goals as goal
-use Rattle.{hub_runs.proofs.Words.refl, std.proofs.lemmas.Result.IfErr-weaker}
+use Rattle.std.proofs.{Common.refl, lemmas.Result.IfErr-weaker}
 
 pub returns-in-Up-clause-ok : goal.returns-in-Up-clause-ok
 returns-in-Up-clause-ok g c = rw c.in-Up.is (c.up.ensures.ok _)

@@ -1,6 +1,6 @@
 use Rattle.hub_runs.specs.declared.event.Event.TheVariants as on
 use Rattle.hub_runs.proofs.apply.lose.Goals as goal
-use Rattle.hub_runs.proofs.{LinesCame.{refuses_one, stops_among}, Words.{Lost, [], refl}}
+use Rattle.hub_runs.proofs.Course.{Lost, [], refl, refuses_one, stops_among}
 use Rattle.hub_runs.specs.Worlds.{world_of}
 
 pub returns-in-Err-clause-err : goal.returns-in-Err-clause-err

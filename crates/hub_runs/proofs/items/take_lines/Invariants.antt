@@ -1,6 +1,7 @@
 use Rattle.hub_runs.proofs.items.take_lines.Given as goal
-use Rattle.hub_runs.proofs.Words.{Received, TakesAll, length, map, vec_capacity, vec_len, ◌++◌, ◌+◌}
-use Rattle.{hub_runs.proofs.Words.{◌≡◌, ◌≤◌}, std.specs.Vec.Iter.{DrainKeeps, drain_items}}
+use Rattle.{hub_runs.specs.Worlds.TakesAll, net_view.specs.Arrival.Received}
+use Rattle.std.proofs.Common.{◌++◌, ◌+◌, ◌≡◌, ◌≤◌, length, map, vec_capacity, vec_len}
+use Rattle.std.specs.Vec.Iter.{DrainKeeps, drain_items}
 
 abbrev pub invariant-loop-line : goal.invariant-loop-line
 invariant-loop-line g l = (goal.iterator-loop-line g).can_next l.line-iterator

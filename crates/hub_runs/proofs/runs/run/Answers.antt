@@ -1,7 +1,7 @@
 use Rattle.hub_runs.proofs.runs.run.Goals as goal
-use Rattle.hub_runs.proofs.{Course.{happen_more, ran_part, ran_whole, stands}, Words.{ap, arith}}
-use Rattle.hub_runs.proofs.Words.{length, outlets_of, refl, vec_capacity, vec_len, ◌+◌, ◌<◌, ◌∙◌}
-use Rattle.{hub_runs.proofs.Words.◌≡◌, std.proofs.{Common.rules, lemmas.List.take_more}}
+use Rattle.hub_runs.proofs.Course.{◌+◌, ◌<◌, ◌∙◌, ◌≡◌, ap, arith, happen_more, length, ran_part}
+use Rattle.hub_runs.{proofs.Course.{ran_whole, refl, stands}, specs.Worlds.outlets_of}
+use Rattle.std.proofs.{Common.{rules, vec_capacity, vec_len}, lemmas.List.take_more}
 
 pub loop-event-init : goal.loop-event-init
 loop-event-init g c =

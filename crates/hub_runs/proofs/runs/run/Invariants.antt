@@ -1,6 +1,6 @@
 use Rattle.hub_runs.proofs.runs.run.Given as goal
-use Rattle.hub_runs.proofs.Words.{length, outlets_of, vec_capacity, vec_len, ◌+◌, ◌≡◌, ◌≤◌}
-use Rattle.{hub_runs.specs.Worlds.{AllHappen, beginning, world_of}, std.proofs.Common.take}
+use Rattle.hub_runs.specs.Worlds.{AllHappen, beginning, outlets_of, world_of}
+use Rattle.std.proofs.Common.{◌+◌, ◌≡◌, ◌≤◌, length, take, vec_capacity, vec_len}
 
 abbrev pub invariant-loop-event : goal.invariant-loop-event
 invariant-loop-event g l = record {

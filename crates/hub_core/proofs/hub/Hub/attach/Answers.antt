@@ -1,12 +1,11 @@
 use Rattle.hub_core.proofs.hub.Hub.attach.Goals as goal
 use Rattle.hub_core.proofs.hub.Hub.attach.Given
 use Rattle.{history.specs.Marks.mark_of, hub_core.proofs.FoundRoom.found_took}
-use Rattle.hub_core.proofs.{Running.{attached_fits, is_ready, runs_with}, Words.EachFits}
-use Rattle.hub_core.proofs.Words.{HubState, None, Option, Session, SessionState, Some, Text, Took}
-use Rattle.hub_core.proofs.Words.{[], hub_of, map, map-append, option_and_then, option_map, refl}
-use Rattle.hub_core.proofs.Words.{state_of, view_now, ◌++◌, ◌∙◌, ◌∷◌, ◌≡◌}
-use Rattle.hub_core.specs.Attaching.{Attaches, missed, refusal_of}
-use Rattle.welcome.specs.Playback.{burst_of}
+use Rattle.hub_core.proofs.{Running.{attached_fits, is_ready, runs_with}, Words.{◌++◌, ◌∙◌, ◌∷◌}}
+use Rattle.hub_core.proofs.Words.{◌≡◌, EachFits, HubState, None, Option, Session, SessionState}
+use Rattle.hub_core.proofs.Words.{Some, Text, Took, [], hub_of, map, map-append, option_and_then}
+use Rattle.hub_core.{proofs.Words.{option_map, refl, state_of, view_now}, specs.Attaching.Attaches}
+use Rattle.{hub_core.specs.Attaching.{missed, refusal_of}, welcome.specs.Playback.burst_of}
 
 module _ (g : Given.Over) (c : goal.After-push_reserved g) where
   abbrev state : Session g.row.O.Denot → SessionState

@@ -1,9 +1,8 @@
 use Rattle.hub_core.proofs.hub.Hub.detach.Goals as goal
 use Rattle.hub_core.proofs.hub.Hub.detach.Given
-use Rattle.hub_core.proofs.{Each.{each_at, each_without}, Running.runs_with, Splits.around_of}
-use Rattle.hub_core.proofs.{Splits.lacks, Words.{Around, Fits, HubState, ap, hub_of, map}}
-use Rattle.hub_core.proofs.Words.{map-append, refl, state_of, ◌++◌, ◌∙◌, ◌≡◌}
-use Rattle.hub_core.specs.Attaching.{Detaches, marked}
+use Rattle.hub_core.{proofs.Each.{each_at, each_without}, specs.Attaching.{Detaches, marked}}
+use Rattle.hub_core.proofs.{Running.runs_with, Splits.{around_of, lacks}, Words.{◌∙◌, ◌≡◌, ap, map}}
+use Rattle.hub_core.proofs.Words.{◌++◌, Around, Fits, HubState, hub_of, map-append, refl, state_of}
 
 pub returns-in_default-clause-err : goal.returns-in_default-clause-err
 returns-in_default-clause-err g c =

@@ -1,14 +1,13 @@
 use Rattle.hub_core.proofs.hub.Hub.pump.Goals as goal
 use Rattle.hub_core.proofs.hub.Hub.pump.Given
-use Rattle.hub_core.proofs.{LostChannels.{lost_are, settled_as, sorted_new}, Prepared.map_length}
-use Rattle.hub_core.proofs.{Running.{goes_on, holds_on}, Unread.{no_entry, nothing_kept}}
-use Rattle.hub_core.proofs.Words.{Came, Delivered, HubState, IsSome, None, Some, [], ap, given_but}
-use Rattle.hub_core.proofs.Words.{heard, hub_of, joining, lost_channels, map, option_map}
-use Rattle.hub_core.proofs.Words.{packet_for, refl, shown, state_of, subst, sym, true, view_of}
-use Rattle.hub_core.{proofs.Words.{◌++◌, ◌∙◌, ◌∷◌, ◌≡◌}, specs.LostChannels.is_settled}
-use Rattle.{hub_core.specs.Pumping.Takes, hub_ends.specs.Came.came}
-use Rattle.net_view.{proofs.StepLaw.view_unchanged, specs.StateLines.may_need_memory}
-use Rattle.std.proofs.lemmas.Bool.{true_from_ne_false}
+use Rattle.hub_core.proofs.{LostChannels.{lost_are, settled_as, sorted_new}, Running.goes_on}
+use Rattle.hub_core.proofs.{Running.holds_on, Unread.{no_entry, nothing_kept}, Words.{◌++◌, ◌∙◌}}
+use Rattle.hub_core.proofs.Words.{◌∷◌, ◌≡◌, Came, Delivered, HubState, IsSome, None, Some, [], ap}
+use Rattle.hub_core.proofs.Words.{given_but, heard, hub_of, joining, length-map, lost_channels, map}
+use Rattle.hub_core.proofs.Words.{option_map, packet_for, refl, shown, state_of, subst, sym, true}
+use Rattle.hub_core.{proofs.Words.view_of, specs.{LostChannels.is_settled, Pumping.Takes}}
+use Rattle.{hub_ends.specs.Came.came, net_view.proofs.StepLaw.view_unchanged}
+use Rattle.{net_view.specs.StateLines.may_need_memory, std.proofs.lemmas.Bool.true_from_ne_false}
 
 pub invariant_of-self-in-Err : goal.invariant_of-self-in-Err
 invariant_of-self-in-Err g c = (
@@ -119,12 +118,12 @@ module _ (g : Given.Over) (c : goal.Joined-item g) where
     comes = record { taken = c.in-Some.ensures.taken; ahead = c.in-Some.ensures.ahead };
     held = ap (option_map came) c.in-Some.ensures.held;
     sessions = delivered;
-    left = rw (map_length, ← c.prepare_arrival.ensures.states, map_length)
+    left = rw (length-map, ← c.prepare_arrival.ensures.states, length-map)
         c.deliver-cut.ensures.count;
     upstream = rw c.in-Ok.ensures.made.1 at c.put.ensures;
     history = rw (← c.in-Ok.ensures.made.0) c.in_default-keep.ensures.ok;
     number = λ some. c.in-Ok.ensures.numbered (rw c.in-Ok.ensures.made.0 some);
-    images = rw (← c.in-Ok.ensures.sets, map_length) (rw c.images_of.ensures at
+    images = rw (← c.in-Ok.ensures.sets, length-map) (rw c.images_of.ensures at
         c.saturating_add-self-inside.ensures);
     others = refl;
   }

@@ -1,13 +1,12 @@
 use Rattle.hub_core.proofs.hub.Hub.spread.Goals as goal
 use Rattle.hub_core.proofs.hub.Hub.spread.Given
-use Rattle.hub_core.proofs.{Kept.{entry_is_message, said_content}, Prepared.map_length}
-use Rattle.hub_core.proofs.{Running.said_on, Taken.online_owned, Unread.each_fits_unread}
-use Rattle.hub_core.proofs.{Unread.{given_unread, said_unread}, Words.{Came, Delivered, Forwards}}
-use Rattle.hub_core.proofs.Words.{HubState, IsSome, Parts, Received, Session, SessionState, Some}
-use Rattle.hub_core.proofs.Words.{View, [], entry_for, given_but, heard, hub_of, map, packet_for}
-use Rattle.hub_core.proofs.Words.{refl, state_of, sym, time_text_of, view_now, with_entry, ◌∷◌, ◌≡◌}
-use Rattle.{hub_core.specs.Saying.{own_line, own_message, sent_up}, irc_line.specs.Tags.time_of}
-use Rattle.std.proofs.Common.{unwrap_or}
+use Rattle.hub_core.proofs.{Kept.{entry_is_message, said_content}, Running.{online_owned, said_on}}
+use Rattle.hub_core.proofs.{Unread.{each_fits_unread, given_unread, said_unread}, Words.{◌∷◌, ◌≡◌}}
+use Rattle.hub_core.proofs.Words.{Came, Delivered, Forwards, HubState, IsSome, Parts, Received}
+use Rattle.hub_core.proofs.Words.{Session, SessionState, Some, View, [], entry_for, given_but}
+use Rattle.hub_core.proofs.Words.{heard, hub_of, length-map, map, packet_for, refl, state_of, sym}
+use Rattle.{hub_core.proofs.Words.{time_text_of, view_now, with_entry}, irc_line.specs.Tags.time_of}
+use Rattle.{hub_core.specs.Saying.{own_line, own_message, sent_up}, std.proofs.Common.unwrap_or}
 
 module _ (g : Given.Over) (c : goal.Joined-own-3 g) where
   abbrev state : Session g.row.O.Denot → SessionState
@@ -56,7 +55,7 @@ module _ (g : Given.Over) (c : goal.Joined-own-3 g) where
     sessions = rw own_said (delivered (view_now old) (sym c.self.invariant.0.view_is));
     history = rw own_said kept;
     number = λ message. rw (← c.self.view_is) at c.requires.number;
-    images = rw (own_said, ← c.in_ok-entry.ensures.sets, map_length) (rw c.images_of.ensures at
+    images = rw (own_said, ← c.in_ok-entry.ensures.sets, length-map) (rw c.images_of.ensures at
         c.saturating_add-self-inside.ensures);
     others = refl;
   }

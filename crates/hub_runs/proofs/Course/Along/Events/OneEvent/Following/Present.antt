@@ -1,30 +1,18 @@
 -- Who is there, with what each was sent and what waits for it, once one thing more has happened.
-use Rattle.{history.specs.Messages.{number_after, numbered}, hub_core.proofs.Each.each_append}
-use Rattle.hub_core.{proofs.Running.sent_is, specs.{Attaching.Lacks, Given.{Delivered, Full}}}
-use Rattle.{hub_core.specs.Given.{Sends, with_caps}, hub_ends.specs.Outlets.Took as TookPacket}
-use Rattle.hub_runs.proofs.{HoldingLaw.Tells, Marked.starts, Words.{AllByRecursion, AreKnown}}
-use Rattle.hub_runs.proofs.Words.{Around, Asked, Bool, Caps, Deed, Drained, Drew, HubState, Joined}
-use Rattle.hub_runs.proofs.Words.{Left, Limits, List, None, Option, OutletState, Parts}
-use Rattle.hub_runs.proofs.Words.{SessionState, Some, Spoke, Text, Took, [], append-nil, arith}
-use Rattle.hub_runs.proofs.Words.{attached, false, heard_back, is_some, length, map-append}
-use Rattle.hub_runs.proofs.Words.{names_then, nat_tests, new_outlet, option_and_then}
-use Rattle.hub_runs.proofs.Words.{option_to_list, outlet_then, packets, refl, reverse, session_then}
-use Rattle.hub_runs.proofs.Words.{true, ℕ, ◌&&◌, ◌++◌, ◌+◌, ◌-◌, ◌<◌, ◌==◌, ◌∷◌, ◌≡◌, ◌≤◌}
-use Rattle.hub_runs.specs.{Course.{IsSent, held_since}, Presence.{is_there, next_then, numbers_in}}
-use Rattle.{hub_runs.specs.Presence.{put_in, there}, net_view.specs.Table.same_arms}
-use Rattle.std.proofs.{Common.filter, lemmas.List.Folds.list_any-append}
-use Rattle.std.{proofs.lemmas.Map.Views.any-filter_same, specs.List.list_any}
-use Rattle.welcome.proofs.EachOf.{each_back, each_front, each_kept}
-pub use Rattle.hub_core.proofs.Kept.{all_map as all_weaker}
-
-pub numbered_is : (n id : ℕ) → numbered n ≡ Some id → n ≡ id
-numbered_is n id e = grind (arith, nat_tests)
-
-pub differ : (a b : ℕ) → (b ≡ a → ⊥) → (a == b) ≡ false
-differ a b other = grind (arith, nat_tests)
-
-pub is_itself : (a b : ℕ) → b ≡ a → (a == b) ≡ true
-is_itself a b same = grind (arith, nat_tests)
+pub mod Marked
+unfoldable pub use Marked.*
+pub use Rattle.hub_core.specs.declared.said.Meant.TheVariants as means
+pub use Rattle.history.{proofs.LastMessages.none, specs.Messages.number_after}
+pub use Rattle.hub_core.proofs.{Each.each_append, Kept.all_map, Running.sent_is}
+pub use Rattle.hub_core.specs.{Attaching.Lacks, Given.{Delivered, Full, Sends, with_caps}}
+pub use Rattle.{hub_core.specs.Saying.{Around, meaning}, hub_ends.specs.Outlets.new_outlet}
+pub use Rattle.hub_runs.specs.Course.{Asked, Drew, IsSent, Left, Spoke, heard_back, held_since}
+pub use Rattle.hub_runs.specs.Presence.{attached, is_there, next_then, numbers_in, outlet_then}
+pub use Rattle.hub_runs.specs.{Presence.{put_in, there}, Replies.Limits}
+pub use Rattle.{net_view.specs.Table.same_arms, std.proofs.Common.{◌<◌, ◌⊎◌, filter}}
+pub use Rattle.std.proofs.{Common.{option_and_then, reverse}, lemmas.Bool.eqb-true}
+pub use Rattle.std.{proofs.lemmas.Map.Views.any-filter_same, specs.List.list_any}
+pub use Rattle.welcome.proofs.EachOf.{each_back, each_front, each_kept}
 
 -- they rise, each below a bound
 abbrev pub Rise : ℕ → List ℕ → Type 0
@@ -64,7 +52,7 @@ abbrev pub Misses : Deed → ℕ → Type 0
 Misses (Took x) id = ⊥
 Misses (Spoke k line moment) id = ⊥
 Misses (Drained count) id = Unit {0}
-Misses (Asked k line) id = (k == id) ≡ false
+Misses (Asked k line) id = ((k == id) ≡ false) ⊎ (meaning line ≡ means.Nothing)
 Misses (Joined k name caps size) id = (k == id) ≡ false
 Misses (Left k) id = (k == id) ≡ false
 Misses (Drew k count) id = (k == id) ≡ false
@@ -74,10 +62,6 @@ put_on : (p : Option (List Parts)) (o o' : OutletState) → Sends true o p o' �
     (put_in p (o.capacity, o.capacity - o.free) ≡ Some (o'.capacity, o'.capacity - o'.free)) ×
     (o'.free ≤ o'.capacity) × (o'.closed ≡ None)
 put_on p o o' sends room still = grind (arith, nat_tests)
-
-put_off : (p : Option (List Parts)) (o : OutletState) → Full o p
-    → put_in p (o.capacity, o.capacity - o.free) ≡ None
-put_off p o full = grind (arith, nat_tests)
 
 -- the packets of the session of a number, its outlet, and its name and capabilities
 abbrev pub Story : Type 0
@@ -128,6 +112,14 @@ module _ (l : Limits) where
   goes_at ds (r ∷ front) s o back before behind here =
       grind (arith, goes_more, goes_at ds front s o back)
 
+  -- who is there, which names are known, and which number comes next, is as what happened says
+  pub record Seated (ds : List Deed) (h : HubState) : Type 0 where
+    pub sit : Sit ds h.sessions
+    pub who : numbers_in h.sessions ≡ there ds
+    pub rise : Rise (l.first_session + attached ds) (there ds)
+    pub known : AreKnown (names_then ds) h.marks
+    pub next : h.next ≡ next_then l.first_session ds
+
   module _ (d : Deed) (ds : List Deed) where
     -- a session is given a packet, or nothing, and then holds these capabilities
     pub record Gets (s : SessionState) (p : Option (List Parts)) (caps : Caps) : Type 0 where
@@ -147,7 +139,7 @@ module _ (l : Limits) where
     -- there was no room for it
     pub cut_off : (s : SessionState) (p : Option (List Parts)) (caps : Caps) → Gets s p caps
         → Sits ds s → Full s.outlet p → outlet_then s.id (d ∷ ds) ≡ None
-    cut_off s p caps g k full = grind (arith, put_off, g.alike, k.outlet)
+    cut_off s p caps g k full = grind (arith, nat_tests, g.alike, k.outlet)
 
     pub goes_delivered : (give : SessionState → Option (List Parts))
         → ((s : SessionState) → Sits ds s → Gets s (give s) s.caps)
@@ -156,45 +148,40 @@ module _ (l : Limits) where
     goes_delivered give gets (s ∷ ss) ts sit del =
         grind (arith, gets s, sits_on, cut_off, goes_more, goes_gone, goes_delivered give gets ss)
 
-  pub sits_still : (d : Deed) (ds : List Deed) (s : SessionState) → Misses d s.id → Sits ds s
-      → Sits (d ∷ ds) s
-  sits_still d ds s other k = sits_on d ds s None s.caps s.outlet (none d other) k refl where
-    none : (d : Deed) → Misses d s.id → Gets d ds s None s.caps
-    none (Took x) other = absurd other
-    none (Spoke n line moment) other = absurd other
-    none d other = grind (arith, other, k.is_sent, k.outlet, append-nil)
+    pub sits_still : (s : SessionState) → Misses d s.id → Sits ds s → Sits (d ∷ ds) s
+    sits_still s other k =
+        let gets : Gets s None s.caps =
+        grind (arith, other, k.is_sent, k.outlet, append-nil, since_stays) in
+        sits_on s None s.caps s.outlet gets k refl
 
-  pub sit_still : (d : Deed) (ds : List Deed) (id : ℕ) → ((n : ℕ) → (id == n) ≡ false → Misses d n)
-      → (ss : List SessionState) → Lacks id ss → Sit ds ss → Sit (d ∷ ds) ss
-  sit_still d ds id other [] lacks sit = tt
-  sit_still d ds id other (s ∷ ss) lacks sit =
-      grind (arith, differ, sits_still d ds s, other s.id, sit_still d ds id other ss)
+    pub sit_still : (id : ℕ) → ((n : ℕ) → (id == n) ≡ false → Misses d n)
+        → (ss : List SessionState) → Lacks id ss → Sit ds ss → Sit (d ∷ ds) ss
+    sit_still id other [] lacks sit = tt
+    sit_still id other (s ∷ ss) lacks sit =
+        grind (arith, nat_tests, sits_still s, other s.id, sit_still id other ss)
 
-  -- the session of a number is another one now, or is gone
-  pub goes_around : (d : Deed) (ds : List Deed) (h : HubState) (id b : ℕ) (a : Around h id)
-      (o : Option SessionState) → ((n : ℕ) → (id == n) ≡ false → Misses d n) → Sit ds h.sessions
-      → Rise b (numbers_in h.sessions) → Becomes (d ∷ ds) a.here o
-      → Goes (d ∷ ds) h.sessions (a.front ++ (option_to_list o ++ a.back))
-  goes_around d ds h id b a o other sit rise here =
-      let lacks = lacks_behind b a.front a.here a.back in
-      let before = each_front (Sits ds) a.front (a.here ∷ a.back) in
-      let behind = each_back (Sits ds) a.front (a.here ∷ a.back) in
-      let at = goes_at (d ∷ ds) a.front a.here o a.back in
-      grind (arith, lacks, before, behind, at, sit_still d ds id other, a.was, a.number, a.first)
+    -- nothing changes at any session
+    pub all_still : ((n : ℕ) → Misses d n) → (ss : List SessionState) → Sit ds ss
+        → Goes (d ∷ ds) ss ss
+    all_still misses ss sit =
+        goes_still (d ∷ ds) ss (all_map (Sits ds) _ (λ s. sits_still s (misses s.id)) ss sit)
 
-  -- who is there, which names are known, and which number comes next, is as what happened says
-  pub record Seated (ds : List Deed) (h : HubState) : Type 0 where
-    pub sit : Sit ds h.sessions
-    pub who : numbers_in h.sessions ≡ there ds
-    pub rise : Rise (l.first_session + attached ds) (there ds)
-    pub known : AreKnown (names_then ds) h.marks
-    pub next : h.next ≡ next_then l.first_session ds
+    -- the session of a number is another one now, or is gone
+    pub goes_around : (h : HubState) (id : ℕ) (a : Around h id) (o : Option SessionState)
+        → ((n : ℕ) → (id == n) ≡ false → Misses d n) → Seated ds h → Becomes (d ∷ ds) a.here o
+        → Goes (d ∷ ds) h.sessions (a.front ++ (option_to_list o ++ a.back))
+    goes_around h id a o other k here =
+        let lacks = lacks_behind (l.first_session + attached ds) a.front a.here a.back in
+        let front = each_front (Sits ds) a.front (a.here ∷ a.back) in
+        let back = each_back (Sits ds) a.front (a.here ∷ a.back) in
+        let at = goes_at (d ∷ ds) a.front a.here o a.back in
+        let still = sit_still id other in
+        grind (arith, lacks, front, back, at, still, a.was, a.number, a.first, k.sit, k.who, k.rise)
 
-  pub seated_on : (d : Deed) (ds : List Deed) (h new : HubState) → Seated ds h → Stay d ds
-      → new.next ≡ h.next → AreKnown (names_then ds) new.marks
-      → Goes (d ∷ ds) h.sessions new.sessions → Seated (d ∷ ds) new
-  seated_on d ds h new k stay next known g =
-      grind (arith, rise_filter, k.sit, k.who, k.rise, k.next)
+    pub seated_on : (h new : HubState) → Seated ds h → Stay d ds → new.next ≡ h.next
+        → AreKnown (names_then ds) new.marks → Goes (d ∷ ds) h.sessions new.sessions
+        → Seated (d ∷ ds) new
+    seated_on h new k stay next known g = grind (arith, rise_filter, k.sit, k.who, k.rise, k.next)
 
   -- a client attached
   pub seated_joined : (ds : List Deed) (h new : HubState) (s : SessionState) (size : ℕ)
@@ -207,45 +194,26 @@ module _ (l : Limits) where
       → Seated (Joined s.id s.name s.caps size ∷ ds) new
   seated_joined ds h new s size packet k number t sent tells are next known =
       let d = Joined s.id s.name s.caps size in
-      let id : l.first_session + attached ds ≡ s.id = grind (arith, numbered_is, k.next, number) in
-      let here : Sits (d ∷ ds) s = grind (arith, is_itself s.id s.id, t, sent, tells) in
+      let id : l.first_session + attached ds ≡ s.id = grind (arith, nat_tests, k.next, number) in
+      let here : Sits (d ∷ ds) s = grind (arith, nat_tests, t, sent, tells) in
       let rise : Rise s.id (there ds) = rw id at k.rise in
       let still = sit_still d ds s.id (λ n other. other) h.sessions in
       let all = each_append (Sits (d ∷ ds)) h.sessions (s ∷ []) in
       let more = rise_more s.id in
       grind (arith, id, here, still, all, rise, more, lacks_below, map-append, k, are, next, known)
 
--- who was not there is not there now, unless it attached by this
-was_none : (id : ℕ) (d : Deed) (ds : List Deed) → starts id d ≡ false → outlet_then id ds ≡ None
-    → outlet_then id (d ∷ ds) ≡ None
-was_none id (Joined k name caps size) ds other e = rw other e
-was_none id (Left k) ds other e = simp (e, same_arms)
-was_none id d ds other e = simp e
-
-one_of_both : {A : Type 0} (b c : Bool) (o o' : Option A) → (b && c) ≡ false → is_some o' ≡ b
-    → (c ≡ false → o ≡ None) → (o ≡ None → o' ≡ None) → o' ≡ None
-one_of_both b c o o' both is old new = grind arith
-
-filtered : (id : ℕ) (p : ℕ → Bool) (ns : List ℕ)
-    → list_any (λ k. k == id) (filter p ns) ≡ (p id && list_any (λ k. k == id) ns)
-filtered id p ns =
-    any-filter_same (λ k. k == id) p (p id) (λ k same. grind (arith, nat_tests)) ns
-
-absent : (id : ℕ) (ds : List Deed) → list_any (λ k. k == id) (there ds) ≡ false
+-- where no session has the number, it isn't there
+pub absent : (id : ℕ) (ds : List Deed) → list_any (λ k. k == id) (there ds) ≡ false
     → outlet_then id ds ≡ None
 absent id [] e = refl
 absent id (Joined k name caps size ∷ ds) e =
     grind (arith, list_any-append (λ n. n == id) (there ds) (k ∷ []), absent id ds)
 absent id (d ∷ ds) e =
-    let kept = filtered id (λ n. is_there n (d ∷ ds)) (there ds) in
-    grind (arith, kept, absent id ds, was_none id d ds)
+    let p = λ (n : ℕ). is_there n (d ∷ ds) in
+    let kept = any-filter_same (λ k. k == id) p (p id) (λ k same. ap p (eqb-true k id same)) in
+    grind (arith, kept (there ds), absent id ds, same_arms)
 
-none_of : (id : ℕ) (ss : List SessionState) → Lacks id ss
+pub none_of : (id : ℕ) (ss : List SessionState) → Lacks id ss
     → list_any (λ k. k == id) (numbers_in ss) ≡ false
 none_of id [] lacks = refl
-none_of id (s ∷ ss) lacks = grind (arith, differ, none_of id ss)
-
--- where no session has the number, it isn't there
-pub lacks_none : (id : ℕ) (ds : List Deed) (ss : List SessionState) → numbers_in ss ≡ there ds
-    → Lacks id ss → outlet_then id ds ≡ None
-lacks_none id ds ss who lacks = grind (arith, absent, none_of)
+none_of id (s ∷ ss) lacks = grind (arith, nat_tests, none_of id ss)

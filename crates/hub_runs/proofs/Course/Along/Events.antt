@@ -1,13 +1,15 @@
 -- What an event does: it is answered what happened before it says, and the hub is as that says.
 pub mod OneEvent
 pub use OneEvent.*
-use Rattle.hub_runs.proofs.Words
-use Rattle.hub_core.specs.declared.attach.AttachError.TheVariants as refused
-use Rattle.hub_core.specs.declared.hub.HubError.TheVariants as fault
-use Rattle.hub_core.specs.declared.said.Meant.TheVariants as means
-use Rattle.hub_core.specs.declared.said.Said.TheVariants as said
-use Rattle.hub_runs.specs.declared.event.Event.TheVariants as on
-use Rattle.hub_runs.specs.declared.outcome.Reply.TheVariants as reply
+pub use Rattle.hub_runs.specs.declared.outcome.Reply.TheVariants as reply
+pub use Rattle.hub_runs.specs.{Course.gone_with, Replies.{Answer, OfAttach, OfDetach, OfDrain}}
+pub use Rattle.hub_runs.specs.{Replies.{OfLines, OfLoss, answer_of, answer_to}, Worlds.Happens}
+pub use Rattle.hub_runs.specs.{Worlds.{name_of, number_given}, declared.outcome.Reply.Reply}
+pub use Rattle.{net_view.specs.Arrival.Lost, std.proofs.Common.{suc, zero}}
+pub use Rattle.std.specs.List.{cons_option, range_with_len}
+
+abbrev pub sents : List OutletState → List (List (List Parts))
+sents os = map (λ (o : OutletState). o.sent) os
 
 -- items that were taken
 pub heard_items : (ds : List Deed) (xs : List Came)
@@ -15,8 +17,7 @@ pub heard_items : (ds : List Deed) (xs : List Came)
 heard_items ds [] = sym (append-nil (reverse (heard_back ds)))
 heard_items ds (x ∷ xs) =
     let turned = reverse-append (x.0 ∷ []) (heard_back ds) in
-    heard_items (Took x ∷ ds) xs
-    ∙ (ap (λ l. l ++ arrivals xs) turned ∙ append_assoc _ (x.0 ∷ []) (arrivals xs))
+    grind (arith, turned, append_assoc, heard_items (Took x ∷ ds) xs)
 
 -- no session comes or goes
 abbrev pub Plain : Deed → Type 0
@@ -32,7 +33,7 @@ IsPlain e = Unit {0}
 -- what is kept by all else is kept by an event
 module _ (P : List Deed → Type 0) (step : (d : Deed) (ds : List Deed) → Plain d → P ds → P (d ∷ ds))
   where
-    by_items : (ds : List Deed) (xs : List Came) → P ds → P (with_items ds xs)
+    pub by_items : (ds : List Deed) (xs : List Came) → P ds → P (with_items ds xs)
     by_items ds [] p = p
     by_items ds (x ∷ xs) p = by_items (Took x ∷ ds) xs (step (Took x) ds tt p)
 
@@ -67,9 +68,6 @@ module _ (l : Limits) where
   abbrev Same : List Deed → List Deed → Type 0
   Same ds new = (gones new ≡ gones ds) × (attached new ≡ attached ds)
 
-  same_on : (o : List Deed) (d : Deed) (ds : List Deed) → Plain d → Same o ds → Same o (d ∷ ds)
-  same_on o d ds plain same = grind arith
-
   pub record Does (ds : List Deed) (w : WorldState) (e : Event) (r : Reply)
       (mid : WorldState) : Type 0 where
     pub followed : Followed l (with_event ds w.rest e (answer_of r)) mid.hub
@@ -91,50 +89,46 @@ module _ (l : Limits) where
 
     does_plain : IsPlain e → Gives
     does_plain plain =
-        does_same (by_event (Same ds) (same_on ds) ds w.rest e (answer_of r) plain (refl, refl))
-
-  gone_left : (ds : List Deed) (h : HubState) (id : ℕ) (o : OutletState) (told : Bool)
-      (new : HubState) (was : List OutletState) → Followed l ds h → Detaches h id o told new
-      → sents was ≡ gones ds → sents (was ++ o ∷ []) ≡ gones (Left id ∷ ds)
-  gone_left ds h id o told new was f d all =
-      grind (arith, session_at l ds h f id (around_gone h id o told new d), map-append, all, d)
+        does_same (by_event (Same ds) (λ d new plain same. grind arith) ds w.rest e (answer_of r)
+        plain (refl, refl))
 
   pub event_done : (ds : List Deed) (w : WorldState) (e : Event) (r : Reply) (mid : WorldState)
       → Followed l ds w.hub → Happens e r w mid → Does ds w e r mid
   event_done ds w (on.Up bytes moment) (reply.Up pumped) mid f h =
-      let plain = does_plain ds w (on.Up bytes moment) (reply.Up pumped) mid tt refl in
-      grind (arith, plain, took_all l ds w.hub, all_pumped l ds w.hub, f)
+      let all = took_all _ pumped.items mid.hub f h.1 in
+      does_plain ds w _ _ mid tt refl all.0 (ap OfLines all.1) h.2 h.3
   event_done ds w (on.Lost moment) (reply.Lost pumped) mid f h =
-      let plain = does_plain ds w (on.Lost moment) (reply.Lost pumped) mid tt refl in
-      grind (arith, plain, took l ds w.hub f, pumped_is l ds w.hub f)
+      does_plain ds w _ _ mid tt refl (took f _ pumped mid.hub h.0)
+      (ap OfLoss (pumped_is f _ pumped mid.hub h.0)) h.1 h.2
   event_done ds w (on.Attach caps name size) (reply.Attach (Ok id)) mid f h = record {
-    followed = joined l ds w.hub f caps _ size id mid.hub h.0;
-    answer = ap OfAttach (joins l ds w.hub f caps _ size id mid.hub h.0);
+    followed = joined f caps _ size id mid.hub h.0;
+    answer = ap OfAttach (joins f caps _ size id mid.hub h.0);
     rest = h.1;
     gone = λ all. ap sents h.2 ∙ all;
     numbers = λ ns all. let next = f.seated.next in
-        grind (arith, numbered_is, next, h.0.number, range_more l.first_session);
+        grind (arith, nat_tests, next, h.0.number, range_more l.first_session);
   }
   event_done ds w (on.Attach caps name size) (reply.Attach (Err e)) mid f h =
-      let same = does_same ds w (on.Attach caps name size) (reply.Attach (Err e)) mid in
-      grind (arith, same, f, refuses l ds w.hub f (name_of name) size e)
+      rw h.2 (does_same ds w _ _ w (refl, refl) refl f
+      (ap OfAttach (refuses f (name_of name) size e h.0 h.1)) refl refl)
   event_done ds w (on.Detach id) (reply.Detach (Ok u)) mid f h = record {
-    followed = left l ds w.hub f id h.0 _ mid.hub h.1;
-    answer = ap OfDetach (sym (has l ds w.hub f id (around_gone w.hub id h.0 _ mid.hub h.1)));
+    followed = left f id h.0 _ mid.hub h.1;
+    answer = ap OfDetach (sym (has f id (around_gone h.1)));
     rest = h.2;
-    gone = λ all. ap sents h.3 ∙ gone_left ds w.hub id h.0 _ mid.hub w.gone f h.1 all;
+    gone = λ all. let here = session_at f id (around_gone h.1) in
+        grind (arith, here, map-append, all, h.1, h.3);
     numbers = λ ns all. append-nil ns ∙ all;
   }
   event_done ds w (on.Detach id) (reply.Detach (Err e)) mid f h =
-      let same = does_same ds w (on.Detach id) (reply.Detach (Err e)) mid in
-      grind (arith, same, f, lacks l ds w.hub f id)
+      let gone = lacks f id h.0 in
+      rw h.1 (does_same ds w _ _ w (refl, refl) refl f (rw gone refl) refl refl)
   event_done ds w (on.Said id line moment) (reply.Said r) mid f h =
-      let so = says l ds w.hub f w.rest id line moment r mid.hub h.0 h.1 in
+      let so = says f w.rest id line moment r mid.hub h.0 h.1 in
       does_plain ds w _ _ mid tt refl so.0 (ap OfLine so.1) h.2 h.3
   event_done ds w (on.Drained (Some id) most) (reply.Drained taken) mid f h =
-      does_plain ds w _ _ mid tt refl (drained_at l ds w.hub f id most taken mid.hub h.0)
-      (ap OfDrain (drawn l ds w.hub f id most taken mid.hub h.0)) h.1 h.2
+      does_plain ds w _ _ mid tt refl (drained_at f id most taken mid.hub h.0)
+      (ap OfDrain (drawn f id most taken mid.hub h.0)) h.1 h.2
   event_done ds w (on.Drained None most) (reply.Drained taken) mid f h =
-      does_plain ds w _ _ mid tt refl (drained_up l ds w.hub f most taken mid.hub h.0)
-      (ap OfDrain (drained l ds w.hub f most taken mid.hub h.0)) h.1 h.2
+      does_plain ds w _ _ mid tt refl (drained_up f most taken mid.hub h.0)
+      (ap OfDrain (drained f most taken mid.hub h.0)) h.1 h.2
   event_done ds w _ _ mid f h = absurd h

@@ -1,0 +1,225 @@
+-- A hub over ends in memory is as what happened says: each step keeps that.
+pub mod Present
+unfoldable pub use Present.*
+pub use Rattle.hub_core.proofs.{Each.each_at, Kept.{entry_is_message, messages_stay}}
+pub use Rattle.hub_core.proofs.{Kept.missed_are_messages, Running.{is_ready, less_none}}
+pub use Rattle.hub_core.specs.Attaching.{Attaches, Detaches, last_number, missed}
+pub use Rattle.hub_core.specs.{Given.with_outlet, InMemory.{DrainsAt, DrainsUpstream}}
+pub use Rattle.hub_core.specs.{Pumping.{Comes, entry_for}, Running.AreMessages, Saying.Answers}
+pub use Rattle.hub_core.specs.Saying.{Cuts, Forwards, after_answer, answer_packet, entry_said}
+pub use Rattle.hub_core.specs.{Saying.{sent_up, with_sessions}, States.heard}
+pub use Rattle.hub_core.specs.declared.hub.Pumped.TheVariants.{Nothing, Taken}
+pub use Rattle.{hub_ends.specs.Came.arrivals, hub_runs.specs.Course.{kept_then, mark_then}}
+pub use Rattle.{hub_runs.specs.Course.{message_said, messages, view_then}, std.proofs.Common.inl}
+pub use Rattle.std.proofs.lemmas.List.{length-reverse, reverse-append, reverse-reverse}
+
+-- what was heard is all that was taken
+pub heard_is : (h : HubState) → h.held ≡ None → heard h ≡ arrivals h.taken
+heard_is h e = grind (arith, less_none)
+
+-- the item that comes is the one that was put
+the_one : (h : HubState) (x y : Came) (later : List Came) → h.held ≡ None → h.ahead ≡ []
+    → Comes true h.held (h.ahead ++ x ∷ []) y later → (y ≡ x) × (later ≡ [])
+the_one h x y later held ahead comes = grind arith
+
+-- the session that goes
+abbrev pub around_gone : {h : HubState} {id : ℕ} {o : OutletState} {told : Bool} {new : HubState}
+    → Detaches h id o told new → Around h id
+around_gone d = record {
+  front = d.front;
+  here = d.gone;
+  back = d.back;
+  was = d.was;
+  first = d.first;
+  number = d.number;
+}
+
+-- what there is between calls
+pub record Followed (l : Limits) (ds : List Deed) (h : HubState) : Type 0 where
+  pub held : h.held ≡ None
+  pub ahead : h.ahead ≡ []
+  pub taken : arrivals h.taken ≡ reverse (heard_back ds)
+  pub seated : Seated l ds h
+  pub history : h.history ≡ kept_then l.history l.first_number ds
+  pub messages : AreMessages h.history.kept
+  pub ups : Ups l.upstream ds h.upstream
+  pub marks : (name : Text) → mark_of name h.marks ≡ mark_then l.history l.first_number name ds
+
+module _ {l : Limits} {ds : List Deed} {h : HubState} (f : Followed l ds h) where
+  pub heard_then : heard h ≡ reverse (heard_back ds)
+  heard_then = grind (arith, heard_is, f.held, f.taken)
+
+  pub now_seen : view_now h ≡ view_then ds
+  unfolding view_of
+  now_seen = grind (arith, heard_then, reverse-reverse)
+
+  -- one thing more, by which this message came, if any
+  followed_by : (d : Deed) (now : HubState) (e : Option _) → now.held ≡ None → now.ahead ≡ []
+      → arrivals now.taken ≡ reverse (heard_back (d ∷ ds)) → Seated l (d ∷ ds) now
+      → now.history ≡ with_entry h.history e
+      → messages (d ∷ ds) ≡ messages ds ++ option_to_list e → (IsSome e → IsSome h.history.next)
+      → IfSome e (λ e. IsTrue (is_message_command e.command)) → Ups l.upstream (d ∷ ds) now.upstream
+      → ((n : Text) → mark_of n now.marks ≡ mark_then l.history l.first_number n (d ∷ ds))
+      → Followed l (d ∷ ds) now
+  followed_by d now e held ahead taken seated history more number is ups marks =
+      let kept = entry_more l.history l.first_number (messages ds) e in
+      grind (arith, kept, f.history, messages_stay h.history e f.messages)
+
+  pub took : (x : Came) (p : Pumped) (n : HubState) → TakesIn h x p n → Followed l (Took x ∷ ds) n
+  took x Nothing new t = grind (arith, f.ahead)
+  took x (Taken cut) new t =
+      let one = the_one h x t.item new.ahead f.held f.ahead t.comes.ahead in
+      let turned = reverse-append (x.0 ∷ []) (heard_back ds) in
+      let put = map-append (λ (c : Came). c.0) h.taken (x ∷ []) in
+      let more : arrivals new.taken ≡ reverse (heard_back (Took x ∷ ds)) =
+      rw (t.comes.taken, f.held, one.0) (cc (put, turned, f.taken)) in
+      rw t.others (followed_by (Took x) _ (entry_for x) t.held one.1 more
+      (seated_on l _ _ _ _ f.seated (refl, refl, refl) refl f.seated.known
+      (goes_delivered l _ _ (λ s. packet_for (view_now h) t.item s.caps) (λ s k. record {
+        alike = simp (k.is_sent.1, now_seen, one.0);
+        tells = λ t. rw (heard_then, one.0, turned) (told_item _ _ _ _ t x);
+      }) h.sessions new.sessions f.seated.sit t.sessions))
+      (rw one.0 at t.history) refl (rw one.0 at t.number) (entry_is_message x)
+      (ups_took f.ups x _ (pong_for x.0) refl (rw one.0 at t.upstream)) f.marks)
+
+  pub spoke : (id : ℕ) (line : Parts) (moment : ℕ) (new : HubState)
+      → Forwards true h id line moment new → Followed l (Spoke id line moment ∷ ds) new
+  spoke id line moment new w =
+      let d = Spoke id line moment in
+      let own = own_message h line moment in
+      let own_is : own ≡ message_said (view_then ds) line moment = grind (arith, now_seen) in
+      let gets : (s : SessionState) → Sits l ds s
+      → Gets l d ds s (given_others h id own s) s.caps = λ s k. record {
+        alike = grind (arith, k.is_sent, now_seen);
+        tells = λ t. told_quiet _ _ _ _ t _ (said_to_others h id line moment s);
+      } in
+      rw w.others (followed_by d _ (entry_said own) f.held f.ahead f.taken
+      (seated_on l _ _ _ _ f.seated (refl, refl, refl) refl f.seated.known
+      (goes_delivered l _ _ _ gets h.sessions new.sessions f.seated.sit w.sessions))
+      w.history (grind (arith, own_is)) (λ some. w.number (grind (arith, some)))
+      (grind (arith, entry_is_message))
+      (ups_one f.ups d _ (sent_up line ∷ []) refl refl w.upstream) f.marks)
+
+  pub session_at : (id : ℕ) (a : Around h id) → Sits l ds a.here
+  session_at id a = grind (arith, each_at (Sits l ds) a.front a.here a.back, a.was, f.seated.sit)
+
+  -- it changes sessions, names and the outlet to the network alone
+  alone_on : (d : Deed) (ss : List SessionState) (o : OutletState) (marks : NameMarks)
+      → heard_back (d ∷ ds) ≡ heard_back ds → messages (d ∷ ds) ≡ messages ds ++ [] → Stay d ds
+      → Goes l (d ∷ ds) h.sessions ss → Ups l.upstream (d ∷ ds) o → AreKnown (names_then ds) marks
+      → ((n : Text) → mark_of n marks ≡ mark_then l.history l.first_number n (d ∷ ds))
+      → Followed l (d ∷ ds) record h { sessions = ss; upstream = o; marks = marks }
+  alone_on d ss o marks took none stay goes ups known is =
+      let now = record h { sessions = ss; upstream = o; marks = marks } in
+      let seated = seated_on l d ds h now f.seated stay refl known goes in
+      followed_by d now None f.held f.ahead (rw took f.taken) seated refl none (λ some. absurd cc)
+      tt ups is
+
+  -- sessions alone
+  sessions_on : (d : Deed) (ss : List SessionState)
+      → heard_back (d ∷ ds) ≡ heard_back ds → messages (d ∷ ds) ≡ messages ds ++ [] → Stay d ds
+      → up_by l.upstream (waiting l.upstream ds) d ≡ [] → taken_out d ≡ 0
+      → ((n : Text) → mark_then l.history l.first_number n (d ∷ ds)
+      ≡ mark_then l.history l.first_number n ds) → Goes l (d ∷ ds) h.sessions ss
+      → Followed l (d ∷ ds) (with_sessions h ss)
+  sessions_on d ss took none stay up out same goes =
+      alone_on d ss _ _ took none stay goes (ups_quiet f.ups d up out) f.seated.known
+      (λ n. f.marks n ∙ sym (same n))
+
+  -- the line of the session of a number was answered by what became of it
+  pub asked : (id : ℕ) (line : Parts) (a : Around h id) (o : Option SessionState)
+      → Becomes l (Asked id line ∷ ds) a.here o
+      → Followed l (Asked id line ∷ ds) (with_sessions h (a.front ++ (option_to_list o ++ a.back)))
+  asked id line a o here =
+      sessions_on _ _ refl refl (refl, refl, refl) refl refl (λ n. refl)
+      (goes_around l _ ds h id a o (λ n e. inl e) f.seated here)
+
+  -- what it is given
+  asked_gets : (id : ℕ) (line : Parts) → meaning line ≡ means.Asks → (a : Around h id)
+      → Gets l (Asked id line) ds a.here (answer_packet (view_now h) a.here line)
+      (asked_caps a.here.caps line)
+  asked_gets id line asks a =
+      let k = session_at id a in
+      let n = a.number in
+      grind (arith, nat_tests, n, k.is_sent, asks, now_seen, heard_then, length-reverse, told_asked)
+
+  pub answered : (id : ℕ) (line : Parts) (new : HubState) → meaning line ≡ means.Asks
+      → (w : Answers true h id line new)
+      → Sits l (Asked id line ∷ ds) (after_answer w.around.here line w.given)
+  answered id line new asks w =
+      sits_on l _ _ _ _ _ w.given (asked_gets id line asks w.around) (session_at id w.around) w.sent
+
+  -- there was no room for the answer
+  pub cut : (id : ℕ) (line : Parts) (new : HubState) → meaning line ≡ means.Asks
+      → (w : Cuts h id line new) → outlet_then w.around.here.id (Asked id line ∷ ds) ≡ None
+  cut id line new asks w =
+      grind (arith, cut_off, asked_gets id line asks w.around, session_at id w.around, w.full)
+
+  -- a line that asks for nothing was answered by nothing
+  pub unasked : (id : ℕ) (line : Parts) → meaning line ≡ means.Nothing
+      → Followed l (Asked id line ∷ ds) h
+  unasked id line e =
+      sessions_on _ _ refl refl (refl, refl, refl) refl refl (λ n. refl)
+      (all_still l _ _ (λ n. inr e) h.sessions f.seated.sit)
+
+  pub left : (id : ℕ) (o : OutletState) (told : Bool) (new : HubState) → Detaches h id o told new
+      → Followed l (Left id ∷ ds) new
+  left id o told new d =
+      let s = d.gone in
+      let joined : session_then id ds ≡ Some (s.name, s.caps) =
+      grind (arith, d.number, session_at id (around_gone d)) in
+      let known = is_named id ds s.name (rw joined refl) in
+      let named : Known h.marks s.name = grind (arith, known, f.seated.known.each) in
+      let last = last_number h.history in
+      rw d.is (alone_on (Left id) _ _ _ refl refl (refl, refl, refl)
+      (goes_around l _ _ h id (around_gone d) None (λ n e. e) f.seated
+      (grind (arith, nat_tests, d.number))) (ups_quiet f.ups _ refl refl)
+      (known_marked (names_then ds) h.marks s.name last named f.seated.known) (λ name.
+      grind (arith, marked_mark h.marks s.name last name named, f.marks name, f.history, joined)))
+
+  -- the burst of the session of a number
+  pub burst_is : (caps : Caps) (name : Option Text) (size id : ℕ)
+      → packets l.history l.first_number id (Joined id name caps size ∷ ds)
+      ≡ burst_of (view_now h) caps (missed h name) ∷ []
+  burst_is caps name size id =
+      grind (arith, nat_tests, now_seen, f.marks, f.history)
+
+  pub joined : (caps : Caps) (name : Option Text) (size id : ℕ) (new : HubState)
+      → Attaches true h caps name (new_outlet size) id new
+      → Followed l (Joined id name caps size ∷ ds) new
+  joined caps name size id new a =
+      let s : SessionState = record { id = id; name = name; caps = caps; outlet = a.given } in
+      let told = told_burst (reverse (heard_back ds)) caps (missed h name)
+      (rw heard_then at (is_ready h name a.allowed))
+      (missed_are_messages _ h.history.kept f.messages) in
+      rw a.is (followed_by _ _ None f.held f.ahead f.taken
+      (seated_joined l ds h _ s size _ f.seated a.number a.sent (burst_is caps name size id)
+      (grind (arith, heard_then, length-reverse (heard_back ds), told)) refl refl
+      (known_named (names_then ds) h.marks name f.seated.known)) refl refl (λ some. absurd cc) tt
+      (ups_quiet f.ups _ refl refl) (λ n. grind (arith, named_mark h.marks name n, f.marks n)))
+
+  pub drained_up : (most taken : ℕ) (new : HubState) → DrainsUpstream h most taken new
+      → Followed l (Drained taken ∷ ds) new
+  drained_up most taken new d =
+      rw d.is (alone_on _ _ _ _ refl refl (refl, refl, refl)
+      (all_still l _ _ (λ n. tt) h.sessions f.seated.sit)
+      (ups_drained f.ups d.given most taken d.drained) f.seated.known f.marks)
+
+  -- packets were taken out of its outlet
+  drew_some : (id most taken : ℕ) (s : SessionState) (o : OutletState) → s.id ≡ id
+      → Sits l ds s → Drains s.outlet most taken o → Sits l (Drew id taken ∷ ds) (with_outlet s o)
+  drew_some id most taken s o number k d =
+      grind (arith, nat_tests, k.is_sent, append-nil, k.outlet)
+
+  pub drained_at : (id most taken : ℕ) (new : HubState) → DrainsAt h id most taken new
+      → Followed l (Drew id taken ∷ ds) new
+  drained_at id most taken new d =
+      let still = sit_still l (Drew id taken) ds id (λ n e. e) h.sessions in
+      let on = λ (ss : List SessionState).
+      sessions_on (Drew id taken) ss refl refl (refl, refl, refl) refl refl (λ n. refl) in
+      elim d [
+        | inl e ↦ rw e.2 (on h.sessions (goes_still l _ _ (still e.0 f.seated.sit)))
+        | inr e ↦ (let a = e.around in
+            let now = drew_some _ _ _ _ _ a.number (session_at id a) e.drained in
+            rw e.is (on _ (goes_around l _ _ h id a (Some _) (λ n e. e) f.seated (refl, now))))
+      ]
