@@ -1,11 +1,11 @@
 -- What a writer got.
 use Rattle.hub_threads.specs.{Queues.{is_nil, packets_in}, Writes.{IsWritten, all_bytes}}
 use Rattle.hub_threads.specs.declared.{queued.Queued.Queued, writing.WriteFault.WriteFault}
-use Rattle.irc_line.{proofs.Sent.{appends_more, appends_nothing}, specs.{Line.Parts, Lines.counted}}
-use Rattle.{irc_line.specs.Writing.bytes_of, std.proofs.Common.{Bool, Err, List, Ok, Option, []}}
-use Rattle.std.proofs.Common.{ap, append-nil, append_assoc, arith, drop, length, length-append}
-use Rattle.std.proofs.Common.{length-drop, min, refl, sym, take, ℕ, ◌++◌, ◌+◌, ◌-◌, ◌^◌, ◌∙◌}
-use Rattle.std.proofs.{Common.{◌∷◌, ◌≡◌}, Math.Seq.{take-append_seam, take-length}}
+use Rattle.{irc_line.specs.{Line.Parts, Lines.counted, Writing.bytes_of}, std.proofs.Common.◌++◌}
+use Rattle.std.proofs.Common.{◌+◌, ◌-◌, ◌^◌, ◌∙◌, ◌∷◌, ◌≡◌, Bool, Err, List, Option, [], ap}
+use Rattle.std.proofs.Common.{append-nil, append_assoc, arith, drop, length, length-append}
+use Rattle.std.proofs.{Common.{length-drop, min, refl, sym, take, ℕ}, KnownBytes.Appends-nil}
+use Rattle.std.proofs.{KnownBytes.Appends-trans, Math.Seq.{take-append_seam, take-length}}
 use Rattle.std.proofs.lemmas.{Grind.flat_map-append, List.{drop-drop, take-append-drop}}
 use Rattle.std.specs.Io.KnownBytes.{Appends}
 
@@ -51,7 +51,7 @@ under_way_first was began rest e = record {
   taken = [];
   all_are = sym (append-nil _);
   put = [];
-  wrote = appends_nothing began;
+  wrote = Appends-nil began;
   bytes_are = e;
   count_is = refl;
 }
@@ -60,75 +60,46 @@ all_bytes_more : (ps : List (List Parts)) (p : List Parts)
     → all_bytes (ps ++ p ∷ []) ≡ all_bytes ps ++ bytes_of p
 all_bytes_more ps p = rw (flat_map-append bytes_of ps (p ∷ []), append-nil (bytes_of p))
 
--- a packet was taken: it is left to write, behind the rest
-pub under_way_more : (was all all' : List Queued) (began out : Option (List ℕ))
-    (rest rest' : List ℕ) (count count' n : ℕ)
-    → IsUnderWay was all began out rest count
-    → (p : List Parts) × (packets_in all' ≡ packets_in all ++ p ∷ [])
-    × (rest' ≡ rest ++ bytes_of p) × (n ≡ length (bytes_of p))
-    → count' ≡ min (count + n) (2 ^ 64 - 1) → IsUnderWay was all' began out rest' count'
-under_way_more was all all' began out rest rest' count count' n w q is =
-    let more = all_bytes_more w.taken q.0 in
-    let l = length-append (all_bytes w.taken) (bytes_of q.0) in
-    let whole : length (all_bytes (w.taken ++ q.0 ∷ []))
-    ≡ length (all_bytes w.taken) + length (bytes_of q.0) = rw more l in
-    let c = w.count_is in
-    let m = q.3 in
-    record {
-      taken = w.taken ++ q.0 ∷ [];
-      all_are = rw (q.1, w.all_are) (append_assoc (packets_in was) w.taken (q.0 ∷ []));
-      put = w.put;
-      wrote = w.wrote;
-      bytes_are = cc (q.2, more, w.bytes_are, append_assoc w.put rest (bytes_of q.0));
-      count_is = omega arith;
-    }
+module _ {was all : List Queued} {began out : Option (List ℕ)} {rest : List ℕ} {count : ℕ}
+    (w : IsUnderWay was all began out rest count) where
+  -- a packet was taken: it is left to write, behind the rest
+  pub under_way_more : {all' : List Queued} {rest' : List ℕ} {count' n : ℕ}
+      → (p : List Parts) × (packets_in all' ≡ packets_in all ++ p ∷ [])
+      × (rest' ≡ rest ++ bytes_of p) × (n ≡ length (bytes_of p))
+      → count' ≡ min (count + n) (2 ^ 64 - 1) → IsUnderWay was all' began out rest' count'
+  under_way_more q is =
+      let more = all_bytes_more w.taken q.0 in
+      let whole : length (all_bytes (w.taken ++ q.0 ∷ []))
+      ≡ length (all_bytes w.taken) + length (bytes_of q.0) =
+      rw more (length-append (all_bytes w.taken) (bytes_of q.0)) in
+      record {
+        taken = w.taken ++ q.0 ∷ [];
+        all_are = rw (q.1, w.all_are) (append_assoc (packets_in was) w.taken (q.0 ∷ []));
+        put = w.put;
+        wrote = w.wrote;
+        bytes_are = cc (q.2, more, w.bytes_are, append_assoc w.put rest (bytes_of q.0));
+        count_is = omega (arith, whole, w.count_is, q.3);
+      }
 
--- some of the rest was written
-pub under_way_on : (was all all' : List Queued) (began out out' : Option (List ℕ))
-    (rest rest' : List ℕ) (count : ℕ)
-    → IsUnderWay was all began out rest count → packets_in all' ≡ packets_in all
-    → (put : List ℕ) × Appends out out' put × (put ++ rest' ≡ rest)
-    → IsUnderWay was all' began out' rest' count
-under_way_on was all all' began out out' rest rest' count w same q = record {
-  taken = w.taken;
-  all_are = same ∙ w.all_are;
-  put = w.put ++ q.0;
-  wrote = appends_more began out out' w.put q.0 w.wrote q.1;
-  bytes_are = rw (append_assoc w.put q.0 rest', q.2) w.bytes_are;
-  count_is = w.count_is;
-}
+  -- no packet was taken, and then some of what was left was written
+  pub under_way_still : {mid all' : List Queued} {out' : Option (List ℕ)} {held rest' : List ℕ}
+      → (packets_in mid ≡ packets_in all) × (held ≡ rest) → (put : List ℕ) × Appends out out' put
+      × (put ++ rest' ≡ held) → all' ≡ mid → IsUnderWay was all' began out' rest' count
+  under_way_still {rest' = rest'} none q end = record {
+    taken = w.taken;
+    all_are = ap packets_in end ∙ none.0 ∙ w.all_are;
+    put = w.put ++ q.0;
+    wrote = Appends-trans began _ _ w.put q.0 w.wrote q.1;
+    bytes_are = rw (append_assoc w.put q.0 rest', q.2, none.1) w.bytes_are;
+    count_is = w.count_is;
+  }
 
--- no packet was taken, and then some of what was left was written
-pub under_way_still : {was before mid all : List Queued} {began out out' : Option (List ℕ)}
-    {rest held rest' : List ℕ} {count : ℕ} → IsUnderWay was before began out rest count
-    → (packets_in mid ≡ packets_in before) × (held ≡ rest)
-    → (put : List ℕ) × Appends out out' put × (put ++ rest' ≡ held) → all ≡ mid
-    → IsUnderWay was all began out' rest' count
-under_way_still w none q end = under_way_on _ _ _ _ _ _ _ _ _ w (ap packets_in end ∙ none.0)
-    (rw none.1 at q)
-
--- after a fault a beginning was written
-pub ends_early : (was all : List Queued) (began out : Option (List ℕ)) (rest : List ℕ) (count : ℕ)
-    (fresh : Bool) (e : WriteFault)
-    → IsUnderWay was all began out rest count → fresh ≡ is_nil (packets_in was)
-    → IsWritten was all began out fresh (Err e)
-ends_early was all began out rest count fresh e w f = record {
-  taken = w.taken;
-  all_are = w.all_are;
-  fresh_is = f;
-  wrote = (length w.put, rw (← w.bytes_are, take-append_seam w.put rest) w.wrote);
-}
-
-pub all_written : (was all all' : List Queued) (began out : Option (List ℕ)) (rest : List ℕ)
-    (count : ℕ) (fresh : Bool)
-    → IsUnderWay was all began out rest count → packets_in all' ≡ packets_in all → rest ≡ []
-    → fresh ≡ is_nil (packets_in was)
-    → IsWritten was all' began out fresh (Ok count)
-all_written was all all' began out rest count fresh w came e f =
-    let put_all : w.put ≡ all_bytes w.taken = rw (e, append-nil) at w.bytes_are in
-    record {
-      taken = w.taken;
-      all_are = came ∙ w.all_are;
-      fresh_is = f;
-      wrote = (rw (← put_all) w.wrote, w.count_is);
-    }
+  -- after a fault a beginning was written
+  pub ends_early : {fresh : Bool} {e : WriteFault} → fresh ≡ is_nil (packets_in was)
+      → IsWritten was all began out fresh (Err e)
+  ends_early f = record {
+    taken = w.taken;
+    all_are = w.all_are;
+    fresh_is = f;
+    wrote = (length w.put, rw (← w.bytes_are, take-append_seam w.put rest) w.wrote);
+  }

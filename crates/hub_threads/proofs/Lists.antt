@@ -27,10 +27,9 @@ one_more xs ys closed p still all e =
     let more = map-append Lines (packets_in xs) (p ∷ []) in
     grind (arith, append-nil, packets_in_lines xs p, more)
 
-pub at_end : (xs ys : List Queued) (closed : Option ℕ) (id count : ℕ) → is_some closed ≡ false
-    → xs ≡ ended_by (packets_in xs) closed
-    → count ≡ counted (length xs) → ys ≡ xs ++ Closing id count ∷ []
-    → ys ≡ ended_by (packets_in ys) (Some id)
+pub at_end : (xs ys : List Queued) (closed : Option ℕ) (id count : ℕ) → is_some closed ≡ false → xs
+    ≡ ended_by (packets_in xs) closed → count ≡ counted (length xs) → ys
+    ≡ xs ++ Closing id count ∷ [] → ys ≡ ended_by (packets_in ys) (Some id)
 at_end xs ys closed id count still all is e =
     let front = open_list xs closed still all in
     let long = length-map (packets_in xs) Lines in

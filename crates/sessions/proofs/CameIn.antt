@@ -1,44 +1,34 @@
 -- A client that came in, from what its login and the check of its claim say.
 use Rattle.bnc_config.specs.{Settings.Settings, declared.place.Place.Place}
-use Rattle.{irc_line.specs.{Line.Parts, Lines.Pending}, sessions.proofs.Places.let_in_by}
-use Rattle.sessions.specs.{Admission.{Admits, IsUnknown}, Claims.{ClaimParts, parts_of}}
-use Rattle.sessions.specs.{Logins.LogsIn, Serving.{CameIn, GotNoWayIn}}
+use Rattle.{irc_line.specs.{Line.Parts, Lines.Pending}, sessions.specs.Admission.{Admits, IsLetIn}}
+use Rattle.sessions.specs.{Claims.parts_of, Logins.LogsIn, Serving.CameIn}
 use Rattle.sessions.specs.declared.{arrival.Ending.{Ending, TheVariants.Claims}, claim.Claim.Claim}
-use Rattle.std.{proofs.Common.{List, Option, Some, inr, map, ℕ, ◌≡◌}, specs.Prelude.slice_get}
+use Rattle.std.proofs.{Common.{◌≡◌, List, Option, Some, map, refl, ℕ}, lemmas.Option.slice_get-map}
+use Rattle.std.specs.Prelude.{slice_get}
 
--- its login ended with a claim, and the claim was let in
-pub came_in_by : {N : Type 0} (settings : Settings) (networks : List (Place × N))
-    {began left was now : Option (List ℕ)} {claim : Claim} {n : N} {ending : Ending}
-    {lines : List Parts} {splitter : Pending} → LogsIn began left was now ending lines splitter
-    → ending ≡ Claims claim
-    → ((place : Place) × (number : ℕ) × Admits settings (parts_of claim) (Some place)
-    × (slice_get networks number ≡ Some (place, n)))
-    → CameIn settings (map (λ (one : Place × N). one.0) networks) began was
-came_in_by settings networks {left = left} {now = now} {claim = claim} {n = n} {lines = lines}
-    {splitter = splitter} login is let_in = record {
-      claim = claim;
-      left = left;
-      now = now;
-      lines = lines;
-      splitter = splitter;
-      login = rw is at login;
-      let_in = let_in_by settings networks (parts_of claim) n let_in;
-    }
+module _ {N : Type 0} (settings : Settings) (networks : List (Place × N)) (claim : Claim) {n : N}
+    (found : (place : Place) × (number : ℕ) × Admits settings (parts_of claim) (Some place)
+    × (slice_get networks number ≡ Some (place, n))) where
+  -- what was let in
+  pub let_in_by : IsLetIn settings (map (λ (one : Place × N). one.0) networks) (parts_of claim)
+  let_in_by = record {
+    place = found.0;
+    password = found.2.0;
+    network = found.2.1;
+    number = found.1;
+    served = rw (slice_get-map (λ (one : Place × N). one.0) networks found.1, found.3) refl;
+  }
 
--- its login ended with a claim, and no network that is served is known for it
-pub no_way_in_for : {N : Type 0} (turns_away : ClaimParts → Type 0) (settings : Settings)
-    (networks : List (Place × N)) {began left was now : Option (List ℕ)} {claim : Claim}
-    {ending : Ending} {lines : List Parts} {splitter : Pending}
-    → LogsIn began left was now ending lines splitter → ending ≡ Claims claim
-    → ((place : Place) → Admits settings (parts_of claim) (Some place)
-    → IsUnknown (map (λ (one : Place × N). one.0) networks) place)
-    → GotNoWayIn turns_away settings (map (λ (one : Place × N). one.0) networks) began left was
-no_way_in_for turns_away settings networks {now = now} {claim = claim} {lines = lines}
-    {splitter = splitter} login is none = record {
-      ending = Claims claim;
-      now = now;
-      lines = lines;
-      splitter = splitter;
-      login = rw is at login;
-      why = inr (λ l. none l.place (l.password, l.network) l.number l.served);
-    }
+  -- its login ended with a claim, and the claim was let in
+  pub came_in_by : {began left was now : Option (List ℕ)} {ending : Ending} {lines : List Parts}
+      {splitter : Pending} → LogsIn began left was now ending lines splitter
+      → ending ≡ Claims claim → CameIn settings (map (λ (one : Place × N). one.0) networks) began was
+  came_in_by login is = record {
+    claim = claim;
+    left = _;
+    now = _;
+    lines = _;
+    splitter = _;
+    login = rw is at login;
+    let_in = let_in_by;
+  }

@@ -1,12 +1,12 @@
 -- How a login ends.
-use Rattle.irc_line.proofs.Logic.{or_true}
-use Rattle.{irc_line.specs.Line.Parts, sessions.proofs.LookedBack.{any_more, any_stage_more}}
-use Rattle.sessions.specs.Answers.{answer_to, claim_in, closes, ends_by, has_ended, is_end, is_quit}
-use Rattle.sessions.specs.{Answers.{replies, sends}, Claims.ClaimParts, Given.{is_complete, stages}}
+use Rattle.{irc_line.{proofs.Logic.or_true, specs.Line.Parts}, sessions.proofs.LookedBack.any_more}
+use Rattle.sessions.{proofs.LookedBack.any_stage_more, specs.Answers.{answer_to, claim_in, closes}}
+use Rattle.sessions.specs.Answers.{ends_by, has_ended, is_end, is_quit, replies, sends}
+use Rattle.{sessions.specs.{Claims.ClaimParts, Given.{is_complete, stages}}, std.proofs.Common.◌∙◌}
 use Rattle.std.proofs.Common.{None, Option, Some, append-nil, append_assoc, arith, length-append}
-use Rattle.std.{proofs.{Common.{refl, ◌∙◌}, lemmas.Bool.Decides.nat_tests}, specs.List.list_any}
-use Rattle.std.specs.Prelude.{Bool, List, [], false, if◌then◌else◌, length, nat_le, true, ℕ, ◌++◌}
-use Rattle.std.specs.Prelude.{◌+◌, ◌==◌, ◌||◌, ◌∷◌, ◌≡◌}
+use Rattle.std.{proofs.{Common.refl, lemmas.Bool.Decides.nat_tests}, specs.List.list_any}
+use Rattle.std.specs.Prelude.{◌++◌, ◌+◌, ◌==◌, ◌||◌, ◌∷◌, ◌≡◌, Bool, List, [], false, if◌then◌else◌}
+use Rattle.std.specs.Prelude.{length, nat_le, true, ℕ}
 
 ended_more : (before : List Parts) (line : Parts) → has_ended (before ++ line ∷ [])
     ≡ ((list_any is_quit before || is_quit line)
@@ -64,25 +64,13 @@ nothing_more before line ends after next =
 
 pub ends_complete : (before : List Parts) (line : Parts)
     → is_complete (before ++ line ∷ []) ≡ true → has_ended (before ++ line ∷ []) ≡ true
-ends_complete before line complete =
-    ended_more before line ∙ by_one _ (list_any is_complete (stages before)) _ _ complete where
-      by_one : (a c d e : Bool) → d ≡ true → (a || ((c || d) || e)) ≡ true
-      by_one a c d e h = grind arith
+ends_complete before line complete = grind (arith, ended_more before line)
 
 pub ends_at_200 : (before : List Parts) (line : Parts) → length before ≡ 199
     → has_ended (before ++ line ∷ []) ≡ true
-ends_at_200 before line last =
-    ended_more before line ∙ by_count _ _ (length before) last where
-      by_count : (a b : Bool) (n : ℕ) → n ≡ 199 → (a || (b || nat_le 200 (n + 1))) ≡ true
-      by_count a b n h = grind (arith, nat_tests)
+ends_at_200 before line last = grind (arith, nat_tests, ended_more before line)
 
 pub goes_on : (before : List Parts) (line : Parts) → has_ended before ≡ false
     → is_quit line ≡ false → is_complete (before ++ line ∷ []) ≡ false
     → (length before ≡ 199 → ⊥) → has_ended (before ++ line ∷ []) ≡ false
-goes_on before line going quit complete last =
-    ended_more before line
-    ∙ by_none (list_any is_quit before) _ (list_any is_complete (stages before)) _ (length before)
-    going quit complete last where
-      by_none : (q r c d : Bool) (n : ℕ) → (q || (c || nat_le 200 n)) ≡ false → r ≡ false
-          → d ≡ false → (n ≡ 199 → ⊥) → ((q || r) || ((c || d) || nat_le 200 (n + 1))) ≡ false
-      by_none q r c d n going quit complete last = grind (arith, nat_tests)
+goes_on before line going quit complete last = grind (arith, nat_tests, ended_more before line)

@@ -4,7 +4,7 @@ use Rattle.sessions.specs.declared.attending.Leave.TheVariants as leave
 use Rattle.irc_line.specs.{Input.WasRead, Line.Parts, Lines.{Pending, fed_all, lines_all}}
 use Rattle.{irc_line.specs.declared.input.InputEnd.InputEnd, sessions.specs.Leaving.IsLeaveCause}
 use Rattle.sessions.specs.{Leaving.{WasHeard, WereSaid, leave_at}, declared.attending.Leave.Leave}
-use Rattle.std.proofs.Common.{List, None, Option, Some, [], append-nil, arith, refl, ℕ, ◌++◌, ◌≡◌}
+use Rattle.std.proofs.Common.{◌++◌, ◌≡◌, List, None, Option, Some, [], append-nil, arith, refl, ℕ}
 use Rattle.std.proofs.{KnownBytes.Consumes-nil, lemmas.List.Folds.list_any-append}
 use Rattle.std.specs.{Io.KnownBytes.Consumes, List.concat, Prelude.{IfNone, IfSome}}
 
@@ -27,70 +27,50 @@ said_last before lines (Some why) none said = said_more before lines (Some why) 
 
 -- ---- a session
 
-heard_refused : (old new : Pending) (unread : List Parts) (u w : Option (List ℕ))
-    (pieces : List (List ℕ)) (piece : List ℕ) (why : Leave) → Consumes u w (concat pieces ++ piece)
-    → new ≡ fed_all old pieces
-    → IsLeaveCause new (unread ++ lines_all old pieces) piece w why
-    → WasHeard old unread u w why
-heard_refused old new unread u w pieces piece why read held cause = record {
-  pieces = pieces;
-  refused = piece;
-  read = read;
-  cause = rw (← held) cause;
-}
+module _ {old : Pending} {unread : List Parts} {u w : Option (List ℕ)} where
+  heard_refused : (new : Pending) (pieces : List (List ℕ)) (piece : List ℕ) (why : Leave)
+      → Consumes u w (concat pieces ++ piece) → new ≡ fed_all old pieces
+      → IsLeaveCause new (unread ++ lines_all old pieces) piece w why → WasHeard old unread u w why
+  heard_refused new pieces piece why read held cause =
+      record { pieces = pieces; refused = piece; read = read; cause = rw (← held) cause }
 
-heard : (old : Pending) (unread : List Parts) (u w : Option (List ℕ)) (pieces : List (List ℕ))
-    (why : Leave) → Consumes u w (concat pieces)
-    → IsLeaveCause (fed_all old pieces) (unread ++ lines_all old pieces) [] w why
-    → WasHeard old unread u w why
-heard old unread u w pieces why read cause =
-    heard_refused old _ unread u w pieces [] why (rw append-nil read) refl cause
+  heard : (pieces : List (List ℕ)) (why : Leave) → Consumes u w (concat pieces)
+      → IsLeaveCause (fed_all old pieces) (unread ++ lines_all old pieces) [] w why
+      → WasHeard old unread u w why
+  heard pieces why read cause = heard_refused _ pieces [] why (rw append-nil read) refl cause
 
--- nothing was read behind what was unread
-pub heard_unread : (splitter : Pending) (unread : List Parts) (began : Option (List ℕ))
-    (why : Leave) → IsLeaveCause splitter unread [] began why
-    → WasHeard splitter unread began began why
-heard_unread splitter unread began why cause =
-    heard splitter unread began began [] why (Consumes-nil began) (rw append-nil cause)
+  -- it was read to its end, or left by a line
+  pub was_heard : (new : Pending) (end : InputEnd Leave) → WereSaid unread None
+      → WasRead (λ lines. WereSaid lines None) (λ lines why. WereSaid lines (Some why)) old new u w
+      end
+      → WasHeard old unread u w (leave_at end)
+  was_heard new (input.Answered leave.Quit) said r =
+      heard r.pieces leave.Quit r.why.0 (refl, said_more unread _ (Some leave.Quit) said r.why.1)
+  was_heard new (input.Answered leave.Cut) said r = heard r.pieces leave.Cut r.why.0 tt
+  was_heard new (input.Answered _) said r = absurd r.why.1
+  was_heard new input.EndOfInput said r =
+      heard r.pieces leave.EndOfInput r.why.0
+      (refl, said_more unread _ None said r.why.2, r.why.1)
+  was_heard new (input.ReadFault error) said r =
+      heard r.pieces leave.ReadFault r.why.0 (refl, said_more unread _ None said r.why.1)
+  was_heard new input.ReadsSpent said r =
+      heard r.pieces leave.ReadFault r.why.0 (refl, said_more unread _ None said r.why.1)
+  was_heard new input.TooLong said r =
+      heard_refused new r.pieces r.why.0 leave.TooLong r.why.1 r.held
+      (r.why.2, said_more unread _ None said r.why.3)
+  was_heard new input.OutOfMemory said r =
+      heard_refused new r.pieces r.why.0 leave.OutOfMemory r.why.1 r.held
+      (said_more unread _ None said r.why.3)
 
--- it left by a line that was unread
-pub left_unread : (splitter : Pending) (unread : List Parts) (began : Option (List ℕ))
-    (why : Leave) → WereSaid unread (Some why) → WasHeard splitter unread began began why
-left_unread splitter unread began leave.Quit said =
-    heard_unread splitter unread began leave.Quit (refl, said)
-left_unread splitter unread began leave.Cut said = heard_unread splitter unread began leave.Cut tt
-left_unread splitter unread began leave.EndOfInput said = absurd said
-left_unread splitter unread began leave.ReadFault said = absurd said
-left_unread splitter unread began leave.TooLong said = absurd said
-left_unread splitter unread began leave.OutOfMemory said = absurd said
+module _ {splitter : Pending} {unread : List Parts} {began : Option (List ℕ)} where
+  -- nothing was read behind what was unread
+  pub heard_unread : (why : Leave) → IsLeaveCause splitter unread [] began why
+      → WasHeard splitter unread began began why
+  heard_unread why cause = heard [] why (Consumes-nil began) (rw append-nil cause)
 
--- it was read to its end, or left by a line
-pub was_heard : (old new : Pending) (unread : List Parts) (u w : Option (List ℕ))
-    (end : InputEnd Leave) → WereSaid unread None
-    → WasRead (λ lines. WereSaid lines None) (λ lines why. WereSaid lines (Some why)) old new u w
-    end
-    → WasHeard old unread u w (leave_at end)
-was_heard old new unread u w (input.Answered leave.Quit) said r =
-    heard old unread u w r.pieces leave.Quit r.why.0
-    (refl, said_more unread _ (Some leave.Quit) said r.why.1)
-was_heard old new unread u w (input.Answered leave.Cut) said r =
-    heard old unread u w r.pieces leave.Cut r.why.0 tt
-was_heard old new unread u w (input.Answered leave.EndOfInput) said r = absurd r.why.1
-was_heard old new unread u w (input.Answered leave.ReadFault) said r = absurd r.why.1
-was_heard old new unread u w (input.Answered leave.TooLong) said r = absurd r.why.1
-was_heard old new unread u w (input.Answered leave.OutOfMemory) said r = absurd r.why.1
-was_heard old new unread u w input.EndOfInput said r =
-    heard old unread u w r.pieces leave.EndOfInput r.why.0
-    (refl, said_more unread _ None said r.why.2, r.why.1)
-was_heard old new unread u w (input.ReadFault error) said r =
-    heard old unread u w r.pieces leave.ReadFault r.why.0
-    (refl, said_more unread _ None said r.why.1)
-was_heard old new unread u w input.ReadsSpent said r =
-    heard old unread u w r.pieces leave.ReadFault r.why.0
-    (refl, said_more unread _ None said r.why.1)
-was_heard old new unread u w input.TooLong said r =
-    heard_refused old new unread u w r.pieces r.why.0 leave.TooLong r.why.1 r.held
-    (r.why.2, said_more unread _ None said r.why.3)
-was_heard old new unread u w input.OutOfMemory said r =
-    heard_refused old new unread u w r.pieces r.why.0 leave.OutOfMemory r.why.1 r.held
-    (said_more unread _ None said r.why.3)
+  -- it left by a line that was unread
+  pub left_unread : (why : Leave) → WereSaid unread (Some why)
+      → WasHeard splitter unread began began why
+  left_unread leave.Quit said = heard_unread leave.Quit (refl, said)
+  left_unread leave.Cut said = heard_unread leave.Cut tt
+  left_unread _ said = absurd said

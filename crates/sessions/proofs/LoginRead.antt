@@ -6,10 +6,9 @@ use Rattle.{irc_line.specs.declared.input.InputEnd.InputEnd, sessions.proofs.Sen
 use Rattle.sessions.{proofs.Sent.sent_for_more, specs.{Answers.has_ended, Logins.EndsLogin}}
 use Rattle.sessions.specs.Logins.{GoesOn, IsCauseOf, IsEndAt, LogsIn, outcome_of, sent_for}
 use Rattle.sessions.specs.{Progress.Progress, Taken.HasTaken, declared.arrival.LastLine.LastLine}
-use Rattle.sessions.specs.declared.fault.LoginFault.{LoginFault, TheVariants.{NoRoom, Read}}
-use Rattle.{sessions.specs.declared.fault.LoginFault.TheVariants.TooLong, std.proofs.Common.Err}
-use Rattle.std.proofs.Common.{List, Ok, Option, Result, [], ap, append_assoc, drop, false, refl}
-use Rattle.std.proofs.Common.{subst, sym, take, ℕ, ◌++◌, ◌+◌, ◌∙◌, ◌∷◌, ◌≡◌}
+use Rattle.sessions.specs.declared.fault.LoginFault.{LoginFault, TheVariants.{Read, TooLong}}
+use Rattle.std.proofs.Common.{◌++◌, ◌+◌, ◌∙◌, ◌∷◌, ◌≡◌, Err, List, Ok, Option, Result, [], ap}
+use Rattle.std.proofs.Common.{append_assoc, drop, false, refl, sym, take, ℕ}
 use Rattle.std.specs.Io.KnownBytes.{Appends, Consumes}
 
 -- lines more were taken and answered
@@ -40,56 +39,42 @@ ends_login u v w old before lines i end h at next rest =
       sent_for_more before (take (i + 1) lines) (done ++ at.0 ∷ []) u v w (sym first) h.sent next,
     )
 
--- it was read up to its last line, by what is known there besides
-pub logged_in : {N : Type 0} {P : List Parts → Type 0} {u w was now : Option (List ℕ)}
-    {t : Pending} (end : InputEnd (Result LastLine LoginFault)) (last : LastLine)
-    → WasReadAnew P (λ lines answer. N × EndsLogin was now lines answer) u w end t
-    → outcome_of end ≡ Ok last → N × LogsIn u w was now last.ending last.behind.items t
-logged_in {u = u} {w = w} {was = was} {now = now} {t = t} (input.Answered (Ok end)) last r is =
-    let same : end ≡ last = cc in
-    let why = r.why.1.1 in (
-      r.why.1.0,
-      subst (λ (l : LastLine). LogsIn u w was now l.ending l.behind.items t) same (record {
-        bytes = r.bytes;
-        before = why.0;
-        last = why.1;
-        read = r.why.0;
-        whole = why.2;
-        ended = why.3;
-        rest = r.held;
-        sent = why.4;
-      }),
-    )
-logged_in (input.Answered (Err fault)) last r is = absurd cc
-logged_in input.EndOfInput last r is = absurd cc
-logged_in (input.ReadFault error) last r is = absurd cc
-logged_in input.ReadsSpent last r is = absurd cc
-logged_in input.TooLong last r is = absurd cc
-logged_in input.OutOfMemory last r is = absurd cc
+-- what is known of its bytes, by what it came to, and what is known at its end besides
+abbrev pub Outcome : Type 0 → Option (List ℕ) → Option (List ℕ) → Option (List ℕ)
+    → Option (List ℕ) → Pending → Result LastLine LoginFault → Type 0
+Outcome N u w was now t (Ok last) = N × LogsIn u w was now last.ending last.behind.items t
+Outcome N u w was now t (Err f) = (bytes : List ℕ) × Consumes u w bytes × IsCauseOf bytes f
 
--- it was not
-abbrev FailsBy : Option (List ℕ) → Option (List ℕ) → LoginFault → Type 0
-FailsBy u w fault = (bytes : List ℕ) × Consumes u w bytes × IsCauseOf bytes fault
+module _ (M N : Type 0) (u w was now : Option (List ℕ)) (login : Progress) (t : Pending) where
+  abbrev WasTaken : InputEnd (Result LastLine LoginFault) → Type 0
+  WasTaken end =
+      WasReadAnew (λ lines. M × GoesOn was now login lines)
+      (λ lines answer. N × EndsLogin was now lines answer) u w end t
 
-by_fault : (u w : Option (List ℕ)) (f fault : LoginFault)
-    → ◌≡◌ {A = Result LastLine LoginFault} (Err f) (Err fault) → FailsBy u w f → FailsBy u w fault
-by_fault u w f fault is h = let same : f ≡ fault = cc in subst (FailsBy u w) same h
+  ended : (end : InputEnd (Result LastLine LoginFault)) → WasTaken end
+      → Outcome N u w was now t (outcome_of end)
+  ended (input.Answered (Ok last)) r =
+      let why = r.why.1.1 in (
+        r.why.1.0,
+        record {
+          bytes = r.bytes;
+          before = why.0;
+          last = why.1;
+          read = r.why.0;
+          whole = why.2;
+          ended = why.3;
+          rest = r.held;
+          sent = why.4;
+        },
+      )
+  ended (input.Answered (Err f)) r = (r.bytes, r.why.0, lines_cause r.bytes f r.short r.why.1.1)
+  ended input.EndOfInput r = (r.bytes, r.why.0, (r.short, r.why.2.1.going))
+  ended (input.ReadFault error) r = (r.bytes, r.why.0, (r.short, r.why.1.1.going))
+  ended input.ReadsSpent r = (r.bytes, r.why.0, (r.short, r.why.1.1.going))
+  ended input.TooLong r = (r.bytes ++ r.why.0, r.why.1, r.why.2)
+  ended input.OutOfMemory r = (r.bytes ++ r.why.0, r.why.1, tt)
 
-pub not_logged_in : {M N : Type 0} {u w was now : Option (List ℕ)} {login : Progress}
-    {t : Pending} (end : InputEnd (Result LastLine LoginFault)) (fault : LoginFault)
-    → WasReadAnew (λ lines. M × GoesOn was now login lines)
-    (λ lines answer. N × EndsLogin was now lines answer) u w end t
-    → outcome_of end ≡ Err fault → FailsBy u w fault
-not_logged_in (input.Answered (Ok end)) fault r is = absurd cc
-not_logged_in (input.Answered (Err f)) fault r is =
-    by_fault _ _ f fault is (r.bytes, r.why.0, lines_cause r.bytes f r.short r.why.1.1)
-not_logged_in input.EndOfInput fault r is =
-    by_fault _ _ Read fault is (r.bytes, r.why.0, (r.short, r.why.2.1.going))
-not_logged_in (input.ReadFault error) fault r is =
-    by_fault _ _ Read fault is (r.bytes, r.why.0, (r.short, r.why.1.1.going))
-not_logged_in input.ReadsSpent fault r is =
-    by_fault _ _ Read fault is (r.bytes, r.why.0, (r.short, r.why.1.1.going))
-not_logged_in input.TooLong fault r is =
-    by_fault _ _ TooLong fault is (r.bytes ++ r.why.0, r.why.1, r.why.2)
-not_logged_in input.OutOfMemory fault r is =
-    by_fault _ _ NoRoom fault is (r.bytes ++ r.why.0, r.why.1, tt)
+  -- it was read to its end
+  pub came_to : (end : InputEnd (Result LastLine LoginFault)) (o : Result LastLine LoginFault)
+      → WasTaken end → outcome_of end ≡ o → Outcome N u w was now t o
+  came_to end o r is = rw (← is) (ended end r)

@@ -29,8 +29,7 @@ pub some_mapped : {A B : Type 0} (f : A → B) (o : Option A) → is_some (optio
 some_mapped f o = grind arith
 
 -- whether a nick came, after one more line
-pub nick_more : (before : List Parts) (line : Parts)
-    → is_some (nick_in (before ++ line ∷ []))
+pub nick_more : (before : List Parts) (line : Parts) → is_some (nick_in (before ++ line ∷ []))
     ≡ (is_some (nick_in before) || is_some (given (codes "NICK") line))
 nick_more before line = some_more (given (codes "NICK")) before line
 

@@ -1,9 +1,9 @@
 -- Where a place stands, and that it stands nowhere.
 use Rattle.bnc_config.specs.{Settings.{Matches, Settings, place_of}, declared.place.Place.Place}
-use Rattle.{irc_support.specs.Text.Text, sessions.specs.Admission.{Admits, IsLetIn, IsUnknown}}
-use Rattle.{sessions.specs.Claims.ClaimParts, std.proofs.Common.{List, None, Option, Some, [], ap}}
-use Rattle.std.proofs.Common.{map, subst, suc, sym, zero, ℕ, ◌++◌, ◌∙◌, ◌∷◌, ◌≡◌}
-use Rattle.std.specs.{Option.option_map, Prelude.{IfNone, slice_get}}
+use Rattle.{irc_support.specs.Text.Text, sessions.specs.Admission.{Admits, IsUnknown}}
+use Rattle.{sessions.specs.Claims.ClaimParts, std.proofs.Common.{◌++◌, ◌∙◌, ◌∷◌, ◌≡◌, List, None}}
+use Rattle.std.proofs.Common.{Option, Some, [], ap, map, subst, suc, sym, zero, ℕ}
+use Rattle.std.specs.{Option.option_map, Prelude.IfNone}
 
 -- none of these stands beside the place
 abbrev pub Lacks : {N : Type 0} → List (Place × N) → Place → Type 0
@@ -15,25 +15,17 @@ pub lacks_more : {N : Type 0} (xs : List (Place × N)) (x : Place × N) (place :
 lacks_more [] x place h other = (other, tt)
 lacks_more (y ∷ ys) x place h other = (h.0, lacks_more ys x place h.1 other)
 
-same_place : (a b : Place) → ◌≡◌ {A = Option Place} (Some a) (Some b) → a ≡ b
-same_place a b h = cc
-
-no_place : (a : Place) → ◌≡◌ {A = Option Place} None (Some a) → ⊥
-no_place a h = cc
-
 pub unknown : {N : Type 0} (xs : List (Place × N)) (place : Place) → Lacks xs place
     → IsUnknown (map (λ (one : Place × N). one.0) xs) place
-unknown [] place h number is = no_place place is
-unknown (x ∷ xs) place h zero is = h.0 (same_place x.0 place is)
+unknown [] place h number is = absurd cc
+unknown (x ∷ xs) place h zero is = h.0 (cc)
 unknown (x ∷ xs) place h (suc n) is = unknown xs place h.1 n is
 
 -- what was found of a claim whose password is right
 pub admits_by : (settings : Settings) (claim : ClaimParts) (asked password user network : Text)
     (found : Option Place) → asked ≡ claim.user → password ≡ claim.password → user ≡ claim.user
-    → network ≡ claim.network
-    → option_map (λ (place : Place). (place.user, place.network)) found
-    ≡ place_of settings user network
-    → Matches settings asked password → Admits settings claim found
+    → network ≡ claim.network → option_map (λ (place : Place). (place.user, place.network)) found
+    ≡ place_of settings user network → Matches settings asked password → Admits settings claim found
 admits_by settings claim asked password user network None a p u n is right =
     λ _. sym (rw (u, n) at is)
 admits_by settings claim asked password user network (Some place) a p u n is right = (
@@ -62,25 +54,3 @@ none_for {N = N} settings networks claim found None admits h = λ place right.
     subst (IsUnknown (map (λ (one : Place × N). one.0) networks))
     (one_place found place (sym admits.1 ∙ right.1)) h
 none_for settings networks claim found (Some x) admits h = tt
-
-place_at : {N : Type 0} (xs : List (Place × N)) (number : ℕ) (place : Place) (n : N)
-    → slice_get xs number ≡ Some (place, n)
-    → slice_get (map (λ (one : Place × N). one.0) xs) number ≡ Some place
-place_at [] number place n is = cc
-place_at {N = N} (x ∷ xs) zero place n is =
-    ap (option_map (λ (one : Place × N). one.0)) is
-place_at (x ∷ xs) (suc k) place n is = place_at xs k place n is
-
--- what was let in
-pub let_in_by : {N : Type 0} (settings : Settings) (networks : List (Place × N))
-    (claim : ClaimParts) (n : N)
-    → ((place : Place) × (number : ℕ) × Admits settings claim (Some place)
-    × (slice_get networks number ≡ Some (place, n)))
-    → IsLetIn settings (map (λ (one : Place × N). one.0) networks) claim
-let_in_by settings networks claim n h = record {
-  place = h.0;
-  password = h.2.0;
-  network = h.2.1;
-  number = h.1;
-  served = place_at networks h.1 h.0 n h.3;
-}

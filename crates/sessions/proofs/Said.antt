@@ -10,8 +10,7 @@ use Rattle.std.specs.Prelude.{if◌then◌else◌}
 
 -- a line that is no QUIT
 goes_on : (m : Meant) (alone : Bool) (old : HubState) (id : ℕ) (line : Parts) (moment : ℕ)
-    (answer : Result Said HubError) (new : HubState)
-    → (m ≡ means.Quits → ⊥) → is_quit line ≡ false
+    (answer : Result Said HubError) (new : HubState) → (m ≡ means.Quits → ⊥) → is_quit line ≡ false
     → SaysBy m alone old id line moment answer new → LeavesBy line (leave_by answer)
 goes_on m alone old id line moment answer new other none h = grind arith
 

@@ -1,19 +1,19 @@
 -- A beginning of what is to be sent.
 use Rattle.{bnc_config.specs.Settings.NetworkSettings, irc_line.proofs.LinesTaken.parted}
-use Rattle.irc_line.proofs.{Pieces.lines-append, Sent.{appends_kept, appends_more, appends_nothing}}
-use Rattle.irc_line.{proofs.Sent.bytes_more, specs.{Line.Parts, Lines.{lines_of, rest_of}}}
-use Rattle.{irc_line.specs.Writing.bytes_of, std.proofs.Common.{List, Option, [], append-nil}}
+use Rattle.irc_line.{proofs.{Pieces.lines-append, Sent.bytes_more}, specs.Line.Parts}
+use Rattle.{irc_line.specs.{Lines.{lines_of, rest_of}, Writing.bytes_of}, std.proofs.Common.◌++◌}
+use Rattle.std.proofs.Common.{◌+◌, ◌-◌, ◌<◌, ◌∷◌, ◌≡◌, ◌≤◌, List, Option, [], append-nil}
 use Rattle.std.proofs.Common.{append_assoc, arith, drop, get_or, length, length-drop, refl, sym}
-use Rattle.std.proofs.Common.{take, take-add, take-append-drop, ℕ, ◌++◌, ◌+◌, ◌-◌, ◌<◌, ◌∷◌, ◌≡◌}
-use Rattle.std.{proofs.{Common.◌≤◌, lemmas.List.take_rest}, specs.Io.KnownBytes.{Appends, Keeps}}
-use Rattle.upstream.{proofs.SentLemmas.sent_bytes, specs.Handshake.{Begins, IsCauseOf, IsSendCause}}
-use Rattle.upstream.specs.{Handshake.{all_sent, lines_in, sent_for}, Registration.answer_to}
-use Rattle.upstream.specs.{Registration.first_lines, declared.handshake.DialFault.DialFault}
-use Rattle.upstream.specs.declared.handshake.DialFault.TheVariants.{Memory, Write}
+use Rattle.std.proofs.{Common.{take, take-add, take-append-drop, ℕ}, KnownBytes.Appends-kept}
+use Rattle.std.proofs.{KnownBytes.{Appends-nil, Appends-trans}, lemmas.List.take_rest}
+use Rattle.{std.specs.Io.KnownBytes.{Appends, Keeps}, upstream.proofs.SentLemmas.sent_bytes}
+use Rattle.upstream.specs.Handshake.{Begins, IsCauseOf, IsSendCause, all_sent, lines_in, sent_for}
+use Rattle.upstream.specs.Registration.{answer_to, first_lines}
+use Rattle.upstream.specs.declared.handshake.DialFault.{DialFault, TheVariants.{Memory, Write}}
 
 -- nothing is a beginning of anything
 pub begins_none : (u : Option (List ℕ)) (a : List ℕ) → Begins u u a
-begins_none u a = ([], a, appends_nothing u, refl)
+begins_none u a = ([], a, Appends-nil u, refl)
 
 -- so is all of it
 pub begins_all : (u v : Option (List ℕ)) (a : List ℕ) → Appends u v a → Begins u v a
@@ -22,7 +22,7 @@ begins_all u v a x = (a, [], x, sym (append-nil a))
 -- a beginning of what stands behind that which was sent
 begins_more : (u v w : Option (List ℕ)) (a b : List ℕ) → Appends u v a → Begins v w b
     → Begins u w (a ++ b)
-begins_more u v w a b x y = (a ++ y.0, y.1, appends_more u v w a y.0 x y.2, rw (y.3, append_assoc))
+begins_more u v w a b x y = (a ++ y.0, y.1, Appends-trans u v w a y.0 x y.2, rw (y.3, append_assoc))
 
 -- a beginning of the front is one of all
 begins_longer : (u v : Option (List ℕ)) (a b : List ℕ) → Begins u v a → Begins u v (a ++ b)
@@ -30,7 +30,7 @@ begins_longer u v a b x = (x.0, x.1 ++ b, x.2, rw (x.3, append_assoc))
 
 -- a flush keeps it
 pub begins_kept : (u v w : Option (List ℕ)) (a : List ℕ) → Begins u v a → Keeps v w → Begins u w a
-begins_kept u v w a x y = (x.0, x.1, appends_kept u v w x.0 x.2 y, x.3)
+begins_kept u v w a x y = (x.0, x.1, Appends-kept u v w x.0 x.2 y, x.3)
 
 -- where the lines go on, behind those that were answered
 pub begun_in : (network : NetworkSettings) (before done rest lines : List Parts)
@@ -54,8 +54,7 @@ begun_line network before lines i line u v w within is first next =
     (begins_longer v w _ _ next))
 
 -- a piece more gives lines more
-pub piece_more : (a b : List ℕ)
-    → (more : List Parts) × (lines_of (a ++ b) ≡ lines_of a ++ more)
+pub piece_more : (a b : List ℕ) → (more : List Parts) × (lines_of (a ++ b) ≡ lines_of a ++ more)
 piece_more a b = (lines_of (rest_of a ++ b), lines-append a b)
 
 -- what all of a registration's lines begin with
@@ -67,8 +66,7 @@ begun_all network lines u v w first next =
     rw (bytes_more (first_lines network)) (begins_more u v w _ _ first next)
 
 pub begun_first : (network : NetworkSettings) (lines : List Parts) (u v : Option (List ℕ))
-    → Begins u v (bytes_of (first_lines network))
-    → Begins u v (bytes_of (all_sent network lines))
+    → Begins u v (bytes_of (first_lines network)) → Begins u v (bytes_of (all_sent network lines))
 begun_first network lines u v first =
     rw (bytes_more (first_lines network)) (begins_longer u v _ _ first)
 
@@ -79,16 +77,15 @@ begun_part bytes done u v x =
     (take done bytes, drop done bytes, x, sym (take-append-drop done bytes))
 
 -- one write more of some bytes
-pub written_on : (bytes : List ℕ) (done count : ℕ) (u v w : Option (List ℕ))
-    → done ≤ length bytes → Appends u v (take done bytes)
-    → count ≤ length (take (length bytes - done) (drop done bytes))
+pub written_on : (bytes : List ℕ) (done count : ℕ) (u v w : Option (List ℕ)) → done ≤ length bytes
+    → Appends u v (take done bytes) → count ≤ length (take (length bytes - done) (drop done bytes))
     → Appends v w (take count (take (length bytes - done) (drop done bytes)))
     → (done + count ≤ length bytes) × Appends u w (take (done + count) bytes)
 written_on bytes done count u v w within first fits next =
     let whole = take_rest bytes done in
     let room : count ≤ length bytes - done = rw (whole, length-drop) at fits in (
       omega (arith, within, room),
-      rw take-add (appends_more u v w _ _ first (rw whole at next)),
+      rw take-add (Appends-trans u v w _ _ first (rw whole at next)),
     )
 
 -- before anything was read

@@ -24,11 +24,8 @@ ended_more : (before : List Parts) (line : Parts) → has_ended (before ++ line 
     || (nat_le 4 (tries_in before + cond (is_in_use (said line)) 1 0)
     || nat_le 10000 (length before + 1)))
 ended_more before line =
-    rw (
-      list_any-append (λ x. is_final (said x)) before (line ∷ []),
-      tries_more before line,
-      length_push before line,
-    )
+    rw (list_any-append (λ x. is_final (said x)) before (line ∷ []))
+    (rw (tries_more before line, length_push before line))
 
 -- what a line says, behind so many lines and tries
 step_at : (final : Bool) (before joins reply : List Parts) (s : Said)
@@ -83,8 +80,7 @@ failed : (w : Bool) (f : RegisterFault) (lines : List Parts)
 failed w f lines = grind arith
 
 pub ends_by_fault : (network : NetworkSettings) (before : List Parts) (line : Parts) (s : Said)
-    (f : RegisterFault)
-    → has_ended before ≡ false → s ≡ said line → Some f ≡ fault_of before s
+    (f : RegisterFault) → has_ended before ≡ false → s ≡ said line → Some f ≡ fault_of before s
     → has_ended (before ++ line ∷ []) ≡ true
 ends_by_fault network before line s f going is found =
     ended_step network before line

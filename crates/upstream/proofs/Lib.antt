@@ -3,5 +3,5 @@ pub mod Ends
 pub mod OfferLemmas
 pub mod Registered
 pub mod SentLemmas
-pub mod Writable
 pub mod ServedLemmas
+pub mod Writable

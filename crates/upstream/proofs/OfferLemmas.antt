@@ -26,9 +26,8 @@ offered_by_more : (before : List Parts) (line : Parts) (offered : Offered)
 offered_by_more before line offered at = rw at (simp offered_more)
 
 -- a line that has no list offers nothing
-pub offers_nothing : (before : List Parts) (line : Parts) (offered : Offered)
-    → is_list (said line) ≡ false
-    → offered ≡ offered_by before → offered ≡ offered_by (before ++ line ∷ [])
+pub offers_nothing : (before : List Parts) (line : Parts) (offered : Offered) → is_list (said line)
+    ≡ false → offered ≡ offered_by before → offered ≡ offered_by (before ++ line ∷ [])
 offers_nothing before line offered none at =
     rw (offered_by_more before line offered at, none) (simp or-false)
 

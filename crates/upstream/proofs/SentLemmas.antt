@@ -1,16 +1,17 @@
 -- What is sent, and what is read.
 use Rattle.{bnc_config.specs.Settings.NetworkSettings, irc_line.proofs.LinesTaken.{behind, parted}}
-use Rattle.irc_line.{proofs.{LinesTaken.up_to, Sent.{appends_more, bytes_more}}, specs.Line.Parts}
+use Rattle.irc_line.{proofs.{LinesTaken.up_to, Sent.bytes_more}, specs.Line.Parts}
 use Rattle.irc_line.specs.{Lines.{is_too_long, lines_of}, Writing.bytes_of}
-use Rattle.std.proofs.Common.{Bool, List, Option, [], append-nil, append_assoc, arith, drop, false}
-use Rattle.std.proofs.Common.{get_or, length, take, ℕ, ◌++◌, ◌+◌, ◌<◌, ◌∙◌, ◌∷◌, ◌≡◌}
-use Rattle.std.{proofs.lemmas.Bool.or_from, specs.{Io.KnownBytes.Appends, Prelude.if◌then◌else◌}}
-use Rattle.upstream.{proofs.Ends.ended_step, specs.Handshake.{IsCauseOf, IsLinesCause, IsStepCause}}
-use Rattle.upstream.specs.{Handshake.{all_sent, lines_in, sent_for}, Registration.answer_to}
-use Rattle.upstream.specs.Registration.{fails_or_sends, fault_of, first_lines, has_ended, is_end}
-use Rattle.upstream.specs.Registration.{is_welcome, join_lines, reply_to, sends, welcomes}
-use Rattle.upstream.specs.{Said.said, declared.handshake.DialFault.{DialFault, TheVariants.Memory}}
-use Rattle.upstream.specs.declared.handshake.DialFault.TheVariants.{Register, Write}
+use Rattle.std.proofs.Common.{◌++◌, ◌+◌, ◌<◌, ◌∙◌, ◌∷◌, ◌≡◌, Bool, List, Option, [], append-nil}
+use Rattle.std.proofs.Common.{append_assoc, arith, drop, false, get_or, length, take, ℕ}
+use Rattle.std.{proofs.{KnownBytes.Appends-trans, lemmas.Bool.or_from}, specs.Io.KnownBytes.Appends}
+use Rattle.{std.specs.Prelude.if◌then◌else◌, upstream.proofs.Ends.ended_step}
+use Rattle.upstream.specs.Handshake.{IsCauseOf, IsLinesCause, IsStepCause, all_sent, lines_in}
+use Rattle.upstream.specs.{Handshake.sent_for, Registration.{answer_to, fails_or_sends, fault_of}}
+use Rattle.upstream.specs.Registration.{first_lines, has_ended, is_end, is_welcome, join_lines}
+use Rattle.upstream.specs.{Registration.{reply_to, sends, welcomes}, Said.said}
+use Rattle.upstream.specs.declared.handshake.DialFault.{DialFault, TheVariants.{Memory, Register}}
+use Rattle.upstream.specs.declared.handshake.DialFault.TheVariants.{Write}
 use Rattle.upstream.specs.declared.registration.RegisterFault.{RegisterFault}
 
 -- lines that are sent for some lines and for more
@@ -22,9 +23,8 @@ sent_append network before (x ∷ xs) b =
     rw (sent_append network (before ++ x ∷ []) xs b) (simp append_assoc)
 
 -- the same by their bytes
-pub sent_bytes : (network : NetworkSettings) (before done rest lines : List Parts)
-    → lines ≡ done ++ rest
-    → bytes_of (sent_for network before lines)
+pub sent_bytes : (network : NetworkSettings) (before done rest lines : List Parts) → lines
+    ≡ done ++ rest → bytes_of (sent_for network before lines)
     ≡ bytes_of (sent_for network before done) ++ bytes_of (sent_for network (before ++ done) rest)
 sent_bytes network before done rest lines is =
     rw (is, sent_append network before done rest) (bytes_more (sent_for network before done) _)
@@ -38,8 +38,7 @@ welcome_in : (ended w : Bool) (joins lines replies : List Parts) (f : Option Reg
 welcome_in ended w joins lines replies f is = grind arith
 
 pub welcome_is : (network : NetworkSettings) (before : List Parts) (line : Parts)
-    (lines : List Parts)
-    → welcomes lines ≡ answer_to network before line
+    (lines : List Parts) → welcomes lines ≡ answer_to network before line
     → answer_to network before line ≡ welcomes (join_lines network)
 welcome_is network before line lines is =
     welcome_in (has_ended before) (is_welcome (said line)) (join_lines network) lines
@@ -59,7 +58,7 @@ module _ (network : NetworkSettings) (before lines : List Parts) (i : ℕ) (line
   sent_step u v w first next =
       let one = up_to lines i line within is in
       rw (sent_bytes network before (take i lines) (line ∷ []) _ one, append-nil)
-      (appends_more u v w _ _ first next)
+      (Appends-trans u v w _ _ first next)
 
   pub still_going : has_ended (before ++ take i lines) ≡ false
       → is_end (answer_to network (before ++ take i lines) line) ≡ false
@@ -85,7 +84,7 @@ pub sent_for_more : (network : NetworkSettings) (a b lines : List Parts) (u v w 
     → Appends u v (bytes_of (sent_for network [] a)) → Appends v w (bytes_of (sent_for network a b))
     → Appends u w (bytes_of (sent_for network [] lines))
 sent_for_more network a b lines u v w is first next =
-    rw (sent_bytes network [] a b lines is) (appends_more u v w _ _ first next)
+    rw (sent_bytes network [] a b lines is) (Appends-trans u v w _ _ first next)
 
 -- the first lines, and what is sent for these
 pub all_sent_is : (network : NetworkSettings) (lines : List Parts) (u v w : Option (List ℕ))
@@ -93,7 +92,7 @@ pub all_sent_is : (network : NetworkSettings) (lines : List Parts) (u v w : Opti
     → Appends v w (bytes_of (sent_for network [] lines))
     → Appends u w (bytes_of (all_sent network lines))
 all_sent_is network lines u v w first next =
-    rw (bytes_more (first_lines network)) (appends_more u v w _ _ first next)
+    rw (bytes_more (first_lines network)) (Appends-trans u v w _ _ first next)
 
 pub all_lines_cause : (network : NetworkSettings) (bytes : List ℕ) (f : DialFault)
     → is_too_long bytes ≡ false → IsLinesCause network [] (lines_of bytes) f

@@ -7,28 +7,21 @@ loop-init g c = rw c.lend_buffer.ensures.end (under_way_first (items_of c.args.e
     (g.W.Write.contents c.args.out) (rest_of c.new-backlog.result) c.new-backlog.ensures)
 
 pub loop-preserved-in-Some-take_packet : goal.loop-preserved-in-Some-take_packet
-loop-preserved-in-Some-take_packet g c = under_way_more (items_of c.args.end)
-    (items_of c.loop.end) (items_of c.take_packet.new.end) (g.W.Write.contents c.args.out)
-    (g.W.Write.contents c.loop.out) (rest_of c.loop.backlog) (rest_of c.take_packet.new.backlog)
-    c.loop.count _ c.in-Some-take_packet.bytes c.loop.invariant c.in-Some-take_packet.ensures
-    c.saturating_add-count.ensures
+loop-preserved-in-Some-take_packet g c =
+    under_way_more c.loop.invariant c.in-Some-take_packet.ensures c.saturating_add-count.ensures
 
 pub returns-then-not-write_once-clause-written : goal.returns-then-not-write_once-clause-written
 returns-then-not-write_once-clause-written g c =
     let done = c.handed_back.ensures.parts in
     rw (done.0, done.1, done.2, done.3)
-    (ends_early _ _ _ _ _ _ _ _
-    (under_way_still c.loop.invariant c.in-None-take_packet.ensures
+    (ends_early (under_way_still c.loop.invariant c.in-None-take_packet.ensures
     c.write_once.ensures.wrote c.write_once.ensures.end) c.is_fresh-fresh.ensures)
 
 pub handed_back-requires : goal.handed_back-requires
-handed_back-requires g c = (
-  _,
-  _,
-  ends_early _ _ _ _ _ _ _ _
-      (under_way_still c.loop.invariant c.in-None-take_packet.ensures
-      c.write_once.ensures.wrote c.write_once.ensures.end) c.is_fresh-fresh.ensures,
-)
+handed_back-requires g c =
+    let still = under_way_still c.loop.invariant c.in-None-take_packet.ensures
+    c.write_once.ensures.wrote c.write_once.ensures.end in
+    (_, _, ends_early still c.is_fresh-fresh.ensures)
 
 pub loop-preserved-then-is_empty : goal.loop-preserved-then-is_empty
 loop-preserved-then-is_empty g c =

@@ -1,6 +1,6 @@
 use Rattle.sessions.proofs.arrival.take_line.Goals as goal
-use Rattle.{irc_line.proofs.Sent.appends_nothing, sessions.proofs.Sent.sent_by}
-use Rattle.{sessions.specs.Answers.is_end, std.proofs.Common.{ap, sym}}
+use Rattle.{sessions.{proofs.Sent.sent_by, specs.Answers.is_end}, std.proofs.Common.{ap, sym}}
+use Rattle.std.proofs.KnownBytes.{Appends-nil}
 
 pub returns-in_ok-send-in-Send-clause-sent : goal.returns-in_ok-send-in-Send-clause-sent
 returns-in_ok-send-in-Send-clause-sent g c = λ before taken.
@@ -14,7 +14,7 @@ returns-in_ok-send-in-Send-clause-going g c = λ before taken.
 pub returns-in-Done-clause-sent : goal.returns-in-Done-clause-sent
 returns-in-Done-clause-sent g c = λ before taken.
     sent_by _ _ (rw c.in-Done.is at (c.in_ok-lines.ensures.answer before taken))
-    (appends_nothing _)
+    (Appends-nil _)
 
 pub returns-in-Done-clause-ended : goal.returns-in-Done-clause-ended
 returns-in-Done-clause-ended g c = λ before taken.

@@ -1,24 +1,16 @@
 use Rattle.upstream.proofs.handshake.register.Goals as goal
 use Rattle.irc_line.{proofs.Outcomes.{err_more, ok_more, refused_by}, specs.Lines.lines_of}
-use Rattle.{irc_line.specs.Writing.bytes_of, std.proofs.Common.{List, [], ℕ, ◌++◌, ◌∷◌}}
+use Rattle.{irc_line.specs.Writing.bytes_of, std.proofs.Common.{List, [], ℕ}}
 use Rattle.std.{proofs.KnownBytes.Consumes-nil, specs.Io.KnownBytes.Consumes}
 use Rattle.upstream.proofs.BegunLemmas.{begun_all, begun_first, cause_of_none}
-use Rattle.upstream.{proofs.SentLemmas.all_sent_is, specs.Handshake.{Begins, IsCauseOf, all_sent}}
+use Rattle.upstream.{proofs.Registered.all_welcomed, specs.Handshake.{Begins, IsCauseOf, all_sent}}
 
 pub returns-clause-ok : goal.returns-clause-ok
 returns-clause-ok g c =
     let network = c.args.network.now in
-    ok_more _ _ c.complete.result (λ w known. (
-      known.0,
-      known.1,
-      known.2,
-      known.3,
-      known.4,
-      known.5,
-      known.6,
-      known.7,
-      all_sent_is network (known.1 ++ known.2 ∷ []) _ _ _ c.in_ok-register.ensures.sent known.8,
-    )) (c.complete.ensures.ok network c.in_ok-register.ensures.taken)
+    ok_more _ _ c.complete.result
+    (λ w. all_welcomed network _ _ _ _ _ w.lines.items w.splitter c.in_ok-register.ensures.sent)
+    (c.complete.ensures.ok network c.in_ok-register.ensures.taken)
 
 pub returns-in_err-register-clause-err : goal.returns-in_err-register-clause-err
 returns-in_err-register-clause-err g c =

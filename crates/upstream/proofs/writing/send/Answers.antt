@@ -1,7 +1,7 @@
 use Rattle.upstream.specs.declared.handshake.DialFault.TheVariants as fault
 use Rattle.upstream.proofs.writing.send.Goals as goal
-use Rattle.irc_line.proofs.{Outcomes.{not_ok, refused_by}, Sent.appends_kept}
-use Rattle.{irc_line.specs.Writing.bytes_of, std.proofs.{Common.arith, lemmas.List.take_all}}
+use Rattle.irc_line.{proofs.Outcomes.{not_ok, refused_by}, specs.Writing.bytes_of}
+use Rattle.std.proofs.{Common.arith, KnownBytes.Appends-kept, lemmas.List.take_all}
 use Rattle.upstream.{proofs.BegunLemmas.begins_none, specs.Handshake.IsSendCause}
 
 pub returns-in_err-write-clause-sent : goal.returns-in_err-write-clause-sent
@@ -17,7 +17,7 @@ returns-clause-sent g c =
     let all = take_all c.loop-line.line-index c.args.lines.now
     (omega (arith, c.loop-line-test.false)) in
     rw (c.as_slice.ensures.value, c.loop-line.invariant, all)
-    at (appends_kept _ _ _ c.as_slice.result.now c.in_ok-write_whole.ensures.whole
+    at (Appends-kept _ _ _ c.as_slice.result.now c.in_ok-write_whole.ensures.whole
     c.flush.ensures.bytes)
 
 pub returns-in_err-write-clause-begun : goal.returns-in_err-write-clause-begun

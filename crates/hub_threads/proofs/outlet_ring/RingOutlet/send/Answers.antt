@@ -1,7 +1,7 @@
 use Rattle.hub_threads.proofs.outlet_ring.RingOutlet.send.Goals as goal
 use Rattle.hub_threads.proofs.{Lists.packets_in_lines, Rooms.took_and_found}
 use Rattle.hub_threads.specs.{Queues.packets_in, declared.queued.Queued.Queued}
-use Rattle.{rtrb.specs.Ring.sent, std.proofs.Common.{List, ap, rules, sym, ◌∙◌}}
+use Rattle.{rtrb.specs.Ring.sent, std.proofs.Common.{◌∙◌, List, ap, rules, sym}}
 
 pub returns-in-Ok-clause-taken : goal.returns-in-Ok-clause-taken
 returns-in-Ok-clause-taken c =
@@ -17,9 +17,5 @@ returns-in-Ok-clause-taken c =
 pub returns-in-Ok-clause-ends : goal.returns-in-Ok-clause-ends
 returns-in-Ok-clause-ends c end ends =
     let ring = c.push.ensures.ring.0 in
-    c.look_for_room.ensures.ends end (
-      ends.0 ∙ sym ring.0,
-      ends.1 ∙ sym ring.1,
-      ends.2 ∙ sym ring.2,
-      ends.3 ∙ sym ring.3,
-    )
+    c.look_for_room.ensures.ends end
+    (ends.0 ∙ sym ring.0, ends.1 ∙ sym ring.1, ends.2 ∙ sym ring.2, ends.3 ∙ sym ring.3)
