@@ -4,23 +4,18 @@ use Rattle.commands.specs.Attach.{last_messages, message_in, room_of}
 use Rattle.history.{proofs.{LastMessages.one_more, Retained.nothing_passes}, specs.Entry.EntryParts}
 use Rattle.history.specs.Messages.{Messages, missed_by, missed_of, target_key, target_limit}
 use Rattle.history.specs.{Messages.with_message, Retained.{is_held, is_retained, is_to, retained}}
-use Rattle.{history.specs.Retained.was_held, irc_line.specs.{Line.Parts, Tags.has_form}}
-use Rattle.irc_line.specs.Tags.{is_tag_byte, time_form, time_of, time_value, value_behind}
-use Rattle.{net_view.specs.Arrival.Arrival, std.proofs.Common.{Bool, List, None, Option, Some, []}}
-use Rattle.std.proofs.Common.{ap, append-nil, arith, codes, cond, refl, sym, true, ℕ, ◌++◌, ◌∷◌}
-use Rattle.std.proofs.{Common.◌≡◌, lemmas.{Bool.le-ltb, List.Elements.filter_map-append}}
-use Rattle.std.specs.List.{cons_option, enumerate_from, filter_map, list_all}
-use Rattle.std.specs.{Option.{option_and_then, option_map_or}, Prelude.{filter, length, ◌&&◌}}
+use Rattle.{history.specs.Retained.was_held, irc_line.specs.{Line.Parts, Tags.is_tag_byte}}
+use Rattle.irc_line.specs.Tags.{time_form, time_of, time_value, value_behind}
+use Rattle.{net_view.specs.Arrival.Arrival, std.proofs.Common.{◌++◌, ◌∷◌, ◌≡◌, List, None, Option}}
+use Rattle.std.proofs.Common.{Some, [], ap, append-nil, arith, codes, refl, sym, true, ℕ}
+use Rattle.std.proofs.lemmas.{Bool.le-ltb, List.Elements.filter_map-append}
+use Rattle.std.specs.{List.{enumerate_from, filter_map, list_all}, Option.option_and_then}
+use Rattle.std.specs.{Option.option_map_or, Prelude.{◌&&◌, filter, length}}
 
 -- the time of a line is made of what a tag's value is made of
 value_tagged : (value time : List ℕ) → time_value value ≡ Some time
     → list_all is_tag_byte time ≡ true
-value_tagged value time e =
-    tested (has_form time_form value) (formed time_form value refl) e
-  where
-    tested : (b : Bool) → (b ≡ true → list_all is_tag_byte value ≡ true)
-        → cond b (Some value) None ≡ Some time → list_all is_tag_byte time ≡ true
-    tested b tagged e = grind arith
+value_tagged value time e = grind (arith, formed time_form value refl)
 
 pub time_tagged : (line : Parts) (time : List ℕ) → time_of line ≡ Some time
     → list_all is_tag_byte time ≡ true
@@ -38,23 +33,18 @@ time_tagged line time e = in_tags line.tags e where
 
 -- ---- the messages that are retained
 
-messages_on : (items : List Arrival) (x : Arrival)
-    → filter_map message_in (items ++ x ∷ [])
-    ≡ filter_map message_in items ++ cons_option (message_in x) []
-messages_on items x = filter_map-append message_in items (x ∷ [])
-
 -- one message more
 pub message_more : (n : ℕ) (items : List Arrival) (x : Arrival) (entry : EntryParts) (number : ℕ)
     (held : Messages) → held ≡ kept_of n items → held.next ≡ Some number
     → message_in x ≡ Some entry → with_message number entry held ≡ kept_of n (items ++ x ∷ [])
 message_more n items x entry number held is next e =
-    rw (is, messages_on items x, e)
+    rw (is, filter_map-append message_in items (x ∷ []), e)
     (one_more n 1 number (filter_map message_in items) entry (rw is at next))
 
 -- a line that is none
 pub no_message : (n : ℕ) (items : List Arrival) (x : Arrival) (held : Messages)
     → held ≡ kept_of n items → message_in x ≡ None → held ≡ kept_of n (items ++ x ∷ [])
-no_message n items x held is e = rw (is, messages_on items x, e, append-nil)
+no_message n items x held is e = rw (is, filter_map-append message_in items (x ∷ []), e, append-nil)
 
 -- where none is to be kept, none is
 none_passes : (ms : List (ℕ × EntryParts)) → retained target_key target_limit 0 ms ≡ []

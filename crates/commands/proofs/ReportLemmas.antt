@@ -2,11 +2,11 @@
 use Rattle.commands.specs.Report.{channel_lines, member_line, member_lines, text_of}
 use Rattle.{irc_line.specs.Lines.with_lf, net_view.specs.Readers.{MemberParts, channel_shown}}
 use Rattle.net_view.specs.{Readers.member_parts, Text.Text, View.{Channel, View}}
-use Rattle.{net_view.specs.Walks.member_parts_at, std.proofs.Common.{List, None, Option, Some, []}}
-use Rattle.std.proofs.Common.{ap, append-nil, append_assoc, map, refl, take, ℕ, ◌++◌, ◌+◌, ◌≡◌}
+use Rattle.{net_view.specs.Walks.member_parts_at, std.proofs.Common.{◌++◌, ◌+◌, ◌≡◌, List, [], ap}}
+use Rattle.std.proofs.Common.{append-nil, append_assoc, arith, map, take, ℕ}
 use Rattle.std.{proofs.lemmas.{Grind.flat_map-append, Simd.map-map}, specs.FinMap.entries}
-use Rattle.std.specs.{List.{flat_map, slice_get}, Option.{option_map, option_map_or}}
-use Rattle.{std.specs.Prelude.option_to_list, welcome.proofs.Places.flat_next}
+use Rattle.std.specs.{List.flat_map, Option.{option_map, option_map_or}}
+use Rattle.welcome.proofs.Places.{flat_next}
 
 -- the lines of members
 abbrev pub members_text : View → List MemberParts → List ℕ
@@ -14,13 +14,7 @@ members_text v members = text_of (map (member_line v.settings) members)
 
 pub members_are : (v : View) (i : ℕ) → members_text v (member_parts_at v i)
     ≡ option_map_or (λ (ch : Channel). text_of (member_lines v ch)) (channel_shown v i) []
-members_are v i = of_channel (channel_shown v i) where
-  of_channel : (o : Option Channel) → members_text v
-      (map (member_parts v) (option_map_or (λ (ch : Channel). entries ch.members) o []))
-      ≡ option_map_or (λ (ch : Channel). text_of (member_lines v ch)) o []
-  of_channel None = refl
-  of_channel (Some ch) =
-      ap text_of (map-map (member_line v.settings) (member_parts v) (entries ch.members))
+members_are v i = grind (arith, map-map (member_line v.settings) (member_parts v))
 
 -- the channels that stand before a place
 abbrev pub channels_before : View → ℕ → List ℕ
@@ -35,13 +29,7 @@ channels_more v i =
     let lines = λ (e : Text × Channel). channel_lines v e.1 in
     let es = entries v.channels in
     rw (flat_next lines es i, flat_map-append with_lf (flat_map lines (take i es)))
-    (ap (λ t. channels_before v i ++ t) (one (slice_get es i))) where
-      one : (o : Option (Text × Channel))
-          → text_of (flat_map (λ (e : Text × Channel). channel_lines v e.1) (option_to_list o))
-          ≡ option_map_or (λ (ch : Channel). text_of (channel_lines v ch)) (option_map (λ e. e.1) o)
-          []
-      one None = refl
-      one (Some e) = ap text_of (append-nil (channel_lines v e.1))
+    (grind (arith, append-nil))
 
 pub channel_pushed : (v : View) (i : ℕ) (before now : List ℕ) → now ≡ before ++ channels_before v i
     → now ++ option_map_or (λ (ch : Channel). text_of (channel_lines v ch)) (channel_shown v i) []

@@ -1,8 +1,8 @@
 use Rattle.commands.proofs.report.push_symbols.Goals as goal
-use Rattle.commands.proofs.MemberLemmas.{rank_not_held, rank_passed, ranks_all}
+use Rattle.commands.proofs.MemberLemmas.{rank_passed, ranks_all}
 use Rattle.commands.proofs.report.push_symbols.Goals.{else-has, then-has+in-Some+in_ok-push}
-use Rattle.{commands.proofs.report.push_symbols.Goals.then-has+in_default, std.proofs.Common.None}
-use Rattle.std.proofs.Common.{Some, append-nil, arith, sym, true, ◌<◌, ◌∙◌, ◌≡◌}
+use Rattle.{commands.proofs.report.push_symbols.Goals.then-has+in_default, std.proofs.Common.◌<◌}
+use Rattle.std.proofs.Common.{◌∙◌, ◌≡◌, None, Some, append-nil, arith, false, refl, sym, true}
 
 pub loop-rank-preserved : goal.loop-rank-preserved
 loop-rank-preserved g c =
@@ -25,9 +25,9 @@ loop-rank-preserved g c =
             (sym w.if-has.true ∙ c.has.ensures.value)
             (rw (← w.in_default.is, ← w.support.ensures) w.symbol.ensures) so_far)
         | else-has w ↦
-            rw w.report-is
-            (rank_not_held settings ranks rank c.has.result before now c.has.ensures.value
-            w.if-has.false so_far)
+            rw (w.report-is, ← append-nil now)
+            (rank_passed settings ranks rank false _ before now
+            (sym w.if-has.false ∙ c.has.ensures.value) refl so_far)
       ];
       set = λ _. c.has.ensures.set;
     }

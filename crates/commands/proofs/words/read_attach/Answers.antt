@@ -1,7 +1,7 @@
 use Rattle.commands.proofs.words.read_attach.Goals as goal
 use Rattle.clap.{proofs.WalkLemmas.first_value-rows, specs.Words.{first_of, found_of, rows_of}}
-use Rattle.commands.proofs.WordsLemmas.{no_attach, no_text, one_list, one_number}
-use Rattle.std.proofs.Common.{None, ap, codes, option_map, refl, sym, ◌∙◌, ◌≡◌}
+use Rattle.{commands.proofs.WordsLemmas.{no_attach, one_list, one_number}, std.proofs.Common.◌∙◌}
+use Rattle.std.proofs.Common.{◌≡◌, None, ap, codes, option_map, refl, sym}
 
 pub returns-in_default-clause-refused : goal.returns-in_default-clause-refused
 returns-in_default-clause-refused c =
@@ -10,7 +10,7 @@ returns-in_default-clause-refused c =
     let none : None ≡ first_of (codes "caps") (rows_of found) =
     ap (option_map (λ s. s.now)) (sym c.in_default.is) ∙ c.get_str.ensures
     ∙ first_value-rows found (codes "caps") in
-    no_text asks.0 (none ∙ asks.1))
+    cc (none, asks.1))
 
 pub returns-in_default-get_str-clause-refused : goal.returns-in_default-get_str-clause-refused
 returns-in_default-get_str-clause-refused c =
@@ -19,7 +19,7 @@ returns-in_default-get_str-clause-refused c =
     let none : None ≡ first_of (codes "history") (rows_of found) =
     ap (option_map (λ s. s.now)) (sym c.in_default-get_str.is) ∙ c.get_str-2.ensures
     ∙ first_value-rows found (codes "history") in
-    no_text asks.3 (none ∙ asks.4))
+    cc (none, asks.4))
 
 pub returns-in_default-history_in-clause-refused
     : goal.returns-in_default-history_in-clause-refused
@@ -48,6 +48,6 @@ pub returns-in-None-clause-refused : goal.returns-in-None-clause-refused
 returns-in-None-clause-refused c =
     let found = found_of c.args.matches.now in
     no_attach (rows_of found) (λ caps n asks.
-    no_text caps (sym (sym c.in_ok-caps.ensures ∙ c.in-None.is)
-    ∙ one_list (rows_of found) caps n c.in-Some.list.now
-    (sym (first_value-rows found (codes "caps")) ∙ sym c.in-Some.ensures) asks))
+    let none = sym c.in_ok-caps.ensures ∙ c.in-None.is in
+    let list = sym (first_value-rows found (codes "caps")) ∙ sym c.in-Some.ensures in
+    cc (none, one_list (rows_of found) caps n c.in-Some.list.now list asks))
