@@ -4,7 +4,7 @@ use Words.{◌<◌, ◌∷◌, ◌≡◌, Bool, Changed, ForSome, HasAccount, If
 use Words.{IsKept, Joined, LetterChange, List, Listed, Listing, ModeChange, Name, None, Option}
 use Words.{Parts, Present, Renamed, Some, Text, Titled, Token, Told, Welcomed, [], arith, cond}
 use Words.{filter_map, has_rank, is_channel, is_nameable, key_by, kind_of, listing, option_and_then}
-use Words.{position-Some, rank_limit, ranking_of, true, unwrap_or, word_of, ℕ, ⊤}
+use Words.{position-Some, rank_limit, true, unwrap_or, word_of, ℕ, ⊤}
 use Rattle.irc_support.proofs.{RankPlaces.ranking_of-is, Spelling.paired}
 use Rattle.{irc_support.specs.NamesReply.shows_rank, net_view.proofs.RankSets.has_of_set}
 use Rattle.{net_view.specs.StateLines.actor_nick, std.proofs.lemmas.Bool.eqb-true}

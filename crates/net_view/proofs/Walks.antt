@@ -1,7 +1,7 @@
 -- Walks through what a view shows of a channel: what is left behind a place.
 use Rattle.std.specs.FinMap as fin
 use Rattle.net_view.proofs.Words.{◌+◌, ◌∷◌, ◌≡◌, IfSome, List, None, Option, Some, Text, View, []}
-use Rattle.net_view.proofs.Words.{arith, nat_cmp, option_map, slice_get, suc, sym, true, ℕ}
+use Rattle.net_view.proofs.Words.{arith, nat_cmp, option_map, slice_get, suc, true, ℕ}
 use Rattle.net_view.specs.{Readers.{MemberParts, member_shown, mode_shown}, Walks.member_parts_at}
 use Rattle.net_view.specs.{Walks.{modes_at, parts_of}, declared.channel.Member.Member}
 use Rattle.std.proofs.{Common.{◌≤◌, add-one, drop, zero}, lemmas.Option.slice_get_within}

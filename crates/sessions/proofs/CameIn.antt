@@ -22,7 +22,8 @@ module _ {N : Type 0} (settings : Settings) (networks : List (Place × N)) (clai
   -- its login ended with a claim, and the claim was let in
   pub came_in_by : {began left was now : Option (List ℕ)} {ending : Ending} {lines : List Parts}
       {splitter : Pending} → LogsIn began left was now ending lines splitter
-      → ending ≡ Claims claim → CameIn settings (map (λ (one : Place × N). one.0) networks) began was
+      → ending ≡ Claims claim
+      → CameIn settings (map (λ (one : Place × N). one.0) networks) began was
   came_in_by login is = record {
     claim = claim;
     left = _;

@@ -6,7 +6,7 @@ use Rattle.{irc_line.specs.declared.input.InputEnd.InputEnd, sessions.proofs.Sen
 use Rattle.sessions.{proofs.Sent.sent_for_more, specs.{Answers.has_ended, Logins.EndsLogin}}
 use Rattle.sessions.specs.Logins.{GoesOn, IsCauseOf, IsEndAt, LogsIn, outcome_of, sent_for}
 use Rattle.sessions.specs.{Progress.Progress, Taken.HasTaken, declared.arrival.LastLine.LastLine}
-use Rattle.sessions.specs.declared.fault.LoginFault.{LoginFault, TheVariants.{Read, TooLong}}
+use Rattle.sessions.specs.declared.fault.LoginFault.{LoginFault}
 use Rattle.std.proofs.Common.{◌++◌, ◌+◌, ◌∙◌, ◌∷◌, ◌≡◌, Err, List, Ok, Option, Result, [], ap}
 use Rattle.std.proofs.Common.{append_assoc, drop, false, refl, sym, take, ℕ}
 use Rattle.std.specs.Io.KnownBytes.{Appends, Consumes}

@@ -35,7 +35,8 @@ module _ (first : Progress) (u v w : Option (List ℕ)) (old : Progress) (before
     (h : GoesOn first u v old before) where
   pub goes_on : (new : Progress)
       → Of old (λ network before. HasTaken network (before ++ lines) new
-      × (has_ended (before ++ lines) ≡ false) × Appends v w (bytes_of (sent_for network before lines)))
+      × (has_ended (before ++ lines) ≡ false)
+      × Appends v w (bytes_of (sent_for network before lines)))
       → GoesOn first u w new (before ++ lines)
   goes_on new next network taken =
       let so_far = h network taken in
@@ -119,7 +120,8 @@ Known first P = (network : NetworkSettings) → HasTaken network [] first → P 
 
 module _ (N : Type 0) (u w was now : Option (List ℕ)) (first login : Progress) (t : Pending) where
   at_welcome : (bytes : List ℕ) (end : FromWelcome) → Consumes u w bytes → t ≡ fed start bytes
-      → EndsSo first was now (lines_of bytes) (Ok end) → Known first (Outcome u w was now t (Ok end))
+      → EndsSo first was now (lines_of bytes) (Ok end)
+      → Known first (Outcome u w was now t (Ok end))
   at_welcome bytes end read held h network taken =
       let why = h network taken in
       (bytes, why.0, why.1, why.2, read, why.3, why.4, held, why.5)

@@ -43,5 +43,6 @@ returns-in_default-let_in g c =
       lines = _;
       splitter = _;
       login = rw c.in-Claims.is at c.in-Ok.ensures.ok;
-      why = inr (λ l. c.in_default-let_in.ensures.none l.place (l.password, l.network) l.number l.served);
+      why = inr (λ l. c.in_default-let_in.ensures.none l.place (l.password, l.network)
+          l.number l.served);
     })
