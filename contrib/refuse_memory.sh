@@ -3,27 +3,25 @@
 # and its nth allocation is refused. It ends with status 1 at the first answer that is neither that
 # of the run with memory nor a refusal by its name, and says which n that was.
 #
-#   sh contrib/refuse_memory.sh          all of it
-#   sh contrib/refuse_memory.sh small    a fixed small part, as .ci/run has it
-#
 # `bnc view`, `attach` and `check` answer in full, or with `bnc: out of memory`, status 1 and
-# nothing printed. The tests `once_refused` of the crate transcripts_sessions pass, or say that
-# memory was refused to the test itself: what a refused call promises, and that the call made again
-# answers as ever, is looked at in them.
+# nothing printed. The tests `once_refused` pass, or say that memory was refused to the test itself:
+# what a refused call promises, and that the call made again answers as ever, is looked at in them.
 #
-# It runs the programs that `rt ci` leaves in crates/bnc/out and crates/transcripts_sessions/out;
-# BNC and TESTS name others. It needs a C compiler, `cc` or the one of the kit.
+# It runs the programs that `rt ci` leaves in the folders out of the crates; BNC and TESTS (a list)
+# name others. It needs a C compiler, `cc` or the one of the kit.
 set -eu
 cd "$(dirname "$0")/.."
-part=${1:-all}
-bnc=${BNC:-$PWD/crates/bnc/out/bnc}
-tests=${TESTS:-$PWD/crates/transcripts_sessions/out/transcripts_sessions_tests}
+bnc=${BNC:-crates/bnc/out/bnc}
+tests=${TESTS:-
+  crates/tests_hub/out/tests_hub_tests
+  crates/tests_handshakes/out/tests_handshakes_tests
+  crates/tests_threads/out/tests_threads_tests}
 most=20000
 
-for program in "$bnc" "$tests"; do
+for program in "$bnc" $tests; do
   if ! [ -x "$program" ]; then
     echo "refuse_memory: there is no $program: run rt ci first" >&2
-    exit 2
+    exit 1
   fi
 done
 
@@ -74,7 +72,8 @@ fault() {
 
 # sweep NAME KIND STATUS COMMAND..: refuses each allocation of a command that reads $at/input, and
 # ends with this status where none is refused
-all=0
+sweeps=0
+refusals=0
 sweep() {
   name=$1; kind=$2; full=$3; shift 3
   n=0
@@ -90,8 +89,8 @@ sweep() {
   done
   is_full || fault
   [ $n -gt 1 ] || fault
-  echo "$name: $((n - 1)) refusals"
-  all=$((all + n - 1))
+  sweeps=$((sweeps + 1))
+  refusals=$((refusals + n - 1))
 }
 
 joined() {
@@ -127,7 +126,6 @@ programs() {
   joined > "$at/input"
   sweep "bnc view of a channel" bnc 0 "$bnc" view
   sweep "bnc attach to a channel" bnc 0 "$bnc" attach
-  [ "$part" = all ] || return 0
   busy > "$at/input"
   sweep "bnc view of a busy channel" bnc 0 "$bnc" view
   sweep "bnc attach to a busy channel" bnc 0 "$bnc" attach --history 2 \
@@ -140,18 +138,22 @@ programs() {
   sweep "bnc --help" bnc 0 "$bnc" --help
 }
 
+# repeated_calls PROGRAM: the tests `once_refused` of a program, of which there has to be one
 repeated_calls() {
   : > "$at/input"
-  "$tests" --list > "$at/list"
-  for test in $(sed -n 's/^\(once_refused::.*\): test$/\1/p' "$at/list"); do
-    case $part-$test in
-      all-*|small-*::talking::*|small-*::handshakes::lines_*)
-        sweep "$test" test 0 "$tests" "$test" ;;
-    esac
+  "$1" --list > "$at/list"
+  sed -n 's/^\(once_refused::.*\): test$/\1/p' "$at/list" > "$at/names"
+  if ! [ -s "$at/names" ]; then
+    echo "refuse_memory: $1 has no test once_refused" >&2
+    exit 1
+  fi
+  for test in $(cat "$at/names"); do
+    sweep "$test" test 0 "$1" "$test"
   done
 }
 
 programs
-repeated_calls
-[ $all -gt 0 ] || exit 1
-echo "ok: $all refusals, no fault"
+for program in $tests; do
+  repeated_calls "$program"
+done
+echo "refuse_memory: $refusals refusals in $sweeps runs, no fault"

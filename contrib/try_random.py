@@ -9,8 +9,8 @@ mid line. After each round the nick, channels, topics, modes and members of ever
 tell them, are compared with the network's own; at the end each client name must have got every
 message exactly once, and the network what the clients said. The same seed gives the same lines.
 
-It uses two ports of the loopback range, from 20000 on, and a folder that it makes and removes. It
-prints `ok` and counts, or what was wrong, with status 1.
+It uses two free ports of the loopback range, and a folder that it makes and removes. It prints `ok`
+and counts, or what was wrong, with status 1; also if something has not come after 60 seconds.
 """
 
 import collections
@@ -29,7 +29,7 @@ CAPABILITIES = [
     "multi-prefix", "extended-join", "account-notify", "away-notify", "server-time", "batch",
 ]
 SYMBOLS = {"o": "@", "v": "+"}
-PATIENCE = 10  # seconds that anything may take
+PATIENCE = 60  # seconds that anything may take
 SETTINGS = """listen = "127.0.0.1:{client_port}"
 history = 10000
 retry = 1
@@ -52,12 +52,20 @@ class Wrong(Exception):
 
 
 def wait_for(what, is_there, meanwhile=lambda: time.sleep(0.002)):
-    """Waits until something is there, at most so long."""
-    began = time.time()
+    """Waits until something is there, for a limited time."""
+    began = time.monotonic()
     while not is_there():
-        if time.time() - began > PATIENCE:
+        if time.monotonic() - began > PATIENCE:
             raise Wrong(f"no {what}")
         meanwhile()
+
+
+def reserve_port():
+    """A socket that keeps a free port for bnc: both may bind it, since this one never listens."""
+    reserved = socket.socket()
+    reserved.setsockopt(socket.SOL_SOCKET, socket.SO_REUSEADDR, 1)
+    reserved.bind(("127.0.0.1", 0))
+    return reserved
 
 
 class Channel:
@@ -95,7 +103,7 @@ class Client:
         self.nick, self.channels, self.messages = None, {}, []
         self.marks, self.last, self.wrong = set(), collections.deque(maxlen=5), None
         self.is_welcome, self.lock, self.is_closed = False, threading.Lock(), threading.Event()
-        self.socket = socket.create_connection(("127.0.0.1", port))
+        self.socket = socket.create_connection(("127.0.0.1", port), PATIENCE)
         hello = "CAP LS 302\r\n" if caps else ""
         hello += f"PASS ann@{name}/net:bc\r\nNICK x\r\nUSER x 0 * :x\r\n"
         if caps:
@@ -109,6 +117,8 @@ class Client:
         while True:
             try:
                 piece = self.socket.recv(65536)
+            except TimeoutError:
+                continue
             except OSError:
                 piece = b""
             if not piece:
@@ -202,7 +212,7 @@ class Client:
 class Network:
     """An IRC network, to which one user comes, by bnc."""
 
-    def __init__(self, rng, port):
+    def __init__(self, rng):
         self.rng, self.fresh, self.nick = rng, 0, "ann"
         self.persons = [f"p{number}" for number in range(12)]
         self.channels = {f"#c{number}": Channel() for number in range(4)}
@@ -211,8 +221,9 @@ class Network:
                 if rng.random() < 0.5:
                     channel.members[person] = {letter for letter in "ov" if rng.random() < 0.3}
         self.joined, self.said, self.count = set(), [], 0
+        self.pings, self.pongs = 0, set()
         self.waiting, self.held, self.socket = b"", b"", None
-        self.listener = socket.create_server(("127.0.0.1", port))
+        self.listener = socket.create_server(("127.0.0.1", 0))
         self.listener.settimeout(PATIENCE)
 
     def put(self, line):
@@ -265,9 +276,22 @@ class Network:
         elif line.startswith("CAP END"):
             self.is_open = True
         elif command == "JOIN":
-            self.join(rest.split(" ")[0])
+            for name in rest.split(" ")[0].split(","):
+                self.join(name)
         elif command == "PRIVMSG":
             self.said.append(rest.partition(" ")[2].removeprefix(":"))
+        elif command == "PING":
+            self.put(f":s PONG s {rest}")
+        elif command == "PONG":
+            self.pongs.add(rest.removeprefix(":"))
+
+    def ask(self):
+        """Waits until bnc has taken all that it was sent: it answers a PING after that."""
+        self.pings += 1
+        ping = f"ping{self.pings}"
+        self.put(f"PING :{ping}")
+        self.flush()
+        wait_for(f"answer to {ping}", lambda: ping in self.pongs, self.hear)
 
     def join(self, name):
         if name in self.joined:
@@ -382,9 +406,10 @@ class Trial:
 
     def __init__(self, seed):
         self.rng = random.Random(seed)
-        self.network_port = 20000 + seed % 10000 * 2
-        self.client_port = self.network_port + 1
-        self.network = Network(self.rng, self.network_port)
+        self.network = Network(self.rng)
+        self.network_port = self.network.listener.getsockname()[1]
+        self.reserved = reserve_port()
+        self.client_port = self.reserved.getsockname()[1]
         self.clients, self.marks = {}, 0
         self.got, self.own = collections.defaultdict(list), collections.defaultdict(set)
         self.said = []
@@ -427,7 +452,7 @@ class Trial:
     def wait_until_ready(self, names):
         """Waits until bnc is on these channels, and has taken what let it in."""
         wait_for(f"{names}", lambda: names <= self.network.joined, self.network.hear)
-        time.sleep(0.5)
+        self.network.ask()
 
     def lose(self):
         self.settle()
@@ -489,9 +514,10 @@ def main(program, seed, rounds):
                 print(f"seed {seed}: {wrong}\n{log.read()[-600:]}")
                 return 1
             finally:
-                bnc.terminate()
-                bnc.wait()
-    print(f"ok: {rounds} rounds, {trial.network.count} messages, {len(trial.got)} client names")
+                bnc.kill()
+                bnc.wait(PATIENCE)
+    names = len(trial.got)
+    print(f"try_random: {rounds} rounds, {trial.network.count} messages, {names} client names, no fault")
     return 0
 
 

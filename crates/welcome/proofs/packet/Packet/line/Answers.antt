@@ -1,4 +1,5 @@
 use Rattle.welcome.proofs.packet.Packet.line.Goals as goal
+use Rattle.std.proofs.Common.{rules}
 use Rattle.welcome.proofs.WrittenLaw.{◌∙◌, AreLines, arith, at_place, other_texts, read_at, sym}
 
 pub loop-preserved : goal.loop-preserved
@@ -20,3 +21,6 @@ returns g c =
     let read = read_at _ c.args.place _ c.loop.rest.now _ _ lines c.requires (omega arith)
     c.loop.invariant c.cut-2.ensures.before c.in_ok-line.ensures.value in
     read.2 ∙ sym read.1 ∙ c.in-Some.is
+
+pub loop-init : goal.loop-init
+loop-init g c = search rules

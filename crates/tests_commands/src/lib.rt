@@ -1,0 +1,9 @@
+//! Tests alone: settings, the words of the command line, and inputs and outputs that fail.
+#![tactic(auto)]
+
+#[cfg(test)]
+mod settings;
+#[cfg(test)]
+mod streams;
+#[cfg(test)]
+mod words;

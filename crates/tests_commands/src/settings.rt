@@ -1,0 +1,177 @@
+//! Settings as the program sees them: every key, what is left out, passwords and places.
+
+use bnc_config::{Config, Key, NetworkConfig, Place, UserConfig};
+use std::process::Abort;
+use std::test::Fail;
+
+/// Ann with all keys, whose password is `bc`, and bob without a network. Bob's password is by
+/// `printf '%s%s' 12345678 'correct horse' | sha256sum`.
+const ANN_AND_BOB: &[u8] = b"listen = \"127.0.0.1:6667\"
+history = 400
+retry = 20
+[[user]]
+name = \"ann\"
+salt = \"61\"
+password = \"ba7816bf8f01cfea414140de5dae2223b00361a396177a9cb410ff61f20015ad\"
+[[user.network]]
+name = \"net\"
+address = \"127.0.0.1:6660\"
+nick = \"anna\"
+user = \"annb\"
+realname = \"Ann A\"
+password = \"secret\"
+join = [\"#c\"]
+[[user]]
+name = \"bob\"
+salt = \"3132333435363738\"
+password = \"65c30cc1f89ab7117b28c4825ac5de892bc6ac97b1f7d7b070441fc025f3641f\"
+";
+
+/// Whether settings have the keys at the top, and the numbers of users and networks.
+fn has_the_top(config: &Config) -> bool {
+    config.listen() == "127.0.0.1:6667"
+        && config.history() == 400
+        && config.retry() == 20
+        && config.user_count() == 2
+        && config.network_count(0) == 1
+        && config.network_count(1) == 0
+        && config.network_count(2) == 0
+}
+
+/// Whether a user is ann.
+fn is_ann(user: &UserConfig) -> bool {
+    user.name() == b"ann".as_slice()
+        && user.salt() == b"a".as_slice()
+        && user.digest()[..2] == [0xba, 0x78]
+        && user.networks().len() == 1
+}
+
+/// Whether a network has the texts of ann's.
+fn has_the_texts(network: &NetworkConfig) -> bool {
+    network.name() == b"net".as_slice()
+        && network.address() == "127.0.0.1:6660"
+        && network.nick() == b"anna".as_slice()
+        && network.user() == b"annb".as_slice()
+        && network.realname() == b"Ann A".as_slice()
+        && network.password() == Some(b"secret".as_slice())
+}
+
+/// Whether a network has the one channel of ann's.
+fn has_the_channel(network: &NetworkConfig) -> bool {
+    match network.join() {
+        [channel] => channel.as_str() == "#c" && channel.as_bytes() == b"#c".as_slice(),
+        _ => false,
+    }
+}
+
+/// The place of ann's network.
+const PLACE: Place = Place {
+    user: 0,
+    network: 0,
+};
+
+#[test]
+fn every_key_is_read(rt: HostRuntime) -> Result<(), Fail> {
+    let config = Config::read(rt.alloc(), ANN_AND_BOB)?;
+    assert!(rt; has_the_top(&config));
+    assert!(rt; config.users().first().is_some_and(is_ann));
+    let network = config.network(PLACE).ok_or("a network")?;
+    assert!(rt; has_the_texts(network) && has_the_channel(network));
+    assert!(rt; config.networks(0).iter().all(has_the_texts));
+    Ok(())
+}
+
+/// Only what a user and a network must have, and a key that there is not.
+const LEAST: &[u8] = b"listen = \"host:1\"
+other = 1
+[[user]]
+name = \"ann\"
+salt = \"\"
+password = \"ba7816bf8f01cfea414140de5dae2223b00361a396177a9cb410ff61f20015ad\"
+[[user.network]]
+name = \"net\"
+address = \"h:1\"
+nick = \"a\"
+user = \"a\"
+realname = \"\"
+";
+
+#[test]
+fn what_is_left_out_has_its_default(rt: HostRuntime) -> Result<(), Fail> {
+    let config = Config::read(rt.alloc(), b"listen = \"host:1\"")?;
+    assert!(rt; config.user_count() == 0 && config.networks(0).is_empty());
+    assert!(rt; config.network(PLACE).is_none());
+    let config = Config::read(rt.alloc(), LEAST)?;
+    assert!(rt; config.history() == 500 && config.retry() == 30);
+    let network = config.network(PLACE).ok_or("a network")?;
+    assert!(rt; network.password().is_none() && network.join().is_empty());
+    Ok(())
+}
+
+/// Names, passwords, and whether they match.
+const PASSWORDS: [(&[u8], &[u8], bool); 10] = [
+    (b"ann", b"bc", true),
+    (b"ann", b"bd", false),
+    (b"ann", b"b", false),
+    (b"ann", b"bcd", false),
+    (b"ann", b"", false),
+    (b"ann", b"abc", false),
+    (b"Ann", b"bc", false),
+    (b"an", b"bc", false),
+    (b"bob", b"correct horse", true),
+    (b"bob", b"correct horsf", false),
+];
+
+/// Each row holds.
+fn check_passwords<R: AllocGlobal + Abort>(rt: &R, config: &Config, rows: &[(&[u8], &[u8], bool)]) {
+    for (user, password, is_right) in rows {
+        assert!(rt; config.password_matches(user, password) == *is_right);
+    }
+}
+
+#[test]
+fn passwords_are_compared_byte_for_byte(rt: HostRuntime) -> Result<(), Fail> {
+    let config = Config::read(rt.alloc(), ANN_AND_BOB)?;
+    check_passwords(&rt, &config, &PASSWORDS);
+    Ok(())
+}
+
+/// Names of a user and a network, and where they are.
+const PLACES: [(&[u8], &[u8], Option<Place>); 5] = [
+    (b"ann", b"net", Some(PLACE)),
+    (b"ann", b"Net", None),
+    (b"Ann", b"net", None),
+    (b"net", b"ann", None),
+    (b"bob", b"net", None),
+];
+
+/// Each row holds.
+fn check_places<R: AllocGlobal + Abort>(
+    rt: &R,
+    config: &Config,
+    rows: &[(&[u8], &[u8], Option<Place>)],
+) {
+    for (user, network, place) in rows {
+        assert!(rt; config.find(user, network) == *place);
+    }
+}
+
+#[test]
+fn networks_are_found_by_both_names(rt: HostRuntime) -> Result<(), Fail> {
+    let config = Config::read(rt.alloc(), ANN_AND_BOB)?;
+    check_places(&rt, &config, &PLACES);
+    Ok(())
+}
+
+const PATHS: [(Key, &str); 3] = [
+    (Key::Listen, "listen"),
+    (Key::UserName, "user.name"),
+    (Key::NetworkJoin, "user.network.join"),
+];
+
+#[test]
+fn each_key_has_its_path(rt: HostRuntime) {
+    for (key, path) in &PATHS {
+        assert!(rt; key.path() == *path);
+    }
+}

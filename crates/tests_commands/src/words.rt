@@ -1,0 +1,96 @@
+//! What the words of the command line are read as.
+
+use client_caps::{Caps, read_request};
+use commands::{Command, explain_words, read_words};
+use std::alloc::Global;
+use std::process::Abort;
+use std::test::Fail;
+
+/// The capabilities and the number of messages of an attach, if the words ask for one.
+fn attach_of(alloc: Global, words: &[&str]) -> Option<(Caps, usize)> {
+    match read_words(alloc, words) {
+        Ok(Command::Attach(caps, history)) => Some((caps, history)),
+        _ => None,
+    }
+}
+
+/// Words, and the capabilities and the number of messages that they ask for.
+static ATTACHES: [(&[&str], &[u8], usize); 8] = [
+    (&["attach"], b"", 500),
+    (&["attach", "--caps", ""], b"", 500),
+    (&["attach", "--caps", "batch"], b"batch", 500),
+    (
+        &["attach", "--caps", "batch,server-time"],
+        b"server-time batch",
+        500,
+    ),
+    (
+        &["attach", "--caps", "multi-prefix,-multi-prefix"],
+        b"",
+        500,
+    ),
+    (&["attach", "--history=1"], b"", 1),
+    (
+        &["attach", "--history", "10000", "--caps", "batch"],
+        b"batch",
+        10_000,
+    ),
+    (
+        &["attach", "--caps", "batch", "--history", "3"],
+        b"batch",
+        3,
+    ),
+];
+
+/// Each row holds.
+fn check_attaches<R: AllocGlobal + Abort>(rt: &R, rows: &[(&[&str], &[u8], usize)]) {
+    for (words, names, history) in rows {
+        let caps = read_request(Caps::none(), names);
+        assert!(rt; caps.is_some());
+        assert!(rt; attach_of(rt.alloc(), words) == caps.map(|caps| (caps, *history)));
+    }
+}
+
+#[test]
+fn capabilities_and_numbers_of_messages(rt: HostRuntime) {
+    check_attaches(&rt, &ATTACHES);
+}
+
+/// Whether a command is for the file of this name: to check its settings, or else to serve them.
+fn is_for(command: &Command, is_check: bool, name: &str) -> bool {
+    match command {
+        Command::Check(file) => is_check && file.as_str() == name,
+        Command::Serve(file) => !is_check && file.as_str() == name,
+        _ => false,
+    }
+}
+
+#[test]
+fn files_and_commands_without_words(rt: HostRuntime) -> Result<(), Fail> {
+    let alloc = rt.alloc();
+    assert!(rt;
+        is_for(
+            &read_words(alloc, &["check", "bnc.toml"])?,
+            true,
+            "bnc.toml"
+        )
+    );
+    assert!(rt; is_for(&read_words(alloc, &["serve", "a b"])?, false, "a b"));
+    assert!(rt; matches!(read_words(alloc, &["view"]), Ok(Command::View)));
+    Ok(())
+}
+
+/// Words with which nothing is wrong.
+static GOOD_WORDS: [&[&str]; 4] = [&["check", "a"], &["--help"], &["--version"], &["-V"]];
+
+/// Nothing is wrong with the words of each row.
+fn check_good_words<R: AllocGlobal + Abort>(rt: &R, rows: &[&[&str]]) {
+    for words in rows {
+        assert!(rt; matches!(explain_words(rt.alloc(), words), Ok(None)));
+    }
+}
+
+#[test]
+fn nothing_is_wrong_with_good_words(rt: HostRuntime) {
+    check_good_words(&rt, &GOOD_WORDS);
+}

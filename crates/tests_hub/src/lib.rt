@@ -1,0 +1,10 @@
+//! Tests alone: scripts of events over a hub whose ends are in memory, late attach from both sides,
+//! and a hub's calls made again after an allocation failed.
+#![tactic(auto)]
+
+#[cfg(test)]
+mod hub_rows;
+#[cfg(test)]
+mod late_attach;
+#[cfg(test)]
+mod once_refused;

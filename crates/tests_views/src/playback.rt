@@ -1,0 +1,220 @@
+//! The messages that a client missed, as it is sent them.
+
+ghost use Rattle.std.specs.List.{AllByRecursion};
+ghost use Rattle.history.specs.Entry.{IsWrittenEntry};
+
+use crate::clients::asked;
+use crate::said::SaidLines;
+use crate::views::{Rows, check_by_tables};
+use client_caps::Caps;
+use history::Entry;
+use net_view::NetworkView;
+use std::alloc::Global;
+use std::process::Abort;
+use std::test::Fail;
+use welcome::playback;
+
+/// What a client with these capabilities is played of these messages.
+fn played<V: NetworkView>(
+    alloc: Global,
+    view: &V,
+    caps: Caps,
+    missed: &[&Entry],
+) -> Result<Vec<u8>, Fail>
+    requires { AllByRecursion (λ entry. IsWrittenEntry entry.now) missed.now }
+{
+    let packet = playback(alloc, view, caps, missed)?;
+    Ok(Vec::from_slice(alloc, packet.bytes())?)
+}
+
+/// Messages that were missed; capabilities, and what is played.
+#[derive(Clone, Copy)]
+struct Playbacks<'a> {
+    said: &'a SaidLines,
+    mark: Option<u64>,
+    rows: &'a [(&'a [u8], &'a [u8])],
+}
+
+impl Rows for Playbacks<'_> {
+    fn check<R: AllocGlobal + Abort, V: NetworkView>(&self, rt: &R, view: &V) -> Result<(), Fail> {
+        let missed = self.said.missed(rt.alloc(), self.mark)?;
+        for (names, wanted) in self.rows {
+            let text = played(rt.alloc(), view, asked(names)?, &missed)?;
+            assert!(rt; text.as_slice() == *wanted);
+        }
+        Ok(())
+    }
+}
+
+/// What is played of the messages of these lines above a mark.
+fn check_played<R: AllocGlobal + Abort>(
+    rt: &R,
+    texts: &[&[u8]],
+    said: &[&[u8]],
+    mark: Option<u64>,
+    rows: &[(&[u8], &[u8])],
+) -> Result<(), Fail> {
+    let said = SaidLines::of(rt.alloc(), said)?;
+    let playbacks = Playbacks {
+        said: &said,
+        mark,
+        rows,
+    };
+    check_by_tables(rt, texts, &playbacks)
+}
+
+/// Capabilities, and what is played of messages to two channels, to us and to a third channel.
+const OF_TWO_CHANNELS: [(&[u8], &[u8]); 4] = [
+    (
+        b"",
+        b":eve!e@h NOTICE #b m3\r\n\
+        :bob!b@h PRIVMSG #C m1\r\n\
+        :bob!b@h PRIVMSG #c :m 4\r\n\
+        :bob!b@h PRIVMSG Me :hi there\r\n\
+        :Me PRIVMSG #gone ::5\r\n",
+    ),
+    (
+        b"batch",
+        b":bnc BATCH +h0 chathistory #b\r\n\
+        @batch=h0 :eve!e@h NOTICE #b m3\r\n\
+        :bnc BATCH -h0\r\n\
+        :bnc BATCH +h1 chathistory #c\r\n\
+        @batch=h1 :bob!b@h PRIVMSG #C m1\r\n\
+        @batch=h1 :bob!b@h PRIVMSG #c :m 4\r\n\
+        :bnc BATCH -h1\r\n\
+        :bob!b@h PRIVMSG Me :hi there\r\n\
+        :Me PRIVMSG #gone ::5\r\n",
+    ),
+    (
+        b"server-time",
+        b"@time=1970-01-01T00:00:03.000Z :eve!e@h NOTICE #b m3\r\n\
+        @time=1970-01-01T00:00:01.000Z :bob!b@h PRIVMSG #C m1\r\n\
+        @time=1970-01-01T00:00:04.000Z :bob!b@h PRIVMSG #c :m 4\r\n\
+        @time=1970-01-01T00:00:02.000Z :bob!b@h PRIVMSG Me :hi there\r\n\
+        @time=1970-01-01T00:00:05.000Z :Me PRIVMSG #gone ::5\r\n",
+    ),
+    (
+        b"batch server-time",
+        b":bnc BATCH +h0 chathistory #b\r\n\
+        @batch=h0;time=1970-01-01T00:00:03.000Z :eve!e@h NOTICE #b m3\r\n\
+        :bnc BATCH -h0\r\n\
+        :bnc BATCH +h1 chathistory #c\r\n\
+        @batch=h1;time=1970-01-01T00:00:01.000Z :bob!b@h PRIVMSG #C m1\r\n\
+        @batch=h1;time=1970-01-01T00:00:04.000Z :bob!b@h PRIVMSG #c :m 4\r\n\
+        :bnc BATCH -h1\r\n\
+        @time=1970-01-01T00:00:02.000Z :bob!b@h PRIVMSG Me :hi there\r\n\
+        @time=1970-01-01T00:00:05.000Z :Me PRIVMSG #gone ::5\r\n",
+    ),
+];
+
+const MESSAGES_OF_TWO_CHANNELS_AND_OTHERS_TEXTS: [&[u8]; 5] = [
+    b":s 001 Me :hi",
+    b":Me!m@h JOIN #c",
+    b":Me!m@h JOIN #b",
+    b":Me!m@h JOIN #gone",
+    b":Me!m@h PART #gone",
+];
+
+const MESSAGES_OF_TWO_CHANNELS_AND_OTHERS: [&[u8]; 5] = [
+    b":bob!b@h PRIVMSG #C m1",
+    b":bob!b@h PRIVMSG Me :hi there",
+    b":eve!e@h NOTICE #b m3",
+    b":bob!b@h PRIVMSG #c :m 4",
+    b":Me PRIVMSG #gone ::5",
+];
+
+/// Messages to two channels, to us and to a channel that we left.
+#[test]
+fn messages_of_two_channels_and_others(rt: HostRuntime) -> Result<(), Fail> {
+    check_played(
+        &rt,
+        &MESSAGES_OF_TWO_CHANNELS_AND_OTHERS_TEXTS,
+        &MESSAGES_OF_TWO_CHANNELS_AND_OTHERS,
+        None,
+        &OF_TWO_CHANNELS,
+    )
+}
+
+const TWO_CHANNELS: [&[u8]; 3] = [b":s 001 Me :hi", b":Me!m@h JOIN #a", b":Me!m@h JOIN #c"];
+
+const ONE_MESSAGE: [&[u8]; 1] = [b":bob PRIVMSG #c m1"];
+
+/// A channel without messages takes a place all the same, and has no batch.
+#[test]
+fn a_batch_is_named_after_its_channels_place(rt: HostRuntime) -> Result<(), Fail> {
+    let wanted: &[u8] = b":bnc BATCH +h1 chathistory #c\r\n\
+        @batch=h1 :bob PRIVMSG #c m1\r\n\
+        :bnc BATCH -h1\r\n";
+    check_played(
+        &rt,
+        &TWO_CHANNELS,
+        &ONE_MESSAGE,
+        None,
+        &[(b"batch", wanted)],
+    )?;
+    check_played(
+        &rt,
+        &TWO_CHANNELS,
+        &ONE_MESSAGE,
+        Some(0),
+        &[(b"batch", wanted)],
+    )?;
+    check_played(
+        &rt,
+        &TWO_CHANNELS,
+        &ONE_MESSAGE,
+        Some(1),
+        &[(b"batch", b"")],
+    )
+}
+
+const MESSAGES_ABOVE_A_MARK_TEXTS: [&[u8]; 4] = [
+    b":bob!b@h PRIVMSG #c m1",
+    b":bob!b@h PRIVMSG #c m2",
+    b":bob!b@h PRIVMSG Me :hi there",
+    b":bob!b@h PRIVMSG #c m3",
+];
+
+const MESSAGES_ABOVE_A_MARK: [(&[u8], &[u8]); 2] = [
+    (
+        b"batch",
+        b":bnc BATCH +h0 chathistory #c\r\n\
+        @batch=h0 :bob!b@h PRIVMSG #c m2\r\n\
+        @batch=h0 :bob!b@h PRIVMSG #c m3\r\n\
+        :bnc BATCH -h0\r\n\
+        :bob!b@h PRIVMSG Me :hi there\r\n",
+    ),
+    (
+        b"batch server-time",
+        b":bnc BATCH +h0 chathistory #c\r\n\
+        @batch=h0;time=1970-01-01T00:00:02.000Z :bob!b@h PRIVMSG #c m2\r\n\
+        @batch=h0;time=1970-01-01T00:00:04.000Z :bob!b@h PRIVMSG #c m3\r\n\
+        :bnc BATCH -h0\r\n\
+        @time=1970-01-01T00:00:03.000Z :bob!b@h PRIVMSG Me :hi there\r\n",
+    ),
+];
+
+/// Those of the last messages that stand above the mark, one of them for us.
+#[test]
+fn messages_above_a_mark(rt: HostRuntime) -> Result<(), Fail> {
+    check_played(
+        &rt,
+        &[b":s 001 Me :hi", b":Me!m@h JOIN #c"],
+        &MESSAGES_ABOVE_A_MARK_TEXTS,
+        Some(1),
+        &MESSAGES_ABOVE_A_MARK,
+    )
+}
+
+/// Who missed nothing is played nothing.
+#[test]
+fn no_message_was_missed(rt: HostRuntime) -> Result<(), Fail> {
+    let nothing: [(&[u8], &[u8]); 2] = [(b"", b""), (b"batch server-time", b"")];
+    check_played(
+        &rt,
+        &[b":s 001 Me :hi", b":Me!m@h JOIN #c"],
+        &[],
+        None,
+        &nothing,
+    )
+}

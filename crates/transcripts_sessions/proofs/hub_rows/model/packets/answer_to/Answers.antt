@@ -1,7 +1,0 @@
-use Rattle.client_caps.proofs.AnswerTexts.{own_nameable}
-use Rattle.transcripts_sessions.proofs.hub_rows.model.packets.answer_to.Goals as goal
-
-pub answer-requires : goal.answer-requires
-answer-requires g c =
-    own_nameable (g.V.NetworkView.view c.args.view.now) c.comes_from_lines.ensures c.own.result
-    c.own.ensures
