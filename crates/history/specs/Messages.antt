@@ -1,12 +1,12 @@
 -- The messages that are kept of each target, and what somebody missed of them.
 use Rattle.std.specs.Prelude.{ℕ, ◌+◌, ◌^◌, Bool, true, ◌&&◌, nat_le, nat_lt, if◌then◌else◌, List}
-use Rattle.std.specs.Prelude.{[], ◌≡◌, ◌<◌, IfSome}
+use Rattle.std.specs.Prelude.{[], ◌≡◌, ◌<◌, IfSome, IsTrue}
 use Rattle.std.specs.Prelude.{◌∷◌, ◌++◌, map, filter, length, reverse}
 use Rattle.std.proofs.Common.{Option, Some, None}
 use Rattle.std.specs.List.{AllByRecursion, enumerate_from}
 use Rattle.irc_names.specs.CaseMapping.{key_of}
 use Rattle.irc_names.specs.declared.case_mapping.CaseMapping.TheVariants.{Ascii}
-use Rattle.history.specs.Entry.{EntryParts, IsWrittenEntry}
+use Rattle.history.specs.Entry.{EntryParts, IsWrittenEntry, is_message_command}
 use Rattle.history.specs.Retained.{after_one_more, retained, targets}
 use Rattle.history.specs.Rings.{Rings, rings_of}
 
@@ -87,3 +87,10 @@ pub record IsTied (capacity : ℕ) (kept : List (ℕ × EntryParts)) (next : Opt
   pub some : 0 < capacity
   pub same : rings ≡ record { capacity = capacity; rings = rings_of target_key kept }
   pub below : IfSome next (λ number. AllByRecursion (λ m. m.0 < number) kept)
+
+-- what a hub may begin with: messages that can be written, numbered below the first that it gives
+pub record AreKeptBefore (first : ℕ) (h : Messages) : Type 0 where
+  pub messages : AllByRecursion (λ m. IsTrue (is_message_command m.1.command)) h.kept
+  pub written : AreWrittenMessages h
+  pub below : AllByRecursion (λ m. m.0 < first) h.kept
+  pub next : h.next ≡ Some first

@@ -1,6 +1,6 @@
 //! The last messages to each target.
 
-ghost use Rattle.std.specs.Prelude.{◌≡◌, ◌↔◌, ◌<◌, ◌≤◌, ◌&&◌, IfOk, IsErrOf, IsTrue, None, OnErr, Some};
+ghost use Rattle.std.specs.Prelude.{ℕ, ◌≡◌, ◌↔◌, ◌<◌, ◌≤◌, ◌&&◌, IfOk, IsErrOf, IsTrue, None, OnErr, Some};
 ghost use Rattle.std.specs.Prelude.{◌++◌, ◌∷◌, [], OnOk, length, map, nat_eq, option_map};
 ghost use Rattle.std.specs.Prelude.{slice_get, false};
 ghost use Rattle.std.specs.List.{AllByRecursion};
@@ -257,6 +257,15 @@ impl<A: Allocator + Copy + Drop> History<A> {
 }
 
 impl<A: Allocator> History<A> {
+    /// Has the next message get this number, where that is no lower than its own: for messages that
+    /// were numbered before.
+    pub fn skip_to(&mut self, number: u64)
+        requires { (next : ℕ) × (self.old.next ≡ Some next) × (next ≤ number) }
+        ensures { self.new ≡ record self.old { next = Some number } }
+    {
+        self.next = Some(number);
+    }
+
     /// The number of the next message; `None` where the last number was given.
     pub fn next_number(&self) -> Option<u64>
         ensures { result ≡ self.now.next }

@@ -6,9 +6,9 @@ use Words.{append_assoc, arith, content_said, entry_for, false, filter_map, inl,
 use Words.{is_message_command, length, length-append, nat_tests, option_map, option_map_or}
 use Words.{option_to_list, refl, true, with_entry, ℕ}
 use Rattle.history.{proofs.LastMessages.all_kept, specs.Entry.{IsWrittenEntry, message_of}}
-use Rattle.history.specs.Messages.{is_missed, missed_of, no_messages, with_message}
-use Rattle.hub_core.specs.{Pumping.{Puts, pong_for}, Running.{AreMessages, AreNumbered, content}}
-use Rattle.{irc_line.specs.Writing.untagged_line, std.proofs.Common.{◌^◌, filter}}
+use Rattle.history.specs.Messages.{AreKeptBefore, is_missed, missed_of, no_messages, with_message}
+use Rattle.hub_core.specs.{Pumping.{Puts, pong_for}, Running.{AreMessages, AreNumbered, HasOrigin, content}}
+use Rattle.{irc_line.specs.Writing.untagged_line, std.proofs.Common.{◌^◌, filter, inl, inr}}
 use Rattle.std.proofs.lemmas.List.Elements.{Contains-append_cases, Contains-append_left}
 use Rattle.std.proofs.lemmas.List.Elements.{Contains-append_right, filter_map-append}
 use Rattle.{std.specs.{List.Contains, Prelude.IsTrue}, welcome.proofs.EachOf.{each_kept, mapped}}
@@ -73,14 +73,25 @@ adds_said a b o = simp (append-nil, append_assoc) at (adds (a ++ b) [] o)
 
 -- ---- numbers
 
-pub numbered_start : (capacity first : ℕ) → first < 2 ^ 64
-    → AreNumbered [] first (no_messages capacity first)
-numbered_start capacity first small = grind arith
+pub kept_before : (capacity first : ℕ) → AreKeptBefore first (no_messages capacity first)
+kept_before capacity first = record { messages = tt; written = tt; below = tt; next = refl }
 
 pub all_map : {X : Type 0} (P Q : X → Type 0) → ((x : X) → P x → Q x) → (xs : List X)
     → AllByRecursion P xs → AllByRecursion Q xs
 all_map P Q f [] all = tt
 all_map P Q f (x ∷ xs) all = grind (arith, f x, all_map P Q f xs)
+
+pub numbered_start : (first : ℕ) (h : Messages) → first < 2 ^ 64 → AreKeptBefore first h
+    → AreNumbered [] first h
+numbered_start first h small k =
+    let origins = all_map _ (HasOrigin [] first) (λ (m : ℕ × EntryParts) (lt : m.0 < first). inl lt) h.kept k.below in
+    grind (arith, k.messages, k.written, k.next, origins)
+
+origin_stays : (all more : List (List Text)) (first : ℕ) (m : ℕ × EntryParts)
+    → (Contains all (content m.1) → Contains more (content m.1)) → HasOrigin all first m
+    → HasOrigin more first m
+origin_stays all more first m keeps (inl below) = inl below
+origin_stays all more first m keeps (inr is) = inr (keeps is)
 
 -- a message more, where there is one and it has its number
 pub numbered_step : (all more : List (List Text)) (first : ℕ) (h : Messages) (e : Option EntryParts)
@@ -88,15 +99,18 @@ pub numbered_step : (all more : List (List Text)) (first : ℕ) (h : Messages) (
     → IfSome e (λ e. IsTrue (is_message_command e.command)) → IfSome e IsWrittenEntry
     → AreNumbered all first h → AreNumbered more first (with_entry h e)
 numbered_step all more first h None adds some is written k =
-    let origins = all_map (λ (m : ℕ × EntryParts). Contains all (content m.1)) in
-    grind (arith, adds.count, origins, adds.kept)
+    let origins = all_map (HasOrigin all first) (HasOrigin more first)
+    (λ m. origin_stays all more first m (adds.kept (content m.1))) h.kept k.origins in
+    grind (arith, adds.count, origins, k.messages, k.written, k.numbers)
 numbered_step all more first h (Some e) adds some is written k =
     let n : first + length more ≡ first + length all + 1 = omega (arith, adds.count) in
     let messages = messages_stay h (Some e) k.messages is in
     let written = all_stay (λ (m : ℕ × EntryParts). IsWrittenEntry m.1) h e h.next k.written
     (λ _. written) in
-    let origins = all_stay (λ (m : ℕ × EntryParts). Contains more (content m.1)) h e h.next
-    (all_map _ _ (λ m. adds.kept (content m.1)) h.kept k.origins) (λ _. adds.here) in
+    let origins = all_stay (HasOrigin more first) h e h.next
+    (all_map (HasOrigin all first) (HasOrigin more first)
+    (λ m. origin_stays all more first m (adds.kept (content m.1))) h.kept k.origins)
+    (λ _. inr adds.here) in
     grind (arith, nat_tests, messages, written, origins, k.numbers, some refl, n)
 
 -- ---- packets for the network

@@ -8,13 +8,13 @@ use Words.{is_message_command, is_online, length-append, lines_sent, lost_channe
 use Words.{option_and_then, option_map, option_map_or, option_to_list, packet_for, packet_of, refl}
 use Words.{reverse, time_text_of, true, view_now, view_of, with_entry, with_outlet, ℕ}
 use Rattle.client_caps.{proofs.ImageLaw.agreement_stays, specs.Caps.held}
-use Rattle.history.specs.{Entry.IsWrittenEntry, Marks.NameMarks, Messages.missed_by}
+use Rattle.history.specs.{Entry.IsWrittenEntry, Marks.NameMarks, Messages.{AreKeptBefore, missed_by}}
 use Rattle.hub_core.proofs.{Each.{each_append, each_sent}, Kept.{adds_heard, adds_said}}
 use Rattle.hub_core.proofs.Kept.{entry_is_message, filter_more, missed_are_messages, numbered_start}
 use Rattle.hub_core.proofs.{Kept.{numbered_step, pong_unsaid, puts_unsaid}, LostChannels.no_loss}
 use Rattle.hub_core.specs.{Attaching.refusal_of, Given.with_caps, Online.{is_welcome, says_online}}
 use Rattle.hub_core.specs.{LostChannels.Joinings, Pumping.{Next, Takes}, Running.IsRunning}
-use Rattle.hub_core.specs.{Running.{content, content_heard, messages_of}, States.{less, started}}
+use Rattle.hub_core.specs.{Running.{content, content_heard, messages_of}, States.{less, started_from}}
 use Rattle.{hub_ends.specs.Came.arrivals, irc_line.specs.Line.has_command}
 use Rattle.{irc_names.specs.Nick.is_nameable, net_view.proofs.Commands.told_of_welcome}
 use Rattle.{irc_support.specs.Tokens.Token, std.specs.{Option.option_or, Prelude.{IsTrue, codes}}}
@@ -43,10 +43,11 @@ heard_still done x now e = grind (arith, less_some done x x)
 
 -- ---- a new hub
 
-pub started_runs : (ahead : List Came) (o : OutletState) (capacity first session : ℕ) → o.sent ≡ []
-    → first < 2 ^ 64 → IsRunning (started ahead o capacity first session) empty_view false empty
-started_runs ahead o capacity first session none small =
-    grind (arith, view_start, no_loss, numbered_start)
+pub started_runs : (ahead : List Came) (o : OutletState) (history : Messages) (first : ℕ)
+    (marks : NameMarks) (session : ℕ) → o.sent ≡ [] → first < 2 ^ 64 → AreKeptBefore first history
+    → IsRunning (started_from ahead o history first marks session) empty_view false empty
+started_runs ahead o history first marks session none small k =
+    grind (arith, view_start, no_loss, numbered_start first history small k)
 
 -- ---- what sessions were sent
 

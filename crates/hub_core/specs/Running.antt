@@ -1,5 +1,5 @@
 -- What holds of every hub whenever nobody is in a call.
-use Rattle.std.specs.Prelude.{◌≡◌, ◌+◌, List, [], ◌∷◌, ◌++◌, Option, Some, None, Bool}
+use Rattle.std.specs.Prelude.{◌≡◌, ◌<◌, ◌⊎◌, ◌+◌, List, [], ◌∷◌, ◌++◌, Option, Some, None, Bool}
 use Rattle.std.specs.Prelude.{ℕ, IsTrue, length, if◌then◌else◌}
 use Rattle.std.specs.List.{flat_map, filter_map, AllByRecursion, Contains}
 use Rattle.std.specs.Option.{option_map, option_to_list}
@@ -57,12 +57,16 @@ messages_of h =
     filter_map content_heard (less h.taken h.held)
     ++ filter_map content_said h.upstream.sent
 
--- What is kept are messages, which can be written, and each of them came from the network or was
--- sent there; each of all these was given a number.
+-- a message that is numbered below the first was kept before the hub began; any other is among these
+abbrev pub HasOrigin : List (List Text) → ℕ → ℕ × EntryParts → Type 0
+HasOrigin all first m = (m.0 < first) ⊎ Contains all (content m.1)
+
+-- What is kept are messages, which can be written, and each of them was kept before the hub began,
+-- came from the network or was sent there; each of all these but the first was given a number.
 pub record AreNumbered (all : List (List Text)) (first : ℕ) (h : Messages) : Type 0 where
   pub messages : AreMessages h.kept
   pub written : AreWrittenMessages h
-  pub origins : AllByRecursion (λ m. Contains all (content m.1)) h.kept
+  pub origins : AllByRecursion (HasOrigin all first) h.kept
   pub numbers : h.next ≡ numbered (first + length all)
 
 -- the running fact, of a hub with this view, which is online or not, and with these channels for

@@ -47,17 +47,22 @@ heard h = arrivals (less h.taken h.held)
 abbrev pub view_now : HubState → View
 view_now h = view_of (heard h)
 
--- a hub of these parts, without sessions, messages or client names
-abbrev pub started : List Came → OutletState → ℕ → ℕ → ℕ → HubState
-started ahead upstream capacity first_number first_session = record {
+-- a hub of these parts, without sessions, that goes on from these messages and marks
+abbrev pub started_from : List Came → OutletState → Messages → ℕ → NameMarks → ℕ → HubState
+started_from ahead upstream history first_number marks first_session = record {
   taken = [];
   ahead = ahead;
   held = None;
   sessions = [];
   next = Some first_session;
   upstream = upstream;
-  history = no_messages capacity first_number;
+  history = history;
   first = first_number;
-  marks = empty;
+  marks = marks;
   images = 0;
 }
+
+-- a hub of these parts, without sessions, messages or client names
+abbrev pub started : List Came → OutletState → ℕ → ℕ → ℕ → HubState
+started ahead upstream capacity first_number first_session =
+    started_from ahead upstream (no_messages capacity first_number) first_number empty first_session

@@ -1,9 +1,9 @@
 //! The hub of one network.
 
-ghost use Rattle.std.specs.Prelude.{◌≡◌, ◌↔◌, [], None, Some, false, IfOk, IsErrOf, map};
+ghost use Rattle.std.specs.Prelude.{ℕ, ◌≡◌, ◌↔◌, [], None, Some, false, IfOk, IsErrOf, map};
 ghost use Rattle.std.specs.Prelude.{option_map};
 ghost use Rattle.net_view.specs.View.{empty_view};
-ghost use Rattle.history.specs.Messages.{is_capacity};
+ghost use Rattle.history.specs.Messages.{AreKeptBefore, is_capacity};
 
 use crate::image_table::Made;
 use crate::lost::{LostChannel, LostChannels};
@@ -112,7 +112,7 @@ impl<V: NetworkView + Drop, I: Inlet, O: Outlet> Model for Hub<V, I, O> {
 }
 
 impl<V: NetworkView + Drop, I: Inlet, O: Outlet> Hub<V, I, O> {
-    ghost use Rattle.hub_core.specs.States.{view_now, heard, started};
+    ghost use Rattle.hub_core.specs.States.{view_now, heard, started, started_from};
     ghost use Rattle.hub_core.specs.Online.{is_online};
     ghost use Rattle.hub_core.specs.Running.{IsRunning};
     ghost use Rattle.hub_core.specs.LostChannels.{joining, lost_channels};
@@ -140,23 +140,83 @@ impl<V: NetworkView + Drop, I: Inlet, O: Outlet> Hub<V, I, O> {
     {
         let history = History::new(alloc, setup.history, setup.first_number)?;
         let marks = Marks::new(alloc)?;
-        Ok(Hub {
+        let first = setup.first_number;
+        Ok(Hub::begin(
+            alloc,
+            view,
+            inlet,
+            upstream,
+            (history, first, marks),
+            setup.first_session,
+        ))
+    }
+
+    /// A hub of these parts, without sessions, that goes on from messages and marks of before.
+    fn begin(
+        alloc: Global,
+        view: V,
+        inlet: I,
+        upstream: O,
+        kept: (History, u64, Marks),
+        first_session: SessionId,
+    ) -> Hub<V, I, O>
+        requires view { V.view view ≡ empty_view }
+        requires inlet { I.taken inlet ≡ [] }
+        requires upstream { (O.state upstream).sent ≡ [] }
+        requires kept { AreKeptBefore kept.1 kept.0 }
+        ensures { result ≡ started_from (I.ahead inlet) (O.state upstream) kept.0 kept.1 kept.2
+            first_session }
+    {
+        let (history, first, marks) = kept;
+        Hub {
             alloc,
             view,
             inlet,
             held: None,
             sessions: Vec::new(alloc),
-            next: Some(setup.first_session),
+            next: Some(first_session),
             upstream,
             online: false,
             history,
-            first: setup.first_number,
+            first,
             marks,
             images: 0,
             made: Vec::new(alloc),
             lost: Table::new(alloc),
             parts: Vec::new(alloc),
-        })
+        }
+    }
+
+    /// A hub of these parts, without sessions, that goes on from the messages that were kept before
+    /// and what each client name had seen of them: the next message gets the number that is next
+    /// there.
+    pub fn start_from(
+        alloc: Global,
+        view: V,
+        inlet: I,
+        upstream: O,
+        history: History,
+        marks: Marks,
+        first_session: SessionId,
+    ) -> Hub<V, I, O>
+        requires view { V.view view ≡ empty_view }
+        requires inlet { I.taken inlet ≡ [] }
+        requires upstream { (O.state upstream).sent ≡ [] }
+        requires kept { (first : ℕ) × AreKeptBefore first history }
+        ensures { (first : ℕ) → history.next ≡ Some first → result
+            ≡ started_from (I.ahead inlet) (O.state upstream) history first marks first_session }
+    {
+        match history.next_number() {
+            Some(first) => Hub::begin(
+                alloc,
+                view,
+                inlet,
+                upstream,
+                (history, first, marks),
+                first_session,
+            ),
+            None => unreachable!(),
+        }
     }
 
     /// The view of the items taken, but for a held one.

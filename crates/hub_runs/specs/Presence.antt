@@ -70,11 +70,11 @@ abbrev pub with_new : Option Text → List Text → List Text
 with_new None names = names
 with_new (Some name) names = if is_among name names then names else names ++ name ∷ []
 
--- the names of all clients that attached, each once
-abbrev pub names_then : List Deed → List Text
-names_then [] = []
-names_then (Joined k name caps capacity ∷ older) = with_new name (names_then older)
-names_then (_ ∷ older) = names_then older
+-- the names that were known before and those of all clients that attached, each once
+abbrev pub names_then : List Text → List Deed → List Text
+names_then names [] = names
+names_then names (Joined k name caps capacity ∷ older) = with_new name (names_then names older)
+names_then names (_ ∷ older) = names_then names older
 
 -- ---- a hub
 
@@ -99,7 +99,8 @@ pub record AreKnown (names : List Text) (marks : NameMarks) : Type 0 where
   pub count : fin.len marks ≡ length names
 
 -- a hub has these sessions and names, and gives this number next
-pub record Holds (first_session : ℕ) (deeds : List Deed) (h : HubState) : Type 0 where
-  pub present : ArePresent deeds h.sessions
-  pub known : AreKnown (names_then deeds) h.marks
-  pub next : h.next ≡ next_then first_session deeds
+pub record Holds (names : List Text) (first_session : ℕ) (deeds : List Deed) (h : HubState) : Type 0
+  where
+    pub present : ArePresent deeds h.sessions
+    pub known : AreKnown (names_then names deeds) h.marks
+    pub next : h.next ≡ next_then first_session deeds

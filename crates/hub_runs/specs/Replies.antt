@@ -26,7 +26,7 @@ use Rattle.hub_runs.specs.declared.event.Event.{Event}
 use Rattle.hub_runs.specs.declared.event.Event.TheVariants as on
 use Rattle.hub_runs.specs.declared.outcome.Reply.{Reply}
 use Rattle.hub_runs.specs.declared.outcome.Reply.TheVariants as reply
-use Rattle.hub_runs.specs.Course.{Asked, Deed, Drained, Drew, Joined, Left, Spoke, Took, heard_back}
+use Rattle.hub_runs.specs.Course.{Asked, Before, Deed, Drained, Drew, Joined, Left, Spoke, Took, heard_back}
 use Rattle.hub_runs.specs.Course.{kept_then, view_then, waiting, with_items}
 use Rattle.hub_runs.specs.Presence.{is_among, is_there, names_then, next_then, there, waits}
 use Rattle.hub_runs.specs.Worlds.{lines_at, name_of, rest_behind}
@@ -97,11 +97,10 @@ forward_by online spent room =
     if not online then Ok said.Offline else if spent then Err fault.Spent else
     if room then Ok said.Forwarded else Ok said.Busy
 
--- the numbers of a setup: how many messages are kept of a target, the number of the first message,
--- that of the first session, and how many packets the outlet to the network holds
+-- what a run begins with: what there was before, the number of the first session, and how many
+-- packets the outlet to the network holds
 pub record Limits : Type 0 where
-  pub history : ℕ
-  pub first_number : ℕ
+  pub before : Before
   pub first_session : ℕ
   pub upstream : ℕ
 
@@ -111,7 +110,7 @@ module _ (l : Limits) where
   refusal_then deeds name =
       if not (view_then deeds).ready then Some refused.NotReady else
       if nat_le 64 (length (there deeds)) then Some refused.Full else
-      if are_names_full name (names_then deeds) then Some refused.NamesFull else
+      if are_names_full name (names_then l.before.names deeds) then Some refused.NamesFull else
       if is_none (next_then l.first_session deeds) then Some refused.Spent else None
 
   -- that reason; else the number of the session, if its outlet has room for the burst
@@ -124,7 +123,7 @@ module _ (l : Limits) where
   abbrev pub forward_then : List Deed → Parts → Result Said HubError
   forward_then deeds line =
       forward_by (is_online (reverse (heard_back deeds)))
-      (is_message line && is_none (kept_then l.history l.first_number deeds).next)
+      (is_message line && is_none (kept_then l.before deeds).next)
       (nat_lt (waiting l.upstream deeds) l.upstream)
 
   -- a line of a session that is there, by what it means

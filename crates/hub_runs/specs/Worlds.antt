@@ -20,7 +20,9 @@ use Rattle.hub_core.specs.declared.attach.AttachError.TheVariants as refused
 use Rattle.hub_core.specs.declared.hub.HubError.{HubError}
 use Rattle.hub_core.specs.declared.hub.HubError.TheVariants as fault
 use Rattle.hub_core.specs.declared.hub.Pumped.{Pumped}
-use Rattle.hub_core.specs.States.{HubState, started}
+use Rattle.history.specs.Marks.{NameMarks}
+use Rattle.history.specs.Messages.{Messages}
+use Rattle.hub_core.specs.States.{HubState, started, started_from}
 use Rattle.hub_core.specs.Pumping.{Pumps}
 use Rattle.hub_core.specs.Attaching.{Attaches, Detaches, Lacks, Refuses}
 use Rattle.hub_core.specs.Saying.{Says}
@@ -52,6 +54,15 @@ outlets_of outlets = map state_of outlets
 abbrev pub beginning : ℕ → ℕ → ℕ → ℕ → WorldState
 beginning history first_number first_session upstream_capacity = record {
   hub = started [] (new_outlet upstream_capacity) history first_number first_session;
+  rest = [];
+  gone = [];
+}
+
+-- what a run begins with that goes on from these messages, the next of which has this number, and
+-- these marks
+abbrev pub beginning_from : Messages → ℕ → NameMarks → ℕ → ℕ → WorldState
+beginning_from history first marks first_session upstream_capacity = record {
+  hub = started_from [] (new_outlet upstream_capacity) history first marks first_session;
   rest = [];
   gone = [];
 }

@@ -9,4 +9,4 @@ mod runs;
 
 pub use event::Event;
 pub use outcome::{MemoryHub, Reply, Run, StartError, Stop, World};
-pub use runs::run;
+pub use runs::{run, run_from};

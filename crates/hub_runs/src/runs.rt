@@ -1,18 +1,21 @@
 //! Events, one after the other.
 
-ghost use Rattle.std.specs.Prelude.{◌≡◌, ◌↔◌, ◌+◌, ◌≤◌, [], false, IfOk, IsErrOf, length, vec_len};
+ghost use Rattle.std.specs.Prelude.{◌≡◌, ◌↔◌, ◌+◌, ◌≤◌, ◌<◌, ◌^◌, [], false, IfOk, IsErrOf, length, vec_len};
+ghost use Rattle.std.specs.Prelude.{ℕ, Some};
 ghost use Rattle.std.specs.Vec.{vec_capacity};
 ghost use Rattle.net_view.specs.View.{empty_view};
-ghost use Rattle.history.specs.Messages.{is_capacity};
-ghost use Rattle.hub_runs.specs.Ran.{Ran};
-ghost use Rattle.hub_runs.specs.Worlds.{beginning, outlets_of, world_of};
+ghost use Rattle.history.specs.Marks.{NameMarks};
+ghost use Rattle.history.specs.Messages.{AreKeptBefore, Messages, is_capacity};
+ghost use Rattle.hub_runs.specs.Course.{Before};
+ghost use Rattle.hub_runs.specs.Ran.{CanRun, Ran, RanFrom, RanOn};
+ghost use Rattle.hub_runs.specs.Worlds.{beginning, beginning_from, outlets_of, world_of};
 
 use crate::apply::apply;
 use crate::event::Event;
 use crate::outcome::{Run, StartError, World};
-use history::CAPACITY_LIMIT;
+use history::{CAPACITY_LIMIT, History, Marks, OutOfMemory};
 use hub_core::{Hub, Setup};
-use hub_ends::{MemoryInlet, MemoryOutlet};
+use hub_ends::{MemoryInlet, MemoryOutlet, SessionId};
 use irc_line::Splitter;
 use net_view::NetworkView;
 use std::alloc::Global;
@@ -45,6 +48,71 @@ fn begin<V: NetworkView + Drop>(
     })
 }
 
+/// What a run of so many events begins with that goes on from what was kept.
+fn begin_from<V: NetworkView + Drop>(
+    alloc: Global,
+    view: V,
+    history: History,
+    marks: Marks,
+    first_session: SessionId,
+    upstream_capacity: usize,
+    count: usize,
+) -> Result<World<V>, OutOfMemory>
+    requires view { V.view view ≡ empty_view }
+    requires kept { (first : ℕ) × AreKeptBefore first history }
+    ensures ok { (first : ℕ) → history.next ≡ Some first → IfOk result (λ w.
+        (world_of w.hub w.splitter.rest (outlets_of w.gone.items)
+        ≡ beginning_from history first marks first_session upstream_capacity) ×
+        (w.replies.items ≡ []) × (count ≤ vec_capacity w.replies)) }
+{
+    let upstream = MemoryOutlet::new(alloc, upstream_capacity)?;
+    let replies = Vec::with_capacity(alloc, count)?;
+    let inlet = MemoryInlet::new(alloc);
+    let hub = Hub::start_from(alloc, view, inlet, upstream, history, marks, first_session);
+    Ok(World {
+        hub,
+        splitter: Splitter::new(alloc),
+        replies,
+        gone: Vec::new(alloc),
+    })
+}
+
+/// Runs events, from a world to which nothing came.
+fn go_on<V: NetworkView + Drop>(alloc: Global, world: World<V>, events: &[Event]) -> Run<V>
+    requires none { world.replies.items ≡ [] }
+    requires room { length events.now ≤ vec_capacity world.replies }
+    ensures { (b : Before) (history : Messages) (first : ℕ) (marks : NameMarks)
+        (first_session upstream_capacity : ℕ) → first_session < 2 ^ 64 →
+        CanRun b (beginning_from history first marks first_session upstream_capacity).hub →
+        world_of world.hub world.splitter.rest (outlets_of world.gone.items)
+        ≡ beginning_from history first marks first_session upstream_capacity →
+        RanFrom b (beginning_from history first marks first_session upstream_capacity)
+        events.now result.done result.stopped_by result.world.replies.items
+        (world_of result.world.hub result.world.splitter.rest
+        (outlets_of result.world.gone.items)) }
+{
+    let mut world = world;
+    let mut done = 0;
+    for event in events {
+        match apply(alloc, &mut world, event) {
+            Ok(reply) => world.replies.push_reserved(reply),
+            Err(stop) => {
+                return Run {
+                    done,
+                    world,
+                    stopped_by: Some(stop),
+                };
+            }
+        }
+        done += 1;
+    }
+    Run {
+        done,
+        world,
+        stopped_by: None,
+    }
+}
+
 /// Runs events over a hub whose ends are in memory. It begins with this view, to which nothing
 /// came, and with an outlet to the network for so many packets at a time.
 ///
@@ -67,24 +135,36 @@ pub fn run<V: NetworkView + Drop>(
         (world_of r.world.hub r.world.splitter.rest (outlets_of r.world.gone.items))) }
     ensures bad { IsErrOf result StartError.BadCapacity ↔ (is_capacity setup.history ≡ false) }
 {
-    let mut world = begin(alloc, view, setup, upstream_capacity, events.len())?;
-    let mut done = 0;
-    for event in events {
-        match apply(alloc, &mut world, event) {
-            Ok(reply) => world.replies.push_reserved(reply),
-            Err(stop) => {
-                return Ok(Run {
-                    done,
-                    world,
-                    stopped_by: Some(stop),
-                });
-            }
-        }
-        done += 1;
-    }
-    Ok(Run {
-        done,
-        world,
-        stopped_by: None,
-    })
+    let world = begin(alloc, view, setup, upstream_capacity, events.len())?;
+    Ok(go_on(alloc, world, events))
+}
+
+/// Runs events over a hub whose ends are in memory, as `run` does, but from the messages that were
+/// kept before and what each client name had seen of them.
+pub fn run_from<V: NetworkView + Drop>(
+    alloc: Global,
+    view: V,
+    history: History,
+    marks: Marks,
+    first_session: SessionId,
+    upstream_capacity: usize,
+    events: &[Event],
+) -> Result<Run<V>, OutOfMemory>
+    requires view { V.view view ≡ empty_view }
+    requires kept { (first : ℕ) × AreKeptBefore first history }
+    ensures { (first : ℕ) → history.next ≡ Some first → IfOk result (λ r. RanOn
+        (beginning_from history first marks first_session upstream_capacity) events.now r.done
+        r.stopped_by r.world.replies.items
+        (world_of r.world.hub r.world.splitter.rest (outlets_of r.world.gone.items))) }
+{
+    let world = begin_from(
+        alloc,
+        view,
+        history,
+        marks,
+        first_session,
+        upstream_capacity,
+        events.len(),
+    )?;
+    Ok(go_on(alloc, world, events))
 }

@@ -15,6 +15,6 @@ pub use input::{InputEnd, LineTaker, READ_LIMIT, ReadPoint, read_from_start, rea
 pub use line::{Line, MakeError};
 pub use param_list::Params;
 pub use scan::{place_of, split_byte};
-pub use splitter::{FeedError, LINE_LIMIT, Splitter};
+pub use splitter::{FeedError, LINE_LIMIT, Splitter, lines_in};
 pub use std::alloc::AllocError as OutOfMemory;
 pub use writing::write_line;

@@ -136,6 +136,16 @@ fn read_lines<'a, A: Allocator + Copy, B: Allocator>(
     Ok((rest, skipped))
 }
 
+/// The lines that bytes in memory hold, in order, as a splitter gives them, but of any length: for a
+/// text that was read whole. Each line takes one allocation.
+pub fn lines_in<A: Allocator + Copy>(alloc: A, bytes: &[u8]) -> Result<Vec<Line<A>, A>, OutOfMemory>
+    ensures { IfOk result (λ lines. lines.items ≡ lines_of bytes.now) }
+{
+    let mut lines = Vec::new(alloc);
+    let (_rest, _skipped) = read_lines(alloc, bytes, &mut lines)?;
+    Ok(lines)
+}
+
 fn drop_front<A: Allocator>(bytes: &mut Vec<u8, A>, count: usize)
     requires { count ≤ length bytes.old.items }
     ensures { bytes.new.items ≡ drop count bytes.old.items }

@@ -1,6 +1,9 @@
-//! Tests alone: lines, names and network settings as they come, and the messages that are kept.
+//! Tests alone: lines, names and network settings as they come, the messages that are kept, and
+//! journals.
 #![tactic(auto)]
 
+#[cfg(test)]
+mod journals;
 #[cfg(test)]
 mod kept_messages;
 #[cfg(test)]

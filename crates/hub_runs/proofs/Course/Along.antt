@@ -1,7 +1,7 @@
 -- What a list of events keeps, and by which attach each session came.
 pub mod Events
 pub use Events.*
-pub use Rattle.hub_runs.specs.{Course.given_then, Late.Attached, Ran.limits_of}
+pub use Rattle.hub_runs.specs.{Course.{Before, given_then}, Late.Attached, Ran.limits_from}
 pub use Rattle.hub_runs.specs.{Replies.{answers_behind, deeds_behind}, Transcripts.transcript_of}
 pub use Rattle.{hub_runs.specs.Worlds.{AllHappen, numbers_given}, std.proofs.Common.subst}
 pub use Rattle.std.proofs.Math.Seq.{append_snoc}
@@ -13,12 +13,12 @@ happen_more (d ∷ es) (q ∷ rs) e r a b c all one =
     (all.0, all.1, happen_more es rs e r all.0 b c all.2 one)
 happen_more _ _ e r a b c all one = absurd all
 
-module _ (start : WorldState) (all : List Event) (answers : List Reply) where
+module _ (b : Before) (start : WorldState) (all : List Event) (answers : List Reply) where
   -- the session of a number has attached, with this name or none
   pub record CameBy (ds : List Deed) (id : ℕ) (name : Option Text) : Type 0 where
     pub attach : Attached start all answers id name
     pub more : List (List Parts)
-    pub burst : packets start.hub.history.capacity start.hub.first id ds
+    pub burst : packets b id ds
         ≡ burst_of (view_of (arrivals (transcript_of attach.before))) attach.caps
         (missed attach.standing.hub (name_of attach.name)) ∷ more
     pub within : length (transcript_of attach.before) ≤ length (heard_back ds)
@@ -34,8 +34,8 @@ module _ (start : WorldState) (all : List Event) (answers : List Reply) where
   came_plain d ds plain came = grind arith
 
   packets_more : (id : ℕ) (d : Deed) (ds : List Deed) → starts id d ≡ false
-      → (p : List (List Parts)) × (packets start.hub.history.capacity start.hub.first id (d ∷ ds)
-      ≡ packets start.hub.history.capacity start.hub.first id ds ++ p)
+      → (p : List (List Parts)) × (packets b id (d ∷ ds)
+      ≡ packets b id ds ++ p)
   packets_more id (Joined k name caps size) ds other = ([], simp (other, append-nil))
   packets_more id d ds other = (option_to_list (given_then id ds d), refl)
 
@@ -68,9 +68,9 @@ module _ (start : WorldState) (all : List Event) (answers : List Reply) where
   pub record Standing (events : List Event) (replies : List Reply) (ds : List Deed)
       (w : WorldState) : Type 0 where
     pub so_far : AllHappen events replies start w
-    pub followed : Followed (limits_of start.hub) ds w.hub
-    pub gone : sents w.gone ≡ gones (limits_of start.hub) ds
-    pub numbers : Numbers (limits_of start.hub) ds (numbers_given replies)
+    pub followed : Followed (limits_from b start.hub) ds w.hub
+    pub gone : sents w.gone ≡ gones (limits_from b start.hub) ds
+    pub numbers : Numbers (limits_from b start.hub) ds (numbers_given replies)
     pub rest : w.rest ≡ rest_after [] events
     pub seen : reverse (heard_back ds) ≡ arrivals (transcript_of events)
     pub came : AllCame ds
@@ -113,8 +113,8 @@ module _ (start : WorldState) (all : List Event) (answers : List Reply) where
   -- after the others too
   pub record Stood (ds : List Deed) (rest : List ℕ) (es : List Event) (rs : List Reply)
       (last : WorldState) : Type 0 where
-    pub stands : Standing all answers (deeds_behind (limits_of start.hub) ds rest es) last
-    pub answered : map answer_of rs ≡ answers_behind (limits_of start.hub) ds rest es
+    pub stands : Standing all answers (deeds_behind (limits_from b start.hub) ds rest es) last
+    pub answered : map answer_of rs ≡ answers_behind (limits_from b start.hub) ds rest es
 
   pub go_on : (events es : List Event) (replies rs : List Reply) (ds : List Deed)
       (w last : WorldState) → all ≡ events ++ es → answers ≡ replies ++ rs
@@ -124,7 +124,7 @@ module _ (start : WorldState) (all : List Event) (answers : List Reply) where
       (subst (λ rs. Standing events rs ds w) (sym (told ∙ append-nil replies)) s) in
       rw h (record { stands = k; answered = refl })
   go_on events (e ∷ es) replies (r ∷ rs) ds w last are told s h =
-      let one = event_done (limits_of start.hub) ds w e r h.0 s.followed h.1 in
+      let one = event_done (limits_from b start.hub) ds w e r h.0 s.followed h.1 in
       let next : Standing (events ++ e ∷ []) (replies ++ r ∷ [])
       (with_event ds w.rest e (answer_of r)) h.0 = record {
         so_far = happen_more events replies e r start w h.0 s.so_far h.1;

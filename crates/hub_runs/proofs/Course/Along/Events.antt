@@ -58,7 +58,7 @@ range_more a (suc n) = grind (arith, range_more (a + 1) n)
 
 module _ (l : Limits) where
   abbrev pub gones : List Deed → List (List (List Parts))
-  gones ds = gone_with l.history l.first_number ds
+  gones ds = gone_with l.before ds
 
   -- numbers were given in order
   abbrev pub Numbers : List Deed → List ℕ → Type 0

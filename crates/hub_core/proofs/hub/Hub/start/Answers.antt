@@ -1,17 +1,9 @@
+use Rattle.hub_core.proofs.Kept.{kept_before}
+use Rattle.hub_core.proofs.Words.{subst, sym}
+use Rattle.history.specs.Messages.{AreKeptBefore}
 use Rattle.hub_core.proofs.hub.Hub.start.Goals as goal
-use Rattle.hub_core.proofs.{Running.started_runs, Words.{bytes_cmp, empty-shown, joining, rules}}
-use Rattle.hub_core.{proofs.Words.{subst, sym}, specs.StateParts.AreStateParts}
 
-pub invariant_of-result : goal.invariant_of-result
-invariant_of-result g c = (
-  rw (
-    c.requires.view,
-    c.requires.inlet,
-    c.new-3.ensures.items,
-    c.in_ok-history.ensures.made,
-    c.in_ok-marks.ensures,
-    c.new-5.ensures,
-    empty-shown bytes_cmp joining,
-  ) (started_runs _ _ c.args.setup.history _ _ c.requires.upstream (search rules)),
-  subst (AreStateParts (g.V.NetworkView.view c.args.view)) (sym c.new-6.ensures.items) tt,
-)
+pub begin-requires-clause-kept : goal.begin-requires-clause-kept
+begin-requires-clause-kept g c =
+    subst (AreKeptBefore c.args.setup.first_number) (sym c.in_ok-history.ensures.made)
+    (kept_before c.args.setup.history c.args.setup.first_number)

@@ -40,10 +40,12 @@ pub record Followed (l : Limits) (ds : List Deed) (h : HubState) : Type 0 where
   pub ahead : h.ahead ≡ []
   pub taken : arrivals h.taken ≡ reverse (heard_back ds)
   pub seated : Seated l ds h
-  pub history : h.history ≡ kept_then l.history l.first_number ds
+  pub history : h.history ≡ kept_then l.before ds
   pub messages : AreMessages h.history.kept
   pub ups : Ups l.upstream ds h.upstream
-  pub marks : (name : Text) → mark_of name h.marks ≡ mark_then l.history l.first_number name ds
+  pub marks : (name : Text) → mark_of name h.marks ≡ mark_then l.before name ds
+  -- a message more is kept as such
+  pub keeps : KeepsOn l.before.kept
 
 module _ {l : Limits} {ds : List Deed} {h : HubState} (f : Followed l ds h) where
   pub heard_then : heard h ≡ reverse (heard_back ds)
@@ -59,11 +61,11 @@ module _ {l : Limits} {ds : List Deed} {h : HubState} (f : Followed l ds h) wher
       → now.history ≡ with_entry h.history e
       → messages (d ∷ ds) ≡ messages ds ++ option_to_list e → (IsSome e → IsSome h.history.next)
       → IfSome e (λ e. IsTrue (is_message_command e.command)) → Ups l.upstream (d ∷ ds) now.upstream
-      → ((n : Text) → mark_of n now.marks ≡ mark_then l.history l.first_number n (d ∷ ds))
+      → ((n : Text) → mark_of n now.marks ≡ mark_then l.before n (d ∷ ds))
       → Followed l (d ∷ ds) now
   followed_by d now e held ahead taken seated history more number is ups marks =
-      let kept = entry_more l.history l.first_number (messages ds) e in
-      grind (arith, kept, f.history, messages_stay h.history e f.messages)
+      let kept = f.keeps (messages ds) e in
+      grind (arith, kept, f.history, messages_stay h.history e f.messages, f.keeps)
 
   pub took : (x : Came) (p : Pumped) (n : HubState) → TakesIn h x p n → Followed l (Took x ∷ ds) n
   took x Nothing new t = grind (arith, f.ahead)
@@ -74,7 +76,7 @@ module _ {l : Limits} {ds : List Deed} {h : HubState} (f : Followed l ds h) wher
       let more : arrivals new.taken ≡ reverse (heard_back (Took x ∷ ds)) =
       rw (t.comes.taken, f.held, one.0) (cc (put, turned, f.taken)) in
       rw t.others (followed_by (Took x) _ (entry_for x) t.held one.1 more
-      (seated_on l _ _ _ _ f.seated (refl, refl, refl) refl f.seated.known
+      (seated_on l _ _ _ _ f.seated (refl, (λ known. refl), refl) refl f.seated.known
       (goes_delivered l _ _ (λ s. packet_for (view_now h) t.item s.caps) (λ s k. record {
         alike = simp (k.is_sent.1, now_seen, one.0);
         tells = λ t. rw (heard_then, one.0, turned) (told_item _ _ _ _ t x);
@@ -94,7 +96,7 @@ module _ {l : Limits} {ds : List Deed} {h : HubState} (f : Followed l ds h) wher
         tells = λ t. told_quiet _ _ _ _ t _ (said_to_others h id line moment s);
       } in
       rw w.others (followed_by d _ (entry_said own) f.held f.ahead f.taken
-      (seated_on l _ _ _ _ f.seated (refl, refl, refl) refl f.seated.known
+      (seated_on l _ _ _ _ f.seated (refl, (λ known. refl), refl) refl f.seated.known
       (goes_delivered l _ _ _ gets h.sessions new.sessions f.seated.sit w.sessions))
       w.history (grind (arith, own_is)) (λ some. w.number (grind (arith, some)))
       (grind (arith, entry_is_message))
@@ -106,8 +108,8 @@ module _ {l : Limits} {ds : List Deed} {h : HubState} (f : Followed l ds h) wher
   -- it changes sessions, names and the outlet to the network alone
   alone_on : (d : Deed) (ss : List SessionState) (o : OutletState) (marks : NameMarks)
       → heard_back (d ∷ ds) ≡ heard_back ds → messages (d ∷ ds) ≡ messages ds ++ [] → Stay d ds
-      → Goes l (d ∷ ds) h.sessions ss → Ups l.upstream (d ∷ ds) o → AreKnown (names_then ds) marks
-      → ((n : Text) → mark_of n marks ≡ mark_then l.history l.first_number n (d ∷ ds))
+      → Goes l (d ∷ ds) h.sessions ss → Ups l.upstream (d ∷ ds) o → AreKnown (names_then l.before.names ds) marks
+      → ((n : Text) → mark_of n marks ≡ mark_then l.before n (d ∷ ds))
       → Followed l (d ∷ ds) record h { sessions = ss; upstream = o; marks = marks }
   alone_on d ss o marks took none stay goes ups known is =
       let now = record h { sessions = ss; upstream = o; marks = marks } in
@@ -119,8 +121,8 @@ module _ {l : Limits} {ds : List Deed} {h : HubState} (f : Followed l ds h) wher
   sessions_on : (d : Deed) (ss : List SessionState)
       → heard_back (d ∷ ds) ≡ heard_back ds → messages (d ∷ ds) ≡ messages ds ++ [] → Stay d ds
       → up_by l.upstream (waiting l.upstream ds) d ≡ [] → taken_out d ≡ 0
-      → ((n : Text) → mark_then l.history l.first_number n (d ∷ ds)
-      ≡ mark_then l.history l.first_number n ds) → Goes l (d ∷ ds) h.sessions ss
+      → ((n : Text) → mark_then l.before n (d ∷ ds)
+      ≡ mark_then l.before n ds) → Goes l (d ∷ ds) h.sessions ss
       → Followed l (d ∷ ds) (with_sessions h ss)
   sessions_on d ss took none stay up out same goes =
       alone_on d ss _ _ took none stay goes (ups_quiet f.ups d up out) f.seated.known
@@ -131,7 +133,7 @@ module _ {l : Limits} {ds : List Deed} {h : HubState} (f : Followed l ds h) wher
       → Becomes l (Asked id line ∷ ds) a.here o
       → Followed l (Asked id line ∷ ds) (with_sessions h (a.front ++ (option_to_list o ++ a.back)))
   asked id line a o here =
-      sessions_on _ _ refl refl (refl, refl, refl) refl refl (λ n. refl)
+      sessions_on _ _ refl refl (refl, (λ known. refl), refl) refl refl (λ n. refl)
       (goes_around l _ ds h id a o (λ n e. inl e) f.seated here)
 
   -- what it is given
@@ -159,7 +161,7 @@ module _ {l : Limits} {ds : List Deed} {h : HubState} (f : Followed l ds h) wher
   pub unasked : (id : ℕ) (line : Parts) → meaning line ≡ means.Nothing
       → Followed l (Asked id line ∷ ds) h
   unasked id line e =
-      sessions_on _ _ refl refl (refl, refl, refl) refl refl (λ n. refl)
+      sessions_on _ _ refl refl (refl, (λ known. refl), refl) refl refl (λ n. refl)
       (all_still l _ _ (λ n. inr e) h.sessions f.seated.sit)
 
   pub left : (id : ℕ) (o : OutletState) (told : Bool) (new : HubState) → Detaches h id o told new
@@ -168,18 +170,18 @@ module _ {l : Limits} {ds : List Deed} {h : HubState} (f : Followed l ds h) wher
       let s = d.gone in
       let joined : session_then id ds ≡ Some (s.name, s.caps) =
       grind (arith, d.number, session_at id (around_gone d)) in
-      let known = is_named id ds s.name (rw joined refl) in
+      let known = is_named l.before.names id ds s.name (rw joined refl) in
       let named : Known h.marks s.name = grind (arith, known, f.seated.known.each) in
       let last = last_number h.history in
-      rw d.is (alone_on (Left id) _ _ _ refl refl (refl, refl, refl)
+      rw d.is (alone_on (Left id) _ _ _ refl refl (refl, (λ known. refl), refl)
       (goes_around l _ _ h id (around_gone d) None (λ n e. e) f.seated
       (grind (arith, nat_tests, d.number))) (ups_quiet f.ups _ refl refl)
-      (known_marked (names_then ds) h.marks s.name last named f.seated.known) (λ name.
+      (known_marked (names_then l.before.names ds) h.marks s.name last named f.seated.known) (λ name.
       grind (arith, marked_mark h.marks s.name last name named, f.marks name, f.history, joined)))
 
   -- the burst of the session of a number
   pub burst_is : (caps : Caps) (name : Option Text) (size id : ℕ)
-      → packets l.history l.first_number id (Joined id name caps size ∷ ds)
+      → packets l.before id (Joined id name caps size ∷ ds)
       ≡ burst_of (view_now h) caps (missed h name) ∷ []
   burst_is caps name size id =
       grind (arith, nat_tests, now_seen, f.marks, f.history)
@@ -195,13 +197,13 @@ module _ {l : Limits} {ds : List Deed} {h : HubState} (f : Followed l ds h) wher
       rw a.is (followed_by _ _ None f.held f.ahead f.taken
       (seated_joined l ds h _ s size _ f.seated a.number a.sent (burst_is caps name size id)
       (grind (arith, heard_then, length-reverse (heard_back ds), told)) refl refl
-      (known_named (names_then ds) h.marks name f.seated.known)) refl refl (λ some. absurd cc) tt
+      (known_named (names_then l.before.names ds) h.marks name f.seated.known)) refl refl (λ some. absurd cc) tt
       (ups_quiet f.ups _ refl refl) (λ n. grind (arith, named_mark h.marks name n, f.marks n)))
 
   pub drained_up : (most taken : ℕ) (new : HubState) → DrainsUpstream h most taken new
       → Followed l (Drained taken ∷ ds) new
   drained_up most taken new d =
-      rw d.is (alone_on _ _ _ _ refl refl (refl, refl, refl)
+      rw d.is (alone_on _ _ _ _ refl refl (refl, (λ known. refl), refl)
       (all_still l _ _ (λ n. tt) h.sessions f.seated.sit)
       (ups_drained f.ups d.given most taken d.drained) f.seated.known f.marks)
 
@@ -216,7 +218,7 @@ module _ {l : Limits} {ds : List Deed} {h : HubState} (f : Followed l ds h) wher
   drained_at id most taken new d =
       let still = sit_still l (Drew id taken) ds id (λ n e. e) h.sessions in
       let on = λ (ss : List SessionState).
-      sessions_on (Drew id taken) ss refl refl (refl, refl, refl) refl refl (λ n. refl) in
+      sessions_on (Drew id taken) ss refl refl (refl, (λ known. refl), refl) refl refl (λ n. refl) in
       elim d [
         | inl e ↦ rw e.2 (on h.sessions (goes_still l _ _ (still e.0 f.seated.sit)))
         | inr e ↦ (let a = e.around in

@@ -45,7 +45,7 @@ lacks_behind b (r ∷ front) s back rise = lacks_behind b front s back rise.2
 abbrev pub Stay : Deed → List Deed → Type 0
 Stay d ds =
     (there (d ∷ ds) ≡ filter (λ id. is_there id (d ∷ ds)) (there ds)) ×
-    (names_then (d ∷ ds) ≡ names_then ds) × (attached (d ∷ ds) ≡ attached ds)
+    ((known : List Text) → names_then known (d ∷ ds) ≡ names_then known ds) × (attached (d ∷ ds) ≡ attached ds)
 
 -- it changes nothing at the session of a number
 abbrev pub Misses : Deed → ℕ → Type 0
@@ -69,12 +69,12 @@ Story = List (List Parts) × Option (ℕ × ℕ) × Option (Option Text × Caps)
 
 module _ (l : Limits) where
   abbrev pub story : ℕ → List Deed → Story
-  story id ds = (packets l.history l.first_number id ds, outlet_then id ds, session_then id ds)
+  story id ds = (packets l.before id ds, outlet_then id ds, session_then id ds)
 
   -- What it was sent and what waits for it is as what happened says, and tells its client what it
   -- is to know. Packets wait in all places of its outlet that are not free.
   pub record Sits (ds : List Deed) (s : SessionState) : Type 0 where
-    pub is_sent : IsSent l.history l.first_number ds s
+    pub is_sent : IsSent l.before ds s
     pub outlet : outlet_then s.id ds ≡ Some (s.outlet.capacity, s.outlet.capacity - s.outlet.free)
     pub room : s.outlet.free ≤ s.outlet.capacity
     pub unclosed : s.outlet.closed ≡ None
@@ -117,14 +117,14 @@ module _ (l : Limits) where
     pub sit : Sit ds h.sessions
     pub who : numbers_in h.sessions ≡ there ds
     pub rise : Rise (l.first_session + attached ds) (there ds)
-    pub known : AreKnown (names_then ds) h.marks
+    pub known : AreKnown (names_then l.before.names ds) h.marks
     pub next : h.next ≡ next_then l.first_session ds
 
   module _ (d : Deed) (ds : List Deed) where
     -- a session is given a packet, or nothing, and then holds these capabilities
     pub record Gets (s : SessionState) (p : Option (List Parts)) (caps : Caps) : Type 0 where
       pub alike : ◌≡◌ {A = Story} (story s.id (d ∷ ds)) (
-        packets l.history l.first_number s.id ds ++ option_to_list p,
+        packets l.before s.id ds ++ option_to_list p,
         option_and_then (put_in p) (outlet_then s.id ds),
         Some (s.name, caps),
       )
@@ -179,7 +179,7 @@ module _ (l : Limits) where
         grind (arith, lacks, front, back, at, still, a.was, a.number, a.first, k.sit, k.who, k.rise)
 
     pub seated_on : (h new : HubState) → Seated ds h → Stay d ds → new.next ≡ h.next
-        → AreKnown (names_then ds) new.marks → Goes (d ∷ ds) h.sessions new.sessions
+        → AreKnown (names_then l.before.names ds) new.marks → Goes (d ∷ ds) h.sessions new.sessions
         → Seated (d ∷ ds) new
     seated_on h new k stay next known g = grind (arith, rise_filter, k.sit, k.who, k.rise, k.next)
 
@@ -187,10 +187,10 @@ module _ (l : Limits) where
   pub seated_joined : (ds : List Deed) (h new : HubState) (s : SessionState) (size : ℕ)
       (packet : List Parts) → Seated ds h → h.next ≡ Some s.id
       → TookPacket true (new_outlet size) packet s.outlet
-      → packets l.history l.first_number s.id (Joined s.id s.name s.caps size ∷ ds) ≡ packet ∷ []
+      → packets l.before s.id (Joined s.id s.name s.caps size ∷ ds) ≡ packet ∷ []
       → Tells (packet ∷ []) (reverse (heard_back ds)) (length (heard_back ds)) s.caps
       → new.sessions ≡ h.sessions ++ s ∷ [] → new.next ≡ number_after s.id
-      → AreKnown (names_then (Joined s.id s.name s.caps size ∷ ds)) new.marks
+      → AreKnown (names_then l.before.names (Joined s.id s.name s.caps size ∷ ds)) new.marks
       → Seated (Joined s.id s.name s.caps size ∷ ds) new
   seated_joined ds h new s size packet k number t sent tells are next known =
       let d = Joined s.id s.name s.caps size in

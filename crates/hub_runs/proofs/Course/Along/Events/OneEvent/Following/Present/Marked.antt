@@ -3,7 +3,8 @@ pub mod HoldingLaw
 unfoldable pub use HoldingLaw.*
 pub use Rattle.hub_ends.specs.Outlets.{Took as TookPacket}
 pub use Rattle.history.{proofs.LastMessages.one_more, specs.Marks.{NameMarks, bytes_cmp, mark_of}}
-pub use Rattle.{history.specs.Messages.history_of, hub_core.specs.Attaching.{marked, with_name}}
+pub use Rattle.{history.specs.Messages.{Messages, history_of}, hub_core.specs.Attaching.{marked, with_name}}
+pub use Rattle.hub_runs.specs.Ran.{KeepsOn, kept_on}
 pub use Rattle.hub_core.specs.{InMemory.Drains, Pumping.{Puts, pong_for, with_entry}}
 pub use Rattle.{hub_ends.specs.Outlets.OutletState, hub_runs.specs.Course.{Deed, Drained, Joined}}
 pub use Rattle.hub_runs.specs.Course.{Took, mark_left, session_then, taken_out, up_by, upward}
@@ -42,11 +43,14 @@ module _ {up : ℕ} {ds : List Deed} {o : OutletState} (u : Ups up ds o) where
   ups_drained o' most taken d = grind (arith, append-nil)
 
 -- a message more, where there is one
-pub entry_more : (capacity first : ℕ) (ms : List EntryParts) (e : Option EntryParts)
-    → (IsSome e → IsSome (history_of capacity first ms).next)
-    → with_entry (history_of capacity first ms) e
-    ≡ history_of capacity first (ms ++ option_to_list e)
+pub entry_more : (capacity first : ℕ) → KeepsOn (history_of capacity first)
 entry_more capacity first ms e number = grind (arith, append-nil, number, one_more capacity first)
+
+-- so it does behind others
+pub entry_on : (h : Messages) → KeepsOn (kept_on h)
+entry_on h [] None number = refl
+entry_on h [] (Some e) number = refl
+entry_on h (m ∷ ms) e number = entry_on (with_entry h (Some m)) ms e number
 
 -- a session's name was admitted
 abbrev pub Known : NameMarks → Option Text → Type 0
@@ -105,9 +109,10 @@ named_by : (b : Bool) (names : List Text) (name o : Option Text) → (b ≡ true
 named_by b names name None new old = tt
 named_by b names name (Some q) new old = grind (arith, named_among names name q, same_refl q)
 
-pub is_named : (id : ℕ) (ds : List Deed) (name : Option Text) → name_then id ds ≡ Some name
-    → IfSome name (λ n. is_among n (names_then ds) ≡ true)
-is_named id [] name e = cc
-is_named id (Joined k new caps size ∷ ds) name e =
-    grind (arith, named_by (k == id) (names_then ds) new name, is_named id ds name)
-is_named id (d ∷ ds) name e = is_named id ds name (rw (← name_stays id d ds refl) e)
+pub is_named : (known : List Text) (id : ℕ) (ds : List Deed) (name : Option Text)
+    → name_then id ds ≡ Some name → IfSome name (λ n. is_among n (names_then known ds) ≡ true)
+is_named known id [] name e = cc
+is_named known id (Joined k new caps size ∷ ds) name e =
+    grind (arith, named_by (k == id) (names_then known ds) new name, is_named known id ds name)
+is_named known id (d ∷ ds) name e =
+    is_named known id ds name (rw (← name_stays id d ds refl) e)

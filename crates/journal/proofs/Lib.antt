@@ -1,0 +1,5 @@
+pub mod Again
+pub mod Before
+pub mod Beginnings
+pub mod FrameSizes
+pub mod InOrder

@@ -1,0 +1,5 @@
+pub mod Kept
+pub mod Reading
+pub mod Recalls
+pub mod Records
+pub mod Writing

@@ -1,0 +1,22 @@
+//! The journal of a network: what is to outlive the bouncer, as batches of records. A record is a
+//! line of IRC, a batch a frame of lines.
+#![tactic(auto)]
+
+mod damage;
+mod kept;
+mod lines;
+mod number;
+mod recalling;
+mod record;
+mod redoing;
+mod replaying;
+mod sizes;
+mod texts;
+
+pub use damage::Damage;
+pub use kept::{Channel, Kept};
+pub use recalling::{Recalled, recall};
+pub use record::Record;
+pub use replaying::RecallError;
+pub use sizes::used_by;
+pub use texts::{PushError, push_batch};

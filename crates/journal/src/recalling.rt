@@ -1,0 +1,93 @@
+//! A journal is recalled.
+
+ghost use Rattle.std.specs.Prelude.{◌≡◌, ◌<◌, ◌^◌, ◌++◌, IfOk, List, None, Ok, Some, ℕ};
+ghost use Rattle.std.specs.Prelude.{length, take};
+ghost use Rattle.frames.specs.Frames.{frame, frame_at};
+ghost use Rattle.journal.specs.Kept.{KeptParts, after_all, kept_parts, nothing};
+ghost use Rattle.journal.specs.Recalls.{CanBegin, Fails, IsAfterBeginning, Recalls};
+ghost use Rattle.journal.specs.Records.{AreBatches, RecordParts, journal_of};
+ghost use Rattle.journal.specs.declared.damage.Damage.{Damage};
+
+use crate::damage::Damage;
+use crate::kept::Kept;
+use crate::replaying::{RecallError, Redone, redo_all};
+use frames::read_frames;
+use std::alloc::Global;
+
+/// What is recalled of a journal.
+#[derive(Drop)]
+pub struct Recalled {
+    /// What is kept after its batches, up to the first that does not count.
+    pub kept: Kept,
+    /// How many batches count.
+    pub batches: usize,
+    /// Why the next batch does not; `None` where all do whose frames are whole.
+    pub damage: Option<Damage>,
+}
+
+/// Recalls a journal.
+#[tactic(auto, using(crate::proofs::InOrder::recalled_part, crate::proofs::InOrder::no_second))]
+fn recall_frames(
+    alloc: Global,
+    capacity: usize,
+    first: u64,
+    bytes: &[u8],
+) -> Result<Recalled, RecallError>
+    ensures { IfOk result (λ r. Recalls (nothing capacity first) bytes.now r.batches r.damage
+        (kept_parts r.kept)) }
+{
+    let (payloads, _rest) = read_frames(alloc, bytes)?;
+    let all = Vec::from_slice(alloc, &payloads)?;
+    match redo_all(alloc, capacity, first, all)? {
+        Redone::All(kept) => Ok(Recalled {
+            kept,
+            batches: payloads.len(),
+            damage: None,
+        }),
+        Redone::Until(done, damage) => {
+            let front = Vec::from_slice(alloc, &payloads[..done])?;
+            match redo_all(alloc, capacity, first, front)? {
+                Redone::All(kept) => Ok(Recalled {
+                    kept,
+                    batches: done,
+                    damage: Some(damage),
+                }),
+                Redone::Until(_, _) => unreachable!(),
+            }
+        }
+    }
+}
+
+/// Recalls a journal: what is kept after its batches, for a history of this capacity, where the
+/// first message has this number. Of bytes that were cut anywhere, that is what was kept after a
+/// beginning of the batches. In a sound frame that is no batch, or whose records can't be done,
+/// recall ends, and says why.
+pub fn recall(
+    alloc: Global,
+    capacity: usize,
+    first: u64,
+    bytes: &[u8],
+) -> Result<Recalled, RecallError>
+    ensures recalls { IfOk result (λ r. Recalls (nothing capacity first) bytes.now r.batches
+        r.damage (kept_parts r.kept)) }
+    // A hub can begin with it.
+    ensures begins { IfOk result (λ r. CanBegin r.kept.history) }
+    // Of what was written and then cut, a beginning of the batches is recalled.
+    ensures cut { (batches : List (List RecordParts)) (n : ℕ) → AreBatches batches →
+        bytes.now ≡ take n (journal_of batches) → IfOk result (λ r.
+        IsAfterBeginning batches (nothing capacity first) (kept_parts r.kept)) }
+    // Of what was written, and bytes behind it that begin no frame, all batches are.
+    ensures whole { (batches : List (List RecordParts)) (torn : List ℕ) (kept : KeptParts) →
+        AreBatches batches → frame_at torn ≡ None → bytes.now ≡ journal_of batches ++ torn →
+        after_all batches (nothing capacity first) ≡ Ok kept → IfOk result (λ r.
+        (kept_parts r.kept ≡ kept) × (r.damage ≡ None) × (r.batches ≡ length batches)) }
+    // A sound frame behind them that does not count ends it, with all before it, and is told.
+    ensures damaged { (batches : List (List RecordParts)) (bad more : List ℕ) (kept : KeptParts)
+        (why : Damage) → AreBatches batches → length bad < 2 ^ 32 →
+        bytes.now ≡ journal_of batches ++ (frame bad ++ more) →
+        after_all batches (nothing capacity first) ≡ Ok kept → Fails bad kept why →
+        IfOk result (λ r. (kept_parts r.kept ≡ kept) × (r.damage ≡ Some why)
+        × (r.batches ≡ length batches)) }
+{
+    recall_frames(alloc, capacity, first, bytes)
+}

@@ -1,0 +1,214 @@
+//! Journals: the text of a batch, and what is recalled of whole, cut and damaged files.
+
+use frames::push_frame;
+use history::Entry;
+use journal::{Damage, PushError, Recalled, Record, push_batch, recall, used_by};
+use std::alloc::Global;
+use std::process::Abort;
+use std::test::Fail;
+use test_texts::line;
+
+/// A batch with each kind of record.
+const EACH_KIND: &str = "NEXT 1234\r\n\
+    @time=2020-01-02T03:04:05.678Z :bob!b@h PRIVMSG #c :hi all\r\n\
+    NAME laptop\r\n\
+    MARK laptop 1233\r\n\
+    GONE phone\r\n\
+    ON #c\r\n\
+    ON #d secret\r\n";
+
+fn bytes(alloc: Global, text: &str) -> Result<Vec<u8>, Fail> {
+    Ok(Vec::from_slice(alloc, text.as_bytes())?)
+}
+
+/// The records of that batch.
+fn each_kind(alloc: Global) -> Result<Vec<Record>, Fail> {
+    let said = line(alloc, b":bob!b@h PRIVMSG #c :hi all")?;
+    let entry = Entry::of_message(alloc, b"2020-01-02T03:04:05.678Z", &said)?;
+    let mut records = Vec::new(alloc);
+    records.push(Record::Next(1234))?;
+    records.push(Record::Message(entry.ok_or("a message")?))?;
+    records.push(Record::Name(bytes(alloc, "laptop")?))?;
+    records.push(Record::Mark(bytes(alloc, "laptop")?, 1233))?;
+    records.push(Record::Gone(bytes(alloc, "phone")?))?;
+    records.push(Record::On(bytes(alloc, "#c")?, None))?;
+    records.push(Record::On(bytes(alloc, "#d")?, Some(bytes(alloc, "secret")?)))?;
+    Ok(records)
+}
+
+fn is_its_text<R: AllocGlobal + Abort>(rt: &R, records: &[Record]) -> Result<(), Fail> {
+    let mut out = Vec::new(rt.alloc());
+    push_batch(rt.alloc(), &mut out, records)?;
+    assert!(rt; out.len() == 36 + EACH_KIND.len());
+    assert!(rt; out.starts_with(&[0, 0, 0, 135]) && out.ends_with(EACH_KIND.as_bytes()));
+    Ok(())
+}
+
+/// A batch is its length, a digest, and a line of IRC for each record.
+#[test]
+fn a_batch_is_lines(rt: HostRuntime) -> Result<(), Fail> {
+    is_its_text(&rt, &each_kind(rt.alloc())?)
+}
+
+fn is_refused<R: AllocGlobal + Abort>(rt: &R, name: &str) -> Result<(), Fail> {
+    let mut records = Vec::new(rt.alloc());
+    records.push(Record::Mark(bytes(rt.alloc(), name)?, 7))?;
+    let mut out = Vec::new(rt.alloc());
+    assert!(rt; push_batch(rt.alloc(), &mut out, &records) == Err(PushError::NoRecord));
+    assert!(rt; out.is_empty());
+    Ok(())
+}
+
+/// A name that no line can hold before its number.
+#[test]
+fn names_that_can_not_be_written(rt: HostRuntime) -> Result<(), Fail> {
+    for name in ["", "two words", ":pc", "p\nc", "p\rc", "p\0c"] {
+        is_refused(&rt, name)?;
+    }
+    Ok(())
+}
+
+/// Appends a frame, of a text that is not too long for one.
+fn push(file: &mut Vec<u8>, text: &[u8]) -> Result<(), Fail> {
+    if text.len() > 0xFFFF_FFFF {
+        return Err("too long".into());
+    }
+    Ok(push_frame(file, text)?)
+}
+
+/// A file with a frame for each text.
+fn file_of(alloc: Global, texts: &[&str]) -> Result<Vec<u8>, Fail> {
+    let mut file = Vec::new(alloc);
+    for text in texts {
+        push(&mut file, text.as_bytes())?;
+    }
+    Ok(file)
+}
+
+fn recalled(alloc: Global, file: &[u8]) -> Result<Recalled, Fail> {
+    Ok(recall(alloc, 500, 1, file)?)
+}
+
+/// Files with a batch a text; how many of them count, and why the next one does not.
+const FILES: &[(&[&str], usize, Option<Damage>)] = &[
+    (&[], 0, None),
+    (&[""], 1, None),
+    (&[EACH_KIND, "NEXT 1235\r\n"], 2, None),
+    (&[EACH_KIND, "NEXT 1234\r\n"], 1, Some(Damage::BadNumber)),
+    (&["NEXT 18446744073709551615\r\n"], 1, None),
+    (
+        &["NEXT 18446744073709551616\r\n"],
+        0,
+        Some(Damage::NoRecord),
+    ),
+    (
+        &["NEXT 18446744073709551615\r\n@time= :b PRIVMSG #c :hi all\r\n"],
+        0,
+        Some(Damage::BadNumber),
+    ),
+    (&["NEXT 007\r\n"], 0, Some(Damage::NoRecord)),
+    (&["NEXT 7\n"], 0, Some(Damage::NoRecord)),
+    (&["NEXT 7"], 0, Some(Damage::NoRecord)),
+    (&["next 7\r\n"], 0, Some(Damage::NoRecord)),
+    (&["NAME  pc\r\n"], 0, Some(Damage::NoRecord)),
+    (&["SEEK 7\r\n"], 0, Some(Damage::NoRecord)),
+    (&[":bob PRIVMSG #c :hi all\r\n"], 0, Some(Damage::NoRecord)),
+    (
+        &["MARK pc 7\r\n", "MARK pc 7\r\n", "MARK pc 6\r\n"],
+        2,
+        Some(Damage::BadNumber),
+    ),
+    (&["MARK pc 7\r\n", "GONE pc\r\n", "MARK pc 6\r\n"], 3, None),
+];
+
+fn ends_so<R: AllocGlobal + Abort>(
+    rt: &R,
+    texts: &[&str],
+    batches: usize,
+    damage: Option<Damage>,
+) -> Result<(), Fail> {
+    let file = file_of(rt.alloc(), texts)?;
+    let recalled = recalled(rt.alloc(), &file)?;
+    assert!(rt; recalled.batches == batches && recalled.damage == damage);
+    Ok(())
+}
+
+#[test]
+fn files_of_batches(rt: HostRuntime) -> Result<(), Fail> {
+    for (texts, batches, damage) in FILES {
+        ends_so(&rt, texts, *batches, *damage)?;
+    }
+    Ok(())
+}
+
+fn has_each_kind<R: AllocGlobal + Abort>(rt: &R, file: &[u8]) -> Result<(), Fail> {
+    let kept = recalled(rt.alloc(), file)?.kept;
+    assert!(rt; kept.history.len() == 1 && kept.history.number_of(0) == Some(1234));
+    assert!(rt; kept.history.next_number() == Some(1235));
+    assert!(rt; kept.marks.count() == 1 && kept.marks.at(1).is_none());
+    assert!(rt; kept.marks.at(0) == Some((b"laptop".as_slice(), Some(1233))));
+    assert!(rt; kept.channels.len() == 2);
+    Ok(())
+}
+
+/// All that a batch says is there again.
+#[test]
+fn what_a_batch_says(rt: HostRuntime) -> Result<(), Fail> {
+    has_each_kind(
+        &rt,
+        &file_of(rt.alloc(), &["NAME phone\r\nON #e\r\n", EACH_KIND])?,
+    )
+}
+
+/// A file of two batches that is cut after so many bytes.
+fn is_cut<R: AllocGlobal + Abort>(rt: &R, file: &[u8], front: usize) -> Result<(), Fail> {
+    let whole = file.len();
+    for cut in 0..=whole {
+        let batches = if cut == whole {
+            2
+        } else if cut >= front {
+            1
+        } else {
+            0
+        };
+        let left = file.get(..cut).ok_or("a beginning")?;
+        let recalled = recalled(rt.alloc(), left)?;
+        assert!(rt; recalled.batches == batches && recalled.damage.is_none());
+        let used = used_by(rt.alloc(), left, batches)?;
+        assert!(rt; used == [0, front, whole][batches]);
+    }
+    Ok(())
+}
+
+/// Of a file that was cut anywhere, the whole batches count.
+#[test]
+fn files_that_are_cut(rt: HostRuntime) -> Result<(), Fail> {
+    let front = file_of(rt.alloc(), &["NEXT 7\r\n"])?;
+    let file = file_of(rt.alloc(), &["NEXT 7\r\n", "NAME pc\r\n"])?;
+    is_cut(&rt, &file, front.len())
+}
+
+/// The text that admits so many names.
+fn names(alloc: Global, count: usize) -> Result<Vec<u8>, Fail> {
+    let mut text = Vec::new(alloc);
+    for i in 0..count {
+        text.extend_from_slice(format!(in alloc; "NAME n{i}\r\n")?.as_bytes())?;
+    }
+    Ok(text)
+}
+
+fn one_name_too_many<R: AllocGlobal + Abort>(rt: &R) -> Result<(), Fail> {
+    let mut file = Vec::new(rt.alloc());
+    push(&mut file, &names(rt.alloc(), 64)?)?;
+    assert!(rt; recalled(rt.alloc(), &file)?.kept.marks.count() == 64);
+    push(&mut file, b"NAME other\r\n")?;
+    let recalled = recalled(rt.alloc(), &file)?;
+    assert!(rt; recalled.batches == 1 && recalled.damage == Some(Damage::TooManyNames));
+    assert!(rt; recalled.kept.marks.count() == 64);
+    Ok(())
+}
+
+#[test]
+fn sixty_four_names_and_one_more(rt: HostRuntime) -> Result<(), Fail> {
+    one_name_too_many(&rt)
+}
