@@ -2,16 +2,16 @@
 use Rattle.hub_core.proofs.Words
 use Words.{◌++◌, ◌+◌, ◌<◌, ◌∷◌, ◌≡◌, AllByRecursion, Arrival, Bool, Came, EntryParts, IfSome}
 use Words.{IsSome, List, Messages, None, Option, OutletState, Parts, Some, Text, [], append-nil}
-use Words.{append_assoc, arith, content_said, entry_for, false, filter_map, inl, inr, is_message}
+use Words.{arith, content_said, entry_for, false, filter_map, is_message, map, map-append}
 use Words.{is_message_command, length, length-append, nat_tests, option_map, option_map_or}
 use Words.{option_to_list, refl, true, with_entry, ℕ}
 use Rattle.history.{proofs.LastMessages.all_kept, specs.Entry.{IsWrittenEntry, message_of}}
 use Rattle.history.specs.Messages.{AreKeptBefore, is_missed, missed_of, no_messages, with_message}
-use Rattle.hub_core.specs.{Pumping.{Puts, pong_for}, Running.{AreMessages, AreNumbered, HasOrigin, content}}
-use Rattle.{irc_line.specs.Writing.untagged_line, std.proofs.Common.{◌^◌, filter, inl, inr}}
-use Rattle.std.proofs.lemmas.List.Elements.{Contains-append_cases, Contains-append_left}
-use Rattle.std.proofs.lemmas.List.Elements.{Contains-append_right, filter_map-append}
-use Rattle.{std.specs.{List.Contains, Prelude.IsTrue}, welcome.proofs.EachOf.{each_kept, mapped}}
+use Rattle.hub_core.specs.{Pumping.{Puts, pong_for}, Running.{AreMessages, AreNumbered, content}}
+use Rattle.hub_core.specs.Running.{heard_among, kept_on, said_among}
+use Rattle.{irc_line.specs.Writing.untagged_line, std.proofs.Common.{◌^◌, filter}}
+use Rattle.std.proofs.lemmas.List.Elements.{filter_map-append}
+use Rattle.{std.specs.Prelude.IsTrue, welcome.proofs.EachOf.{each_kept, mapped}}
 
 -- what is kept of an item is a message
 pub entry_is_message : (x : Came)
@@ -40,36 +40,9 @@ missed_are_messages mark kept all =
 
 -- ---- a message more, if there is one
 
-pub record Adds (o : Option (List Text)) (all more : List (List Text)) : Type 0 where
-  pub count : length more ≡ length all + length (option_to_list o)
-  pub kept : (c : List Text) → Contains all c → Contains more c
-  pub here : IfSome o (Contains more)
-
 pub filter_more : {X Y : Type 0} (f : X → Option Y) (xs : List X) (x : X)
     → filter_map f (xs ++ x ∷ []) ≡ filter_map f xs ++ option_to_list (f x)
 filter_more f xs x = grind (arith, filter_map-append f xs (x ∷ []))
-
-adds : (a b : List (List Text)) (o : Option (List Text))
-    → Adds o (a ++ b) (a ++ (option_to_list o ++ b))
-adds a b None = record { count = omega arith; kept = λ c h. h; here = tt }
-adds a b (Some x) = record {
-  count = omega (arith, length-append a b, length-append a (x ∷ b));
-  kept = λ c h. elim (Contains-append_cases a b c h) [
-    | inl l ↦ Contains-append_left a (x ∷ b) c l
-    | inr r ↦ Contains-append_right a (x ∷ b) c (Contains-append_right (x ∷ []) b c r)
-  ];
-  here = Contains-append_right a (x ∷ b) x (0, omega arith, refl);
-}
-
--- it came from the network
-pub adds_heard : (a b : List (List Text)) (o : Option (List Text))
-    → Adds o (a ++ b) ((a ++ option_to_list o) ++ b)
-adds_heard a b o = rw append_assoc (adds a b o)
-
--- it was sent there
-pub adds_said : (a b : List (List Text)) (o : Option (List Text))
-    → Adds o (a ++ b) (a ++ (b ++ option_to_list o))
-adds_said a b o = simp (append-nil, append_assoc) at (adds (a ++ b) [] o)
 
 -- ---- numbers
 
@@ -82,36 +55,67 @@ all_map P Q f [] all = tt
 all_map P Q f (x ∷ xs) all = grind (arith, f x, all_map P Q f xs)
 
 pub numbered_start : (first : ℕ) (h : Messages) → first < 2 ^ 64 → AreKeptBefore first h
-    → AreNumbered [] first h
-numbered_start first h small k =
-    let origins = all_map _ (HasOrigin [] first) (λ (m : ℕ × EntryParts) (lt : m.0 < first). inl lt) h.kept k.below in
-    grind (arith, k.messages, k.written, k.next, origins)
+    → AreNumbered [] [] first h
+numbered_start first h small k = record {
+  began = h;
+  before = k;
+  order = [];
+  heard_are = refl;
+  said_are = refl;
+  are = refl;
+  messages = k.messages;
+  written = k.written;
+  numbers = grind (arith, k.next);
+}
 
-origin_stays : (all more : List (List Text)) (first : ℕ) (m : ℕ × EntryParts)
-    → (Contains all (content m.1) → Contains more (content m.1)) → HasOrigin all first m
-    → HasOrigin more first m
-origin_stays all more first m keeps (inl below) = inl below
-origin_stays all more first m keeps (inr is) = inr (keeps is)
+pub kept_more : (h : Messages) (es : List EntryParts) (e : EntryParts)
+    → kept_on h (es ++ e ∷ []) ≡ with_entry (kept_on h es) (Some e)
+kept_more h [] e = refl
+kept_more h (m ∷ ms) e = kept_more (with_entry h (Some m)) ms e
 
--- a message more, where there is one and it has its number
-pub numbered_step : (all more : List (List Text)) (first : ℕ) (h : Messages) (e : Option EntryParts)
-    → Adds (option_map content e) all more → (IsSome e → IsSome h.next)
-    → IfSome e (λ e. IsTrue (is_message_command e.command)) → IfSome e IsWrittenEntry
-    → AreNumbered all first h → AreNumbered more first (with_entry h e)
-numbered_step all more first h None adds some is written k =
-    let origins = all_map (HasOrigin all first) (HasOrigin more first)
-    (λ m. origin_stays all more first m (adds.kept (content m.1))) h.kept k.origins in
-    grind (arith, adds.count, origins, k.messages, k.written, k.numbers)
-numbered_step all more first h (Some e) adds some is written k =
-    let n : first + length more ≡ first + length all + 1 = omega (arith, adds.count) in
-    let messages = messages_stay h (Some e) k.messages is in
-    let written = all_stay (λ (m : ℕ × EntryParts). IsWrittenEntry m.1) h e h.next k.written
-    (λ _. written) in
-    let origins = all_stay (HasOrigin more first) h e h.next
-    (all_map (HasOrigin all first) (HasOrigin more first)
-    (λ m. origin_stays all more first m (adds.kept (content m.1))) h.kept k.origins)
-    (λ _. inr adds.here) in
-    grind (arith, nat_tests, messages, written, origins, k.numbers, some refl, n)
+module _ (heard : List EntryParts) (said : List (List Text)) (first : ℕ) (h : Messages)
+    (k : AreNumbered heard said first h) where
+  -- a message more, which has its number
+  one_more : (side : Bool) (e : EntryParts) (heard' : List EntryParts) (said' : List (List Text))
+      → heard_among (k.order ++ (side, e) ∷ []) ≡ heard'
+      → map content (said_among (k.order ++ (side, e) ∷ [])) ≡ said'
+      → IsSome h.next → IsTrue (is_message_command e.command) → IsWrittenEntry e
+      → AreNumbered heard' said' first (with_entry h (Some e))
+  one_more side e heard' said' h_are s_are some is written =
+      let n : first + length (k.order ++ (side, e) ∷ []) ≡ first + length k.order + 1 =
+      omega (arith, length-append k.order ((side, e) ∷ [])) in
+      let all = map-append (λ (m : Bool × EntryParts). m.1) k.order ((side, e) ∷ []) in
+      let more = kept_more k.began (map (λ (m : Bool × EntryParts). m.1) k.order) e in
+      record {
+        began = k.began;
+        before = k.before;
+        order = k.order ++ (side, e) ∷ [];
+        heard_are = h_are;
+        said_are = s_are;
+        are = rw (all, more, ← k.are) refl;
+        messages = messages_stay h (Some e) k.messages is;
+        written = all_stay (λ (m : ℕ × EntryParts). IsWrittenEntry m.1) h e h.next k.written
+            (λ _. written);
+        numbers = grind (arith, nat_tests, k.numbers, some, n);
+      }
+
+  -- it was heard
+  pub numbered_heard : (e : Option EntryParts) → (IsSome e → IsSome h.next)
+      → IfSome e (λ e. IsTrue (is_message_command e.command)) → IfSome e IsWrittenEntry
+      → AreNumbered (heard ++ option_to_list e) said first (with_entry h e)
+  numbered_heard None some is written = rw (append-nil heard) k
+  numbered_heard (Some e) some is written =
+      one_more true e _ _ (grind (arith, filter_more, k.heard_are))
+      (grind (arith, filter_more, append-nil, k.said_are)) (some refl) is written
+
+  -- it was said
+  pub numbered_said : (e : Option EntryParts) → (IsSome e → IsSome h.next)
+      → IfSome e (λ e. IsTrue (is_message_command e.command)) → IfSome e IsWrittenEntry
+      → AreNumbered heard (said ++ option_to_list (option_map content e)) first (with_entry h e)
+  numbered_said None some is written = rw (append-nil said) k
+  numbered_said (Some e) some is written =
+      one_more false e _ _ (grind (arith, filter_more, append-nil, k.heard_are))
+      (grind (arith, filter_more, map-append, k.said_are)) (some refl) is written
 
 -- ---- packets for the network
 

@@ -2,28 +2,29 @@
 use Rattle.hub_core.proofs.Words
 use Words.{◌++◌, ◌<◌, ◌∙◌, ◌∷◌, ◌≡◌, Arrival, Bool, Came, Caps, Delivered, EachFits, EntryParts}
 use Words.{Fits, HubState, IfSome, IsSome, List, Lost, Messages, None, Option, OutletState, Parts}
-use Words.{Received, Sends, SessionState, Some, Text, Took, View, [], append-nil, arith}
+use Words.{Received, Sends, SessionState, Some, Text, Took, View, [], append-nil, arith, length, ◌≤◌}
 use Words.{as_received, content_said, entry_for, false, filter_map, heard, if◌then◌else◌}
 use Words.{is_message_command, is_online, length-append, lines_sent, lost_channels, map-append}
 use Words.{option_and_then, option_map, option_map_or, option_to_list, packet_for, packet_of, refl}
 use Words.{reverse, time_text_of, true, view_now, view_of, with_entry, with_outlet, ℕ}
-use Rattle.client_caps.{proofs.ImageLaw.agreement_stays, specs.Caps.held}
+use Rattle.client_caps.{proofs.ImageLaw.{images_keep_the_view, seen_agrees}, specs.Caps.held}
 use Rattle.history.specs.{Entry.IsWrittenEntry, Marks.NameMarks, Messages.{AreKeptBefore, missed_by}}
-use Rattle.hub_core.proofs.{Each.{each_append, each_sent}, Kept.{adds_heard, adds_said}}
+use Rattle.hub_core.proofs.{Each.{each_append, each_sent}, Kept.{numbered_heard, numbered_said}}
 use Rattle.hub_core.proofs.Kept.{entry_is_message, filter_more, missed_are_messages, numbered_start}
-use Rattle.hub_core.proofs.{Kept.{numbered_step, pong_unsaid, puts_unsaid}, LostChannels.no_loss}
+use Rattle.hub_core.proofs.{Kept.{pong_unsaid, puts_unsaid}, LostChannels.no_loss}
 use Rattle.hub_core.specs.{Attaching.refusal_of, Given.with_caps, Online.{is_welcome, says_online}}
-use Rattle.hub_core.specs.{LostChannels.Joinings, Pumping.{Next, Takes}, Running.IsRunning}
-use Rattle.hub_core.specs.{Running.{content, content_heard, messages_of}, States.{less, started_from}}
+use Rattle.hub_core.specs.{LostChannels.Joinings, Pumping.{Next, Takes}}
+use Rattle.hub_core.specs.Running.{EachAgrees, IsRunning}
+use Rattle.hub_core.specs.{Running.{content, contents_said, entries_heard}, States.{less, started_from}}
 use Rattle.{hub_ends.specs.Came.arrivals, irc_line.specs.Line.has_command}
 use Rattle.{irc_names.specs.Nick.is_nameable, net_view.proofs.Commands.told_of_welcome}
 use Rattle.{irc_support.specs.Tokens.Token, std.specs.{Option.option_or, Prelude.{IsTrue, codes}}}
-use Rattle.net_view.{proofs.{StepLaw.{view_start, view_step}, Tests.and_parts}, specs.Agrees.Agrees}
+use Rattle.net_view.{proofs.{StepLaw.{view_start, view_step}, Tests.and_parts}, specs.Seen.{kept_by, seen_since}}
 use Rattle.net_view.specs.{LookBack.last_in, StateLines.{or_silent, told}, Step.after, Told.Renamed}
 use Rattle.net_view.specs.{Told.{Told, Welcomed}, Transcript.{Standing, own_after}, View.empty_view}
 use Rattle.std.proofs.{Common.◌^◌, lemmas.{Grind.flat_map-append, List.reverse-append}}
 use Rattle.std.{proofs.lemmas.List.{reverse-reverse, take_all, take_at}, specs.FinMap.empty}
-use Rattle.welcome.{proofs.BurstLaw.burst_agrees, specs.Playback.burst_of}
+use Rattle.welcome.{proofs.BurstLaw.burst_gives_the_view, specs.Playback.burst_of}
 
 -- ---- what was heard
 
@@ -68,27 +69,49 @@ lines_more : (packets : List (List Parts)) (p : Option (List Parts))
 lines_more packets p = grind (arith, append-nil, flat_map-append)
 
 -- a session was sent a packet, and its client reads it so
-pub fits_sent : (alone : Bool) (v : View) (s : SessionState) (caps : Caps) (o : OutletState)
-    (p : Option (List Parts)) → Sends alone s.outlet p o → s.outlet.closed ≡ None
-    → Agrees (held caps)
-    (view_of (as_received (lines_sent s.outlet.sent) ++ as_received (lines_in p))) v
-    → Fits v (with_caps s caps o)
-fits_sent alone v s caps o p sends opened agrees =
-    grind (arith, sent_is alone s.outlet p o, lines_more, map-append)
+pub fits_sent : (alone : Bool) (items : List Arrival) (a : ℕ) (s : SessionState) (caps : Caps)
+    (o : OutletState) (p : Option (List Parts)) → Sends alone s.outlet p o
+    → s.outlet.closed ≡ None → a ≤ length items → kept_by (held caps)
+    (view_of (as_received (lines_sent s.outlet.sent) ++ as_received (lines_in p)))
+    ≡ seen_since items a (held caps) → Fits items (with_caps s caps o)
+fits_sent alone items a s caps o p sends opened within knows =
+    let sent = sent_is alone s.outlet p o sends in
+    record {
+      since = a;
+      within = within;
+      knows = grind (arith, sent, lines_more, map-append, knows);
+      opened = sent.1 ∙ opened;
+    }
 
 -- its outlet is another, which was sent the same
-pub fits_same : (v : View) (s : SessionState) (o : OutletState) → o.sent ≡ s.outlet.sent
-    → o.closed ≡ s.outlet.closed → Fits v s → Fits v (with_outlet s o)
-fits_same v s o sent closed fit = (rw sent fit.0, closed ∙ fit.1)
+pub fits_same : (items : List Arrival) (s : SessionState) (o : OutletState)
+    → o.sent ≡ s.outlet.sent → o.closed ≡ s.outlet.closed → Fits items s
+    → Fits items (with_outlet s o)
+fits_same items s o sent closed fit = record {
+  since = fit.since;
+  within = fit.within;
+  knows = rw sent fit.knows;
+  opened = closed ∙ fit.opened;
+}
 
 pub each_fits_after : (alone : Bool) (items : List Arrival) (x : Came) (ss ts : List SessionState)
-    → EachFits (view_of items) ss → Delivered alone (λ s. packet_for (view_of items) x s.caps) ss ts
-    → EachFits (view_of (items ++ x.0 ∷ [])) ts
+    → EachFits items ss → Delivered alone (λ s. packet_for (view_of items) x s.caps) ss ts
+    → EachFits (items ++ x.0 ∷ []) ts
 each_fits_after alone items x ss ts fit d =
-    each_sent (Fits (view_of items)) (Fits (view_of (items ++ x.0 ∷ []))) alone _ ss ts
+    each_sent (Fits items) (Fits (items ++ x.0 ∷ [])) alone _ ss ts
     (λ s o here sends. let sent = as_received (lines_sent s.outlet.sent) in
-    let stays = agreement_stays sent items s.caps (time_text_of x.1) x.0 in
-    grind (arith, fits_sent, in_packet, stays)) fit d
+    let kept = images_keep_the_view sent items here.since s.caps (time_text_of x.1) x.0 here.within
+    here.knows in
+    fits_sent alone _ here.since s s.caps o _ sends here.opened
+    (omega (arith, here.within, length-append items (x.0 ∷ []))) (grind (arith, in_packet, kept)))
+    fit d
+
+-- who knows what can be seen agrees with the network
+pub each_agrees : (items : List Arrival) (ss : List SessionState) → EachFits items ss
+    → EachAgrees (view_of items) ss
+each_agrees items [] fit = tt
+each_agrees items (s ∷ ss) fit =
+    (seen_agrees _ items fit.0.since (held s.caps) fit.0.knows, each_agrees items ss fit.1)
 
 -- ---- online
 
@@ -127,18 +150,16 @@ module _ {alone outlet : Bool} {h h' : HubState} {v : View} {online : Bool} {los
   goes_on w online' lost' view on left written =
       let all : heard h' ≡ heard h ++ t.item.0 ∷ [] = grind (arith, taken, heard_more, t.held) in
       let quiet = puts_unsaid outlet _ _ _ (pong_unsaid t.item.0) t.upstream in
-      let here = filter_map content_heard (less h.taken h.held) in
       let fits = each_fits_after outlet (heard h) t.item h.sessions h'.sessions in
-      let step = numbered_step (messages_of h) _ h.first h.history (entry_for t.item)
-      (adds_heard here (filter_map content_said h.upstream.sent) (content_heard t.item))
-      t.number (entry_is_message t.item) written run.numbered in
+      let step = numbered_heard (entries_heard h) (contents_said h) h.first h.history run.numbered
+      (entry_for t.item) t.number (entry_is_message t.item) written in
       record {
         held_last = grind (arith, t.held, append-nil, less_none);
         view_is = rw all view;
         online_is = grind (arith, all, on, run.online_is, online_more (heard h) t.item.0);
         lost_is = rw all left;
-        fit = rw view (fits (rw run.view_is at run.fit) t.sessions);
-        numbered = let more = filter_more content_heard in
+        fit = rw all (fits run.fit t.sessions);
+        numbered = let more = filter_more entry_for in
             grind (arith, t.held, less_none, taken, quiet, t.others, t.history, more, step);
       }
 
@@ -149,7 +170,7 @@ pub runs_with : {h : HubState} {v : View} {online : Bool} {lost : Joinings}
     (ss : List SessionState) (next : Option ℕ) (upstream : OutletState) (marks : NameMarks)
     → IsRunning h v online lost
     → filter_map content_said upstream.sent ≡ filter_map content_said h.upstream.sent
-    → EachFits v ss
+    → EachFits (heard h) ss
     → IsRunning record h { sessions = ss; next = next; upstream = upstream; marks = marks } v online
     lost
 runs_with ss next upstream marks run u fit = grind arith
@@ -159,11 +180,21 @@ pub attached_fits : (alone : Bool) (h : HubState) (v : View) (online : Bool) {lo
     (caps : Caps) (name : Option (List ℕ)) (mark : Option ℕ) (id : ℕ) (o o' : OutletState)
     → IsRunning h v online lost → v.ready ≡ true → o.sent ≡ [] → o.closed ≡ None
     → Took alone o (burst_of v caps (missed_by mark h.history)) o'
-    → EachFits v (h.sessions ++ record { id = id; name = name; caps = caps; outlet = o' } ∷ [])
+    → EachFits (heard h)
+    (h.sessions ++ record { id = id; name = name; caps = caps; outlet = o' } ∷ [])
 attached_fits alone h v online caps name mark id o o' run ready fresh unclosed took =
-    let agrees = burst_agrees (heard h) caps (missed_by mark h.history) (rw run.view_is at ready)
+    let gives = burst_gives_the_view (heard h) caps (missed_by mark h.history)
+    (rw run.view_is at ready)
     (missed_are_messages mark h.history.kept run.numbered.messages) in
-    each_append (Fits v) h.sessions _ run.fit (grind (arith, agrees, append-nil, run.view_is), tt)
+    each_append (Fits (heard h)) h.sessions _ run.fit (
+      record {
+        since = length (heard h);
+        within = omega arith;
+        knows = grind (arith, gives, append-nil, run.view_is, took.sent, fresh);
+        opened = took.closed ∙ unclosed;
+      },
+      tt,
+    )
 
 -- who is attached comes to a network that is ready
 pub is_ready : (h : HubState) (name : Option (List ℕ)) → refusal_of h name ≡ None
@@ -177,13 +208,12 @@ pub said_on : (h : HubState) (v : View) (online : Bool) {lost : Joinings}
     → history ≡ with_entry h.history e → upstream.sent ≡ h.upstream.sent ++ p ∷ []
     → content_said p ≡ option_map content e → (IsSome e → IsSome h.history.next)
     → IfSome e (λ e. IsTrue (is_message_command e.command)) → IfSome e IsWrittenEntry
-    → EachFits v ss
+    → EachFits (heard h) ss
     → IsRunning record h { sessions = ss; upstream = upstream; history = history; images = images }
     v online lost
 said_on h v online ss upstream history images e p run k u c some is written fit =
-    let here = filter_map content_heard (less h.taken h.held) in
-    let adds = adds_said here (filter_map content_said h.upstream.sent) (option_map content e) in
-    let step = numbered_step (messages_of h) _ h.first h.history e adds some is written in
+    let step = numbered_said (entries_heard h) (contents_said h) h.first h.history run.numbered e some
+    is written in
     grind (arith, filter_more content_said, step)
 
 -- ---- our nick

@@ -1,6 +1,6 @@
 -- What sessions are sent of what others say, and of answers, tells them nothing of the network.
 use Rattle.hub_core.proofs.Words
-use Words.{◌≡◌, AllByRecursion, Bool, Came, Caps, Delivered, EachFits, EntryParts, Fits, IfSome}
+use Words.{◌≡◌, AllByRecursion, Arrival, Bool, Came, Caps, Delivered, EachFits, EntryParts, Fits, IfSome}
 use Words.{List, Messages, None, Option, OutletState, Parts, Received, Sends, SessionState, Text}
 use Words.{View, arith, entry_for, false, given_but, is_message, option_map, option_to_list}
 use Words.{packet_for, packet_of, true, with_entry, with_outlet, ℕ}
@@ -17,16 +17,19 @@ pub own_part : (own : Option (Bor Text)) → IfSome own (λ n. is_nameable n.now
 own_part own h = grind (arith, nick_written)
 
 -- a packet of lines that no view reads
-pub fits_unread : (alone : Bool) (v : View) (s : SessionState) (o : OutletState)
-    (p : Option (List Parts)) → AllByRecursion IsUnread (lines_in p) → Fits v s
-    → Sends alone s.outlet p o → Fits v (with_outlet s o)
-fits_unread alone v s o p quiet fit sends = grind (arith, fits_sent, unread_lines)
+pub fits_unread : (alone : Bool) (items : List Arrival) (s : SessionState) (o : OutletState)
+    (p : Option (List Parts)) → AllByRecursion IsUnread (lines_in p) → Fits items s
+    → Sends alone s.outlet p o → Fits items (with_outlet s o)
+fits_unread alone items s o p quiet fit sends =
+    fits_sent alone items fit.since s s.caps o p sends fit.opened fit.within
+    (grind (arith, unread_lines, fit.knows))
 
-pub each_fits_unread : (alone : Bool) (v : View) (give : SessionState → Option (List Parts))
-    (ss ts : List SessionState) → ((s : SessionState) → AllByRecursion IsUnread (lines_in (give s)))
-    → EachFits v ss → Delivered alone give ss ts → EachFits v ts
-each_fits_unread alone v give ss ts quiet fit d =
-    grind (arith, each_sent (Fits v) (Fits v) alone give, fits_unread, quiet)
+pub each_fits_unread : (alone : Bool) (items : List Arrival)
+    (give : SessionState → Option (List Parts)) (ss ts : List SessionState)
+    → ((s : SessionState) → AllByRecursion IsUnread (lines_in (give s)))
+    → EachFits items ss → Delivered alone give ss ts → EachFits items ts
+each_fits_unread alone items give ss ts quiet fit d =
+    grind (arith, each_sent (Fits items) (Fits items) alone give, fits_unread, quiet)
 
 -- ---- messages
 

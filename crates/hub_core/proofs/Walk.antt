@@ -1,8 +1,8 @@
 -- Walks over all sessions: from the last to the first, and one that learns how much room there is.
 use Rattle.hub_core.{proofs.Running.fits_same, specs.Upkeep.{AreFreed, is_nearly_full, nearly_full}}
 use Rattle.hub_core.proofs.Words.{◌++◌, ◌+◌, ◌-◌, ◌<◌, ◌∙◌, ◌∷◌, ◌≡◌, AllByRecursion, Bool}
-use Rattle.hub_core.proofs.Words.{Delivered, EachFits, List, None, Option, Parts, Sends}
-use Rattle.hub_core.proofs.Words.{SessionState, View, [], ap, append-nil, append_assoc, arith}
+use Rattle.hub_core.proofs.Words.{Arrival, Delivered, EachFits, List, None, Option, Parts, Sends}
+use Rattle.hub_core.proofs.Words.{SessionState, [], ap, append-nil, append_assoc, arith}
 use Rattle.hub_core.proofs.Words.{get_or, if◌then◌else◌, inl, inr, length, length-map, map}
 use Rattle.hub_core.proofs.Words.{map-append, refl, reverse, set, sym, take, with_outlet, ℕ}
 use Rattle.{hub_core.specs.Given.Full, hub_ends.specs.Outlets.FindsRoom, std.proofs.Common.suc}
@@ -127,11 +127,11 @@ freed_set alone (r ∷ ss) ts (suc i) s t all less is same found =
     let rest = freed_set alone ss all.1 i s t all.4 within (rw all.3 at is) same found in
     rw all.3 (all.0, set all.1 i t, all.2, refl, rest)
 
--- each still agrees with the network
-pub fits_freed : (alone : Bool) (v : View) (ss ts : List SessionState) → AreFreed alone ss ts
-    → EachFits v ss → EachFits v ts
-fits_freed alone v [] ts e fit = rw e tt
-fits_freed alone v (s ∷ ss) ts all fit = grind (arith, fits_same, fits_freed alone v ss)
+-- each still knows what is to be known
+pub fits_freed : (alone : Bool) (items : List Arrival) (ss ts : List SessionState)
+    → AreFreed alone ss ts → EachFits items ss → EachFits items ts
+fits_freed alone items [] ts e fit = rw e tt
+fits_freed alone items (s ∷ ss) ts all fit = grind (arith, fits_same, fits_freed alone items ss)
 
 module _ {S : Type 0} (state : S → SessionState) (alone : Bool) where
   pub one_more : (olds now : List S) (i : ℕ) (s t : S) → i < length now → s ≡ get_or now i s

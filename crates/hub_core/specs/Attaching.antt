@@ -85,8 +85,8 @@ marked (Some name) None marks = marks
 marked None number marks = marks
 
 -- The session of that number is gone, and its name has seen all messages. Its outlet was closed
--- with its number, so it takes no more, and the other end was told where there was room.
-pub record Detaches (old : HubState) (id : ℕ) (outlet : OutletState) (told : Bool)
+-- with its number, so it takes no more, and the other end gets that number if there was room.
+pub record Detaches (old : HubState) (id : ℕ) (outlet : OutletState) (told : Option ℕ)
     (new : HubState) : Type 0 where
   pub front : List SessionState
   pub gone : SessionState
@@ -98,7 +98,7 @@ pub record Detaches (old : HubState) (id : ℕ) (outlet : OutletState) (told : B
   pub closed : outlet.closed ≡ Some id
   pub capacity : outlet.capacity ≡ gone.outlet.capacity
   pub full : outlet.free ≡ 0
-  pub told_so : 0 < gone.outlet.free → told ≡ true
+  pub told_so : 0 < gone.outlet.free → told ≡ Some id
   pub is : new ≡ record old {
     sessions = front ++ back;
     marks = marked gone.name (last_number old.history) old.marks;

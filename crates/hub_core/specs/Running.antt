@@ -1,20 +1,22 @@
 -- What holds of every hub whenever nobody is in a call.
-use Rattle.std.specs.Prelude.{◌≡◌, ◌<◌, ◌⊎◌, ◌+◌, List, [], ◌∷◌, ◌++◌, Option, Some, None, Bool}
-use Rattle.std.specs.Prelude.{ℕ, IsTrue, length, if◌then◌else◌}
-use Rattle.std.specs.List.{flat_map, filter_map, AllByRecursion, Contains}
-use Rattle.std.specs.Option.{option_map, option_to_list}
+use Rattle.std.specs.Prelude.{◌≡◌, ◌≤◌, ◌+◌, List, [], ◌∷◌, ◌++◌, Option, Some, None, Bool}
+use Rattle.std.specs.Prelude.{ℕ, IsTrue, length, map, if◌then◌else◌}
+use Rattle.std.specs.List.{flat_map, filter_map, AllByRecursion}
+use Rattle.std.specs.Option.{option_to_list}
 use Rattle.irc_line.specs.Line.{Parts}
 use Rattle.net_view.specs.Agrees.{Agrees}
+use Rattle.net_view.specs.Arrival.{Arrival}
+use Rattle.net_view.specs.Seen.{kept_by, seen_since}
 use Rattle.net_view.specs.View.{View, view_of}
 use Rattle.client_caps.specs.Caps.{held}
 use Rattle.client_caps.specs.LateAttach.{as_received}
 use Rattle.history.specs.Entry.{EntryParts, is_message, is_message_command}
-use Rattle.history.specs.Messages.{AreWrittenMessages, Messages, numbered}
+use Rattle.history.specs.Messages.{AreKeptBefore, AreWrittenMessages, Messages, numbered}
 use Rattle.hub_ends.specs.Came.{Came}
 use Rattle.irc_support.specs.Text.{Text}
 use Rattle.hub_core.specs.Online.{is_online}
 use Rattle.hub_core.specs.LostChannels.{Joinings, lost_channels}
-use Rattle.hub_core.specs.Pumping.{entry_for}
+use Rattle.hub_core.specs.Pumping.{entry_for, with_entry}
 use Rattle.hub_core.specs.States.{SessionState, HubState, less, heard}
 
 -- the lines of some packets, in order
@@ -25,12 +27,21 @@ lines_sent packets = flat_map (λ packet. packet) packets
 abbrev pub view_sent : SessionState → View
 view_sent s = view_of (as_received (lines_sent s.outlet.sent))
 
--- a session's client agrees with the network, and its outlet is open
-abbrev pub Fits : View → SessionState → Type 0
-Fits v s = Agrees (held s.caps) (view_sent s) v × (s.outlet.closed ≡ None)
+-- Late attach: what a session's capabilities keep of the view of all lines that it was sent is what
+-- can be seen of these items since a boundary, at which it attached or its capabilities changed; and
+-- its outlet is open.
+pub record Fits (items : List Arrival) (s : SessionState) : Type 0 where
+  pub since : ℕ
+  pub within : since ≤ length items
+  pub knows : kept_by (held s.caps) (view_sent s) ≡ seen_since items since (held s.caps)
+  pub opened : s.outlet.closed ≡ None
 
-abbrev pub EachFits : View → List SessionState → Type 0
-EachFits v ss = AllByRecursion (Fits v) ss
+abbrev pub EachFits : List Arrival → List SessionState → Type 0
+EachFits items ss = AllByRecursion (Fits items) ss
+
+-- so each session's client agrees with the network
+abbrev pub EachAgrees : View → List SessionState → Type 0
+EachAgrees v ss = AllByRecursion (λ s. Agrees (held s.caps) (view_sent s) v) ss
 
 -- entries of messages, with their numbers
 abbrev pub AreMessages : List (ℕ × EntryParts) → Type 0
@@ -42,32 +53,44 @@ AreMessages kept = AllByRecursion (λ m. IsTrue (is_message_command m.1.command)
 abbrev pub content : EntryParts → List Text
 content e = e.command ∷ e.target ∷ e.text ∷ []
 
--- of an item that came from the network
-abbrev pub content_heard : Came → Option (List Text)
-content_heard x = option_map content (entry_for x)
-
 -- of a packet that was sent to the network
 abbrev pub content_said : List Parts → Option (List Text)
 content_said (line ∷ []) = if is_message line then Some (line.command ∷ line.params) else None
 content_said _ = None
 
--- the messages that a hub heard, and those that it sent to the network
-abbrev pub messages_of : HubState → List (List Text)
-messages_of h =
-    filter_map content_heard (less h.taken h.held)
-    ++ filter_map content_said h.upstream.sent
+-- the messages that a hub heard, and what those say that it sent to the network
+abbrev pub entries_heard : HubState → List EntryParts
+entries_heard h = filter_map entry_for (less h.taken h.held)
 
--- a message that is numbered below the first was kept before the hub began; any other is among these
-abbrev pub HasOrigin : List (List Text) → ℕ → ℕ × EntryParts → Type 0
-HasOrigin all first m = (m.0 < first) ⊎ Contains all (content m.1)
+abbrev pub contents_said : HubState → List (List Text)
+contents_said h = filter_map content_said h.upstream.sent
 
--- What is kept are messages, which can be written, and each of them was kept before the hub began,
--- came from the network or was sent there; each of all these but the first was given a number.
-pub record AreNumbered (all : List (List Text)) (first : ℕ) (h : Messages) : Type 0 where
+-- of messages in the order in which they came, those that were heard, and those that were said
+abbrev pub heard_among : List (Bool × EntryParts) → List EntryParts
+heard_among ms = filter_map (λ m. if m.0 then Some m.1 else None) ms
+
+abbrev pub said_among : List (Bool × EntryParts) → List EntryParts
+said_among ms = filter_map (λ m. if m.0 then None else Some m.1) ms
+
+-- messages kept after others, one after another
+abbrev pub kept_on : Messages → List EntryParts → Messages
+kept_on h [] = h
+kept_on h (e ∷ es) = kept_on (with_entry h (Some e)) es
+
+-- What is kept is what the hub began with, and then the messages that it heard and those that it
+-- sent to the network, each with the next number: there is an order of both in which it kept them.
+-- They can be written.
+pub record AreNumbered (heard : List EntryParts) (said : List (List Text)) (first : ℕ)
+    (h : Messages) : Type 0 where
+  pub began : Messages
+  pub before : AreKeptBefore first began
+  pub order : List (Bool × EntryParts)
+  pub heard_are : heard_among order ≡ heard
+  pub said_are : map content (said_among order) ≡ said
+  pub are : h ≡ kept_on began (map (λ m. m.1) order)
   pub messages : AreMessages h.kept
   pub written : AreWrittenMessages h
-  pub origins : AllByRecursion (HasOrigin all first) h.kept
-  pub numbers : h.next ≡ numbered (first + length all)
+  pub numbers : h.next ≡ numbered (first + length order)
 
 -- the running fact, of a hub with this view, which is online or not, and with these channels for
 -- joining again
@@ -78,5 +101,5 @@ pub record IsRunning (h : HubState) (v : View) (online : Bool) (lost : Joinings)
   pub view_is : v ≡ view_of (heard h)
   pub online_is : online ≡ is_online (heard h)
   pub lost_is : lost ≡ lost_channels (heard h)
-  pub fit : EachFits v h.sessions
-  pub numbered : AreNumbered (messages_of h) h.first h.history
+  pub fit : EachFits (heard h) h.sessions
+  pub numbered : AreNumbered (entries_heard h) (contents_said h) h.first h.history

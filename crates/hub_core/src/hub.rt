@@ -114,7 +114,7 @@ impl<V: NetworkView + Drop, I: Inlet, O: Outlet> Model for Hub<V, I, O> {
 impl<V: NetworkView + Drop, I: Inlet, O: Outlet> Hub<V, I, O> {
     ghost use Rattle.hub_core.specs.States.{view_now, heard, started, started_from};
     ghost use Rattle.hub_core.specs.Online.{is_online};
-    ghost use Rattle.hub_core.specs.Running.{IsRunning};
+    ghost use Rattle.hub_core.specs.Running.{EachAgrees, IsRunning};
     ghost use Rattle.hub_core.specs.LostChannels.{joining, lost_channels};
     ghost use Rattle.std.specs.FinMap as fin;
     ghost use Rattle.std.specs.Prelude.{length, slice_get};
@@ -235,8 +235,9 @@ impl<V: NetworkView + Drop, I: Inlet, O: Outlet> Hub<V, I, O> {
 
     /// Tells its caller what holds of every hub between calls. It does nothing.
     pub fn is_running(&self)
-        ensures { IsRunning self.now (view_now self.now) (is_online (heard self.now))
+        ensures running { IsRunning self.now (view_now self.now) (is_online (heard self.now))
             (lost_channels (heard self.now)) }
+        ensures agree { EachAgrees (view_now self.now) self.now.sessions }
     {
         let _ = &self.view;
     }

@@ -1,6 +1,6 @@
 //! What a hub asks of its ends.
 
-ghost use Rattle.std.specs.Prelude.{◌≡◌, ◌∷◌, ◌++◌, ◌<◌, [], List, Bool, true};
+ghost use Rattle.std.specs.Prelude.{◌≡◌, ◌∷◌, ◌++◌, ◌<◌, [], List, Bool, Option, true, ℕ};
 ghost use Rattle.std.specs.Prelude.{None, Some, IsSome, IfErr, OnOk, IsTrue, ◌↔◌};
 ghost use Rattle.std.specs.Prelude.{MatchOption};
 ghost use Rattle.hub_ends.specs.Came.{Came, came};
@@ -39,8 +39,9 @@ pub trait Outlet: Drop {
     /// What was sent, and how many more packets it is known to take.
     ghost state: { Self → OutletState };
 
-    /// Whether the other end was told that it is closed.
-    ghost told: { Self → Bool };
+    /// The number of the session in what the other end gets last, once the outlet is closed; `None`
+    /// before, and if there was no room for that.
+    ghost told: { Self → Option ℕ };
 
     /// Whether room comes by calls on this end alone.
     ghost alone: { Bool };
@@ -74,5 +75,5 @@ pub trait Outlet: Drop {
         ensures again { IsSome (state self.old).closed →
             (state self.new).closed ≡ (state self.old).closed }
         ensures full { (state self.new).free ≡ 0 }
-        ensures told { 0 < (state self.old).free → told self.new ≡ true };
+        ensures told { 0 < (state self.old).free → told self.new ≡ Some id };
 }

@@ -89,12 +89,12 @@ impl MemoryOutlet {
 }
 
 impl Outlet for MemoryOutlet {
-    ghost use Rattle.std.specs.Prelude.{true, is_some};
+    ghost use Rattle.std.specs.Prelude.{true};
     ghost use Rattle.hub_ends.specs.Memory.{state_of};
 
     ghost state = { state_of };
 
-    ghost told = { λ o. is_some o.closed };
+    ghost told = { λ o. o.closed };
 
     ghost alone = { true };
 

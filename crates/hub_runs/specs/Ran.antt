@@ -1,11 +1,11 @@
 -- How a run of events ends.
-use Rattle.std.specs.Prelude.{◌≡◌, ℕ, List, [], ◌∷◌, ◌++◌, Option, None, Some, length, map, slice_get}
+use Rattle.std.specs.Prelude.{◌≡◌, ℕ, List, [], ◌∷◌, ◌++◌, Option, None, Some, length, map, reverse, slice_get}
 use Rattle.std.specs.Prelude.{take}
 use Rattle.std.specs.List.{range_with_len}
 use Rattle.std.specs.Option.{unwrap_or}
-use Rattle.hub_ends.specs.Came.{Came, arrivals}
+use Rattle.hub_ends.specs.Came.{Came}
 use Rattle.hub_ends.specs.Outlets.{OutletState}
-use Rattle.hub_core.specs.States.{HubState, heard}
+use Rattle.hub_core.specs.States.{HubState, heard, less}
 use Rattle.hub_runs.specs.declared.event.Event.{Event}
 use Rattle.hub_runs.specs.declared.outcome.Reply.{Reply}
 use Rattle.hub_runs.specs.declared.outcome.Stop.{Stop}
@@ -14,9 +14,9 @@ use Rattle.history.specs.Marks.{mark_of}
 use Rattle.history.specs.Messages.{Messages, history_of}
 use Rattle.hub_core.specs.Pumping.{with_entry}
 use Rattle.std.specs.FinMap as fin
-use Rattle.hub_runs.specs.Course.{Before, Follows, gone_with, with_items}
+use Rattle.hub_runs.specs.Course.{Before, Follows, came_back, gone_with, with_items}
 use Rattle.hub_runs.specs.Late.{EachHasAttached}
-use Rattle.hub_core.specs.Running.{AreMessages}
+use Rattle.hub_core.specs.Running.{AreMessages, kept_on}
 use Rattle.irc_support.specs.Text.{Text}
 use Rattle.std.specs.Option.{option_to_list}
 use Rattle.std.specs.Prelude.{IsSome}
@@ -40,11 +40,6 @@ EndsAt events done (Some s) last taken world =
 abbrev pub none_before : ℕ → ℕ → Before
 none_before capacity first =
     record { kept = history_of capacity first; mark = λ name. None; names = [] }
-
--- messages kept behind others, one after the other
-abbrev pub kept_on : Messages → List EntryParts → Messages
-kept_on h [] = h
-kept_on h (e ∷ es) = kept_on (with_entry h (Some e)) es
 
 -- these messages, marks and names were before
 abbrev pub before_of : HubState → Before
@@ -84,10 +79,17 @@ pub record RanFrom (b : Before) (start : WorldState) (events : List Event) (done
   -- what was taken of the next event
   pub taken : List Came
   pub ends : EndsAt events done stopped_by last taken world
-  -- the hub heard the transcript of the events done and what was taken of the next
-  pub heard_all : heard world.hub ≡ arrivals (transcript_of (take done events) ++ taken)
-  -- each session's client knows what is to be known since it attached
-  pub late_attach : EachHasAttached start (take done events) replies (heard world.hub)
+  -- the hub took the transcript of the events done and what was taken of the next, each line with
+  -- the moment at which its LF came
+  pub heard_all : less world.hub.taken world.hub.held ≡ transcript_of (take done events) ++ taken
+  -- so did what happened, by which all below is told
+  pub deeds_are : reverse (came_back
+      (with_items (deeds_of (limits_from b start.hub) (take done events)) taken))
+      ≡ transcript_of (take done events) ++ taken
+  -- late attach: each session attached, was first sent the burst with what its name had missed, and
+  -- its client knows what is to be known since
+  pub late_attach : EachHasAttached start (take done events) replies
+      (with_items (deeds_of (limits_from b start.hub) (take done events)) taken) (heard world.hub)
       world.hub.sessions
   -- what each event was answered is what the events before it say
   pub answered : map answer_of replies ≡ replies_of (limits_from b start.hub) (take done events)

@@ -114,7 +114,7 @@ Happens (on.Attach caps name capacity) (reply.Attach (Err e)) old new =
     Refuses old.hub (name_of name) (new_outlet capacity) e × (e ≡ refused.OutOfMemory → ⊥) ×
     (new ≡ old)
 Happens (on.Detach id) (reply.Detach (Ok _)) old new =
-    (o : OutletState) × Detaches old.hub id o (is_some o.closed) new.hub ×
+    (o : OutletState) × Detaches old.hub id o o.closed new.hub ×
     (new.rest ≡ old.rest) × (new.gone ≡ old.gone ++ o ∷ [])
 Happens (on.Detach id) (reply.Detach (Err _)) old new = Lacks id old.hub.sessions × (new ≡ old)
 Happens (on.Said id line moment) (reply.Said r) old new =

@@ -4,6 +4,7 @@
 mod apply;
 mod event;
 mod items;
+pub mod laws;
 mod outcome;
 mod runs;
 

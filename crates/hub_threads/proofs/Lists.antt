@@ -1,7 +1,7 @@
 -- Lists of what was sent.
-use Rattle.hub_threads.specs.Queues.{closed_in, closing, ended_by, is_closed, is_nil, packets_in}
+use Rattle.hub_threads.specs.Queues.{closed_in, closing, ended_by, is_nil, packets_in}
 use Rattle.hub_threads.specs.declared.queued.Queued.{Queued, TheVariants.{Closing, Lines}}
-use Rattle.{irc_line.specs.{Line.Parts, Lines.counted}, std.proofs.Common.{Bool, List, Option, Some}}
+use Rattle.{irc_line.specs.{Line.Parts, Lines.counted}, std.proofs.Common.{Bool, List, None, Option, Some}}
 use Rattle.std.proofs.Common.{[], append-nil, arith, cond, false, is_some, length, map, refl, true, ℕ}
 use Rattle.std.proofs.{Common.{◌++◌, ◌<◌, ◌∷◌, ◌≡◌}, lemmas.List.{length-map, map-append}}
 
@@ -56,10 +56,20 @@ pub closed_is : (xs : List Queued) (closed : Option ℕ) → xs ≡ ended_by (pa
     → closed ≡ closed_in xs
 closed_is xs closed e = cc (closed_in_list (packets_in xs) closed (length (packets_in xs)))
 
-pub closing_told : (xs : List Queued) (id count : ℕ)
-    → is_closed (xs ++ Closing id count ∷ []) ≡ true
-closing_told [] id count = refl
-closing_told (x ∷ xs) id count = grind (arith, closing_told xs id count)
+pub closed_in_lines : (xs : List Queued) (p : List Parts)
+    → closed_in (xs ++ Lines p ∷ []) ≡ closed_in xs
+closed_in_lines [] p = refl
+closed_in_lines (x ∷ xs) p = grind (arith, closed_in_lines xs p)
+
+pub closing_told : (xs : List Queued) (id count : ℕ) → closed_in xs ≡ None
+    → closed_in (xs ++ Closing id count ∷ []) ≡ Some id
+closing_told [] id count none = refl
+closing_told (x ∷ xs) id count none = grind (arith, closing_told xs id count)
+
+pub told_now : (closed : Option ℕ) (xs : List Queued) (id count : ℕ) → is_some closed ≡ false
+    → (closed ≡ None → closed_in xs ≡ None) → closed_in (xs ++ Closing id count ∷ []) ≡ Some id
+told_now None xs id count still none = closing_told xs id count (none refl)
+told_now (Some first) xs id count still none = grind arith
 
 -- an outlet that is not full is open, and a slot is free
 pub slot_free : (closed : Option ℕ) (n : ℕ) → 0 < cond (is_some closed) 0 n → 0 < n

@@ -24,12 +24,6 @@ closed_in [] = None
 closed_in (Lines packet ∷ items) = closed_in items
 closed_in (Closing id count ∷ items) = Some id
 
--- whether there is a closing item
-abbrev pub is_closed : List Queued → Bool
-is_closed [] = false
-is_closed (Lines packet ∷ items) = is_closed items
-is_closed (Closing id count ∷ items) = true
-
 -- a closing item has the count of the items before it
 abbrev pub MayFollow : List Queued → Queued → Type 0
 MayFollow before (Lines packet) = Unit {0}

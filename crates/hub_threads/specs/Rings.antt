@@ -1,5 +1,5 @@
 -- What contracts see of the rings between threads.
-use Rattle.std.specs.Prelude.{ℕ, List, Option, None, Bool, map, cond, is_some}
+use Rattle.std.specs.Prelude.{ℕ, List, Option, None, map, cond, is_some}
 use Rattle.irc_line.specs.Line.{Parts}
 use Rattle.rtrb.specs.Ring.{sent, received, known_free, known_items, producer_capacity}
 use Rattle.rtrb.specs.Ring.{consumer_capacity, IsPair}
@@ -10,7 +10,7 @@ use Rattle.hub_threads.specs.declared.inlet_ring.RingInlet.{RingInlet}
 use Rattle.hub_threads.specs.declared.outlet_end.OutletEnd.{OutletEnd}
 use Rattle.hub_threads.specs.declared.outlet_ring.RingOutlet.{RingOutlet}
 use Rattle.hub_threads.specs.declared.queued.Queued.{Queued}
-use Rattle.hub_threads.specs.Queues.{packets_in, is_closed, first_packet}
+use Rattle.hub_threads.specs.Queues.{packets_in, closed_in, first_packet}
 
 -- ---- items, from the thread that reads to the hub
 
@@ -63,9 +63,9 @@ state_of outlet = record {
   free = free_of outlet;
 }
 
--- whether the closing item found a slot
-abbrev pub told_of : RingOutlet → Bool
-told_of outlet = is_closed (sent outlet.producer)
+-- the number in the closing item, if one found a slot
+abbrev pub told_of : RingOutlet → Option ℕ
+told_of outlet = closed_in (sent outlet.producer)
 
 -- all items that the end ever took
 abbrev pub items_of : OutletEnd → List Queued

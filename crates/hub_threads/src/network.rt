@@ -5,7 +5,7 @@ ghost use Rattle.std.specs.Sync.Mutex.{mutex_guard_value};
 ghost use Rattle.history.specs.Messages.{is_capacity};
 ghost use Rattle.hub_core.specs.LostChannels.{lost_channels};
 ghost use Rattle.hub_core.specs.Online.{is_online};
-ghost use Rattle.hub_core.specs.Running.{IsRunning};
+ghost use Rattle.hub_core.specs.Running.{EachAgrees, IsRunning};
 ghost use Rattle.hub_core.specs.States.{heard, view_now};
 ghost use Rattle.hub_threads.specs.Rings.{ArePacketEnds, capacity_of, closed_of};
 ghost use Rattle.hub_threads.specs.Rings.{end_capacity_of, free_of, items_of, put_of, sent_of};
@@ -98,11 +98,14 @@ impl<V: NetworkView + Drop> Network<V> {
 
     /// Waits for the lock. Through what it answers, the hub's own calls are made. Whenever the lock
     /// is free, what holds of every hub holds of this one: its view is that of what was taken, and
-    /// each session's lines agree with it.
+    /// each session's client knows from its lines what its capabilities let it know of all that came
+    /// since it attached or changed them; so these lines agree with the view.
     pub fn lock<R: Wait>(&self, rt: &R) -> MutexGuard<'_, Hub<V, RingInlet, RingOutlet>>
         ensures running { IsRunning (mutex_guard_value result) (view_now (mutex_guard_value result))
             (is_online (heard (mutex_guard_value result)))
             (lost_channels (heard (mutex_guard_value result))) }
+        ensures agree { EachAgrees (view_now (mutex_guard_value result))
+            (mutex_guard_value result).sessions }
     {
         let hub = self.hub.lock(rt);
         hub.is_running();
@@ -124,7 +127,7 @@ impl<V: NetworkView + Drop> Network<V> {
     ) -> Result<(RingOutlet, OutletEnd), OutOfMemory>
         requires { 0 < capacity }
         ensures outlet { IfOk result (λ r. (sent_of r.0 ≡ []) × (closed_of r.0 ≡ None) ×
-            (capacity_of r.0 ≡ capacity) × (free_of r.0 ≡ capacity) × (told_of r.0 ≡ false)) }
+            (capacity_of r.0 ≡ capacity) × (free_of r.0 ≡ capacity) × (told_of r.0 ≡ None)) }
         ensures end { IfOk result (λ r. (items_of r.1 ≡ []) × (end_capacity_of r.1 ≡ capacity)) }
         ensures ends { IfOk result (λ r. ArePacketEnds r.0 r.1) }
     {
@@ -142,7 +145,8 @@ impl<V: NetworkView + Drop> Network<V> {
     }
 
     /// Takes items into the hub if its pump sleeps, and as long as no session is nearly full: at
-    /// most this many. For the thread that has put some, which so spares waking the pump.
+    /// most this many. For the thread that has put some, which so spares waking the pump. The lock
+    /// is taken anew for each item.
     pub fn pump_beside<R: Wait>(&self, rt: &R, most: u64) -> Beside {
         let mut beside = Beside {
             taken: 0,
@@ -151,8 +155,8 @@ impl<V: NetworkView + Drop> Network<V> {
         if !self.pump.is_drowsy() {
             return beside;
         }
-        let mut hub = self.lock(rt);
         for _ in 0..most {
+            let mut hub = self.lock(rt);
             if self.is_crowded(&mut hub) {
                 break;
             }

@@ -26,7 +26,7 @@ pub fn outlet(
 ) -> Result<(RingOutlet, OutletEnd), OutOfMemory>
     requires { 0 < capacity }
     ensures outlet { IfOk result (λ r. (sent_of r.0 ≡ []) × (closed_of r.0 ≡ None) ×
-        (capacity_of r.0 ≡ capacity) × (free_of r.0 ≡ capacity) × (told_of r.0 ≡ false)) }
+        (capacity_of r.0 ≡ capacity) × (free_of r.0 ≡ capacity) × (told_of r.0 ≡ None)) }
     ensures end { IfOk result (λ r. (items_of r.1 ≡ []) × (end_capacity_of r.1 ≡ capacity)) }
     ensures ends { IfOk result (λ r. ArePacketEnds r.0 r.1) }
 {

@@ -1,8 +1,9 @@
 //! Packets to the thread that writes.
 
-ghost use Rattle.std.specs.Prelude.{◌≡◌, length};
+ghost use Rattle.std.specs.Prelude.{◌≡◌, None, length};
 ghost use Rattle.irc_line.specs.Lines.{counted};
 ghost use Rattle.rtrb.specs.Ring.{sent};
+ghost use Rattle.hub_threads.specs.Queues.{closed_in};
 
 use crate::bell::SharedBell;
 use crate::queued::{Counted, Queued};
@@ -22,6 +23,7 @@ pub struct RingOutlet {
     // tells the pump of the network that there is little room
     pump: SharedBell,
     ghost counts: { count ≡ counted (length (sent producer)) },
+    ghost unclosed: { closed ≡ None → closed_in (sent producer) ≡ None },
 }
 
 impl Drop for RingOutlet {
@@ -41,7 +43,7 @@ impl Drop for RingOutlet {
 }
 
 impl RingOutlet {
-    ghost use Rattle.std.specs.Prelude.{◌≡◌, [], None, false};
+    ghost use Rattle.std.specs.Prelude.{◌≡◌, [], None};
     ghost use Rattle.rtrb.specs.Ring.{known_free, producer_capacity, sent};
     ghost use Rattle.hub_threads.specs.Rings.{capacity_of, closed_of, free_of, sent_of, told_of};
 
@@ -52,7 +54,7 @@ impl RingOutlet {
         pump: SharedBell,
     ) -> RingOutlet
         requires { sent producer ≡ [] }
-        ensures { (sent_of result ≡ []) × (closed_of result ≡ None) × (told_of result ≡ false) ×
+        ensures { (sent_of result ≡ []) × (closed_of result ≡ None) × (told_of result ≡ None) ×
             (capacity_of result ≡ producer_capacity producer) ×
             (free_of result ≡ known_free producer) × (result.producer ≡ producer) }
     {
@@ -183,7 +185,7 @@ impl RingOutlet {
         ensures first { closed_of self.old ≡ None → closed_of self.new ≡ Some id }
         ensures again { IsSome (closed_of self.old) → closed_of self.new ≡ closed_of self.old }
         ensures full { free_of self.new ≡ 0 }
-        ensures told { 0 < free_of self.old → told_of self.new ≡ true }
+        ensures told { 0 < free_of self.old → told_of self.new ≡ Some id }
         ensures ends { StaysOutlet self.old self.new }
     {
         if self.closed.is_some() {

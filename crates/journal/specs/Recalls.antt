@@ -8,6 +8,10 @@ use Rattle.journal.specs.declared.damage.Damage.{Damage}
 use Rattle.journal.specs.declared.damage.Damage.TheVariants as damage
 use Rattle.journal.specs.declared.damage.RedoError.{RedoError}
 use Rattle.journal.specs.declared.damage.RedoError.TheVariants as fault
+use Rattle.history.specs.declared.ring.CapacityError.{CapacityError}
+use Rattle.history.specs.declared.ring.CapacityError.TheVariants as capacity
+use Rattle.journal.specs.declared.replaying.RecallError.{RecallError}
+use Rattle.journal.specs.declared.replaying.RecallError.TheVariants as error
 use Rattle.journal.specs.declared.replaying.Redone.{Redone}
 use Rattle.journal.specs.declared.replaying.Redone.TheVariants as redone
 
@@ -83,3 +87,8 @@ pub record IsAfterBeginning (batches : List (List RecordParts)) (start kept : Ke
 -- a hub can begin with these messages
 abbrev pub CanBegin : Messages → Type 0
 CanBegin h = (first : ℕ) × AreKeptBefore first h
+
+-- as which refusal that of a history counts
+abbrev pub recall_error_of : CapacityError → RecallError
+recall_error_of capacity.BadCapacity = error.BadCapacity
+recall_error_of capacity.OutOfMemory = error.OutOfMemory

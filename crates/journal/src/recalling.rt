@@ -1,7 +1,8 @@
 //! A journal is recalled.
 
-ghost use Rattle.std.specs.Prelude.{◌≡◌, ◌<◌, ◌^◌, ◌++◌, IfOk, List, None, Ok, Some, ℕ};
-ghost use Rattle.std.specs.Prelude.{length, take};
+ghost use Rattle.std.specs.Prelude.{◌≡◌, ◌↔◌, ◌<◌, ◌^◌, ◌++◌, IfOk, IsErrOf, List, None, Ok, Some, ℕ};
+ghost use Rattle.std.specs.Prelude.{false, length, take};
+ghost use Rattle.history.specs.Messages.{is_capacity};
 ghost use Rattle.frames.specs.Frames.{frame, frame_at};
 ghost use Rattle.journal.specs.Kept.{KeptParts, after_all, kept_parts, nothing};
 ghost use Rattle.journal.specs.Recalls.{CanBegin, Fails, IsAfterBeginning, Recalls};
@@ -12,6 +13,7 @@ use crate::damage::Damage;
 use crate::kept::Kept;
 use crate::replaying::{RecallError, Redone, redo_all};
 use frames::read_frames;
+use history::CAPACITY_LIMIT;
 use std::alloc::Global;
 
 /// What is recalled of a journal.
@@ -33,8 +35,9 @@ fn recall_frames(
     first: u64,
     bytes: &[u8],
 ) -> Result<Recalled, RecallError>
-    ensures { IfOk result (λ r. Recalls (nothing capacity first) bytes.now r.batches r.damage
-        (kept_parts r.kept)) }
+    ensures recalls { IfOk result (λ r. Recalls (nothing capacity first) bytes.now r.batches
+        r.damage (kept_parts r.kept)) }
+    ensures bad { IsErrOf result RecallError.BadCapacity → is_capacity capacity ≡ false }
 {
     let (payloads, _rest) = read_frames(alloc, bytes)?;
     let all = Vec::from_slice(alloc, &payloads)?;
@@ -88,6 +91,11 @@ pub fn recall(
         after_all batches (nothing capacity first) ≡ Ok kept → Fails bad kept why →
         IfOk result (λ r. (kept_parts r.kept ≡ kept) × (r.damage ≡ Some why)
         × (r.batches ≡ length batches)) }
+    // `BadCapacity` comes exactly if the capacity is 0 or above 10,000, and before any allocation.
+    ensures bad { IsErrOf result RecallError.BadCapacity ↔ (is_capacity capacity ≡ false) }
 {
+    if capacity == 0 || capacity > CAPACITY_LIMIT {
+        return Err(RecallError::BadCapacity);
+    }
     recall_frames(alloc, capacity, first, bytes)
 }

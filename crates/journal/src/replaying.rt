@@ -1,6 +1,7 @@
 //! Batches are done again.
 
-ghost use Rattle.std.specs.Prelude.{◌≡◌, IfErr, IfOk, OnOk, map};
+ghost use Rattle.std.specs.Prelude.{◌≡◌, IfErr, IfOk, IsErrOf, OnOk, false, map};
+ghost use Rattle.history.specs.Messages.{is_capacity};
 ghost use Rattle.journal.specs.Kept.{kept_parts, nothing};
 ghost use Rattle.journal.specs.Recalls.{FailsBy, IsRedone, Takes};
 
@@ -24,6 +25,10 @@ pub enum RecallError {
 }
 
 impl From<CapacityError> for RecallError {
+    ghost use Rattle.journal.specs.Recalls.{recall_error_of};
+
+    ghost from_gives = { λ e x. x ≡ recall_error_of e };
+
     fn from(e: CapacityError) -> RecallError {
         match e {
             CapacityError::BadCapacity => RecallError::BadCapacity,
@@ -33,6 +38,10 @@ impl From<CapacityError> for RecallError {
 }
 
 impl From<OutOfMemory> for RecallError {
+    ghost use Rattle.journal.specs.declared.replaying.RecallError.TheVariants as fault;
+
+    ghost from_gives = { λ _ e. e ≡ fault.OutOfMemory };
+
     fn from(_e: OutOfMemory) -> RecallError {
         RecallError::OutOfMemory
     }
@@ -66,7 +75,9 @@ pub fn redo_all(
     first: u64,
     payloads: Vec<&[u8]>,
 ) -> Result<Redone, RecallError>
-    ensures { IfOk result (IsRedone (map (λ p. p.now) payloads.entry.items) (nothing capacity first)) }
+    ensures redone { IfOk result
+        (IsRedone (map (λ p. p.now) payloads.entry.items) (nothing capacity first)) }
+    ensures bad { IsErrOf result RecallError.BadCapacity → is_capacity capacity ≡ false }
 {
     let mut kept = Kept {
         history: History::new(alloc, capacity, first)?,

@@ -1,7 +1,7 @@
 //! The text of a batch.
 
 ghost use Rattle.std.specs.Prelude.{◌≡◌, ◌++◌, ◌∷◌, [], List, IfNone, IfOk, IfSome, IsErrOf, OnOk, map, option_map};
-ghost use Rattle.std.specs.Prelude.{OnErr};
+ghost use Rattle.std.specs.Prelude.{◌≤◌, ◌^◌, OnErr, length};
 ghost use Rattle.frames.specs.Frames.{frame};
 ghost use Rattle.journal.specs.Records.{AreBatches, AreSound, IsBatch, RecordParts, journal_of};
 ghost use Rattle.journal.specs.Records.{parts_of_all, payload_of};
@@ -111,6 +111,8 @@ pub fn push_batch(alloc: Global, out: &mut Vec<u8>, records: &[Record]) -> Resul
     ensures err { OnErr result (out.new.items ≡ out.old.items) }
     ensures no_record { IsErrOf result PushError.NoRecord
         → AreSound (parts_of_all records.now) → ⊥ }
+    ensures too_long { IsErrOf result PushError.TooLong
+        → 2 ^ 32 ≤ length (payload_of (parts_of_all records.now)) }
 {
     let payload = text_of(alloc, records)?;
     if payload.len() > 0xFFFF_FFFF {

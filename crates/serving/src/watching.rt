@@ -1,6 +1,8 @@
 //! What the shell adds to a client's way from its login to the end of its session: its seat, the
 //! number of sessions, the pace, late answers, and the log.
 
+ghost use Rattle.std.specs.Prelude.{◌≡◌, IsSome};
+
 use crate::client_input::ClientInput;
 use crate::connection::Connection;
 use crate::counted::Count;
@@ -110,6 +112,17 @@ pub(crate) struct At<'a, R> {
     pub(crate) peer: SocketAddr,
 }
 
+/// Why a client whose login is complete is not served.
+#[derive(Clone, Copy, PartialEq, Eq)]
+enum TurnedAway {
+    /// There is no clock, or no memory for the names that it claims.
+    NoMeans,
+    /// The settings have changed since it began to log in.
+    Outdated,
+    /// Another login has its seat.
+    SeatLost,
+}
+
 /// Watches one client.
 #[derive(Drop)]
 pub(crate) struct Watching<'a, R: Wait + Clock + Copy + Drop> {
@@ -127,8 +140,9 @@ pub(crate) struct Watching<'a, R: Wait + Clock + Copy + Drop> {
     inside: Option<Inside<'a, R>>,
     // why its session ended
     why: Option<Leave>,
-    // whether the settings had changed when its login was complete
-    is_outdated: bool,
+    // why it is not served although its login is complete
+    turned_away: Option<TurnedAway>,
+    session: Option<SessionId>,
 }
 
 impl<'a, R: Wait + Clock + Copy + Drop> Watching<'a, R> {
@@ -143,7 +157,31 @@ impl<'a, R: Wait + Clock + Copy + Drop> Watching<'a, R> {
             refusal: None,
             inside: None,
             why: None,
-            is_outdated: false,
+            turned_away: None,
+            session: None,
+        }
+    }
+
+    /// Notes that the login is complete, and whom the client claims to be; answers why it is not
+    /// served, if it isn't.
+    fn complete(&mut self, claim: &Claim) -> Option<TurnedAway>
+        ensures { self.new.session ≡ self.old.session }
+    {
+        let Ok(completed) = Instant::now(self.at.rt) else {
+            return Some(TurnedAway::NoMeans);
+        };
+        let Ok(names) = Names::of(self.at.alloc, claim) else {
+            self.refusal = Some(Refusal::Login(LoginFault::Memory));
+            return Some(TurnedAway::NoMeans);
+        };
+        self.completed = Some(completed);
+        self.names = Some(names);
+        if !self.at.shared.is_of_now(self.at.roster) {
+            return Some(TurnedAway::Outdated);
+        }
+        match &self.seat {
+            Some(seat) if seat.complete() => None,
+            _ => Some(TurnedAway::SeatLost),
         }
     }
 
@@ -202,7 +240,9 @@ impl<'a, R: Wait + Clock + Copy + Drop> Watching<'a, R> {
         &mut self,
         claim: &Claim,
         slot: &Arc<Slot<QuickView>>,
-    ) -> Result<Arc<Network<QuickView>>, AttachError> {
+    ) -> Result<Arc<Network<QuickView>>, AttachError>
+        ensures { self.new.session ≡ self.old.session }
+    {
         let (user, network) = (claim.user.as_slice(), claim.network.as_slice());
         let station = self.at.roster.station(user, network);
         let guests = station.ok_or(AttachError::NotReady)?.guests();
@@ -238,7 +278,7 @@ impl<'a, R: Wait + Clock + Copy + Drop> Watching<'a, R> {
     fn end_login(&self, input: &ClientInput<'a, R>) {
         let is_lost = self.seat.as_ref().is_none_or(|seat| seat.is_lost());
         match self.refusal {
-            None if self.is_outdated => self.end_outdated(),
+            None if self.turned_away == Some(TurnedAway::Outdated) => self.end_outdated(),
             None => self.tell_no_login(GAVE_WAY),
             Some(Refusal::Login(_)) if is_lost => self.tell_no_login(GAVE_WAY),
             Some(Refusal::Login(LoginFault::Read)) if input.lacks_pass() => {
@@ -317,23 +357,14 @@ impl<'a, R: Wait + Clock + Copy + Drop> Watching<'a, R> {
 
 impl<'a, R: Wait + Clock + Copy + Drop> Watcher<QuickView, Arc<Station>, ClientInput<'a, R>>
     for Watching<'a, R> {
-    ghost turns_away = { λ _ _. Unit {0} };
+    // it is noted why
+    ghost turns_away = { λ w _. IsSome w.turned_away };
+
+    ghost session = { λ w. w.session };
 
     fn logged_in(&mut self, claim: &Claim) -> bool {
-        let Ok(completed) = Instant::now(self.at.rt) else {
-            return false;
-        };
-        let Ok(names) = Names::of(self.at.alloc, claim) else {
-            self.refusal = Some(Refusal::Login(LoginFault::Memory));
-            return false;
-        };
-        self.completed = Some(completed);
-        self.names = Some(names);
-        if !self.at.shared.is_of_now(self.at.roster) {
-            self.is_outdated = true;
-            return false;
-        }
-        self.seat.as_ref().is_some_and(|seat| seat.complete())
+        self.turned_away = self.complete(claim);
+        self.turned_away.is_none()
     }
 
     fn let_in(
@@ -364,7 +395,9 @@ impl<'a, R: Wait + Clock + Copy + Drop> Watcher<QuickView, Arc<Station>, ClientI
         }
     }
 
-    fn attached(&mut self, _id: SessionId) {}
+    fn attached(&mut self, id: SessionId) {
+        self.session = Some(id);
+    }
 
     fn caps_changed(&mut self, caps: Caps) {
         self.tell(&Event::CapsChanged { caps });

@@ -15,15 +15,16 @@ said_more : (before lines : List Parts) (r : Option Leave) → WereSaid before N
     → WereSaid lines r → WereSaid (before ++ lines) r
 said_more before lines r none said = grind (arith, list_any-append)
 
-pub said_on : (before lines : List Parts) (r : Option Leave) → WereSaid before None
-    → WereSaid lines r → IfNone r (WereSaid (before ++ lines) None)
-said_on before lines None none said = said_more before lines None none said
-said_on before lines (Some why) none said = tt
+-- and something else that holds meanwhile
+pub said_on : (K : Type 0) (before lines : List Parts) (r : Option Leave) → WereSaid before None
+    → WereSaid lines r → K → IfNone r (WereSaid (before ++ lines) None × K)
+said_on K before lines None none said k = (said_more before lines None none said, k)
+said_on K before lines (Some why) none said k = tt
 
-pub said_last : (before lines : List Parts) (r : Option Leave) → WereSaid before None
-    → WereSaid lines r → IfSome r (λ why. WereSaid (before ++ lines) (Some why))
-said_last before lines None none said = tt
-said_last before lines (Some why) none said = said_more before lines (Some why) none said
+pub said_last : (K : Type 0) (before lines : List Parts) (r : Option Leave) → WereSaid before None
+    → WereSaid lines r → K → IfSome r (λ why. WereSaid (before ++ lines) (Some why) × K)
+said_last K before lines None none said k = tt
+said_last K before lines (Some why) none said k = (said_more before lines (Some why) none said, k)
 
 -- ---- a session
 
@@ -40,27 +41,29 @@ module _ {old : Pending} {unread : List Parts} {u w : Option (List ℕ)} where
   heard pieces why read cause = heard_refused _ pieces [] why (rw append-nil read) refl cause
 
   -- it was read to its end, or left by a line
-  pub was_heard : (new : Pending) (end : InputEnd Leave) → WereSaid unread None
-      → WasRead (λ lines. WereSaid lines None) (λ lines why. WereSaid lines (Some why)) old new u w
-      end
-      → WasHeard old unread u w (leave_at end)
-  was_heard new (input.Answered leave.Quit) said r =
-      heard r.pieces leave.Quit r.why.0 (refl, said_more unread _ (Some leave.Quit) said r.why.1)
-  was_heard new (input.Answered leave.Cut) said r = heard r.pieces leave.Cut r.why.0 tt
-  was_heard new (input.Answered _) said r = absurd r.why.1
-  was_heard new input.EndOfInput said r =
-      heard r.pieces leave.EndOfInput r.why.0
-      (refl, said_more unread _ None said r.why.2, r.why.1)
-  was_heard new (input.ReadFault error) said r =
-      heard r.pieces leave.ReadFault r.why.0 (refl, said_more unread _ None said r.why.1)
-  was_heard new input.ReadsSpent said r =
-      heard r.pieces leave.ReadFault r.why.0 (refl, said_more unread _ None said r.why.1)
-  was_heard new input.TooLong said r =
-      heard_refused new r.pieces r.why.0 leave.TooLong r.why.1 r.held
-      (r.why.2, said_more unread _ None said r.why.3)
-  was_heard new input.OutOfMemory said r =
-      heard_refused new r.pieces r.why.0 leave.OutOfMemory r.why.1 r.held
-      (said_more unread _ None said r.why.3)
+  -- while something else holds
+  module _ (K : Type 0) where
+    pub was_heard : (new : Pending) (end : InputEnd Leave) → WereSaid unread None
+        → WasRead (λ lines. WereSaid lines None × K) (λ lines why. WereSaid lines (Some why) × K)
+        old new u w end → WasHeard old unread u w (leave_at end)
+    was_heard new (input.Answered leave.Quit) said r =
+        heard r.pieces leave.Quit r.why.0
+        (refl, said_more unread _ (Some leave.Quit) said r.why.1.0)
+    was_heard new (input.Answered leave.Cut) said r = heard r.pieces leave.Cut r.why.0 tt
+    was_heard new (input.Answered _) said r = absurd r.why.1.0
+    was_heard new input.EndOfInput said r =
+        heard r.pieces leave.EndOfInput r.why.0
+        (refl, said_more unread _ None said r.why.2.0, r.why.1)
+    was_heard new (input.ReadFault error) said r =
+        heard r.pieces leave.ReadFault r.why.0 (refl, said_more unread _ None said r.why.1.0)
+    was_heard new input.ReadsSpent said r =
+        heard r.pieces leave.ReadFault r.why.0 (refl, said_more unread _ None said r.why.1.0)
+    was_heard new input.TooLong said r =
+        heard_refused new r.pieces r.why.0 leave.TooLong r.why.1 r.held
+        (r.why.2, said_more unread _ None said r.why.3.0)
+    was_heard new input.OutOfMemory said r =
+        heard_refused new r.pieces r.why.0 leave.OutOfMemory r.why.1 r.held
+        (said_more unread _ None said r.why.3.0)
 
 module _ {splitter : Pending} {unread : List Parts} {began : Option (List ℕ)} where
   -- nothing was read behind what was unread
@@ -74,3 +77,15 @@ module _ {splitter : Pending} {unread : List Parts} {began : Option (List ℕ)} 
   left_unread leave.Quit said = heard_unread leave.Quit (refl, said)
   left_unread leave.Cut said = heard_unread leave.Cut tt
   left_unread _ said = absurd said
+
+-- what holds while a client is heard
+pub kept_meanwhile : (K : Type 0) (old new : Pending) (u w : Option (List ℕ))
+    (end : InputEnd Leave)
+    → WasRead (λ lines. WereSaid lines None × K) (λ lines why. WereSaid lines (Some why) × K) old
+    new u w end → K
+kept_meanwhile K old new u w (input.Answered why) r = r.why.1.1
+kept_meanwhile K old new u w input.EndOfInput r = r.why.2.1
+kept_meanwhile K old new u w (input.ReadFault error) r = r.why.1.1
+kept_meanwhile K old new u w input.ReadsSpent r = r.why.1.1
+kept_meanwhile K old new u w input.TooLong r = r.why.3.1
+kept_meanwhile K old new u w input.OutOfMemory r = r.why.3.1

@@ -1,5 +1,5 @@
 -- How a client was served.
-use Rattle.std.specs.Prelude.{◌≢◌, ◌⊎◌, ℕ, List, Option}
+use Rattle.std.specs.Prelude.{◌≡◌, ◌≢◌, ◌⊎◌, ℕ, List, Option, Some}
 use Rattle.std.specs.Io.KnownBytes.{Consumes}
 use Rattle.std.specs.declared.io.traits.Write.{Ghosts}
 use Rattle.irc_line.specs.Line.{Parts}
@@ -41,8 +41,8 @@ pub record Failed (began left : Option (List ℕ)) : Type 0 where
   pub cause : IsCauseOf bytes fault
   pub not_memory : fault ≢ Memory
 
--- why a login that ended so gives no session: it was closed; or its client is turned away by the
--- caller, or is not let in
+-- why a login that ended so gives no session: it was closed; or the watcher turned its client away,
+-- or it is not let in
 abbrev pub IsNoWayIn : (ClaimParts → Type 0) → Settings → List Place → Ending → Type 0
 IsNoWayIn turns_away settings places Closes = Unit {0}
 IsNoWayIn turns_away settings places (Claims claim) =
@@ -58,19 +58,22 @@ pub record GotNoWayIn (turns_away : ClaimParts → Type 0) (settings : Settings)
   pub login : LogsIn began left was now ending lines splitter
   pub why : IsNoWayIn turns_away settings places ending
 
-module _ {W : Type 0} {g : Ghosts W} (contents : W → Option (List ℕ)) (turns_away : ClaimParts → Type 0)
-    (settings : Settings) (places : List Place) (began left was : Option (List ℕ)) where
+module _ {W : Type 0} {g : Ghosts W} (contents : W → Option (List ℕ))
+    (turns_away : ClaimParts → Type 0) (session : Option ℕ) (settings : Settings)
+    (places : List Place) (began left was : Option (List ℕ)) where
   -- A client came in, and had a session: what it said after its login was heard until it left, and
   -- its writer wrote behind what its login was sent.
   pub record HadSession (e : Ended W g) : Type 0 where
     pub came : CameIn settings places began was
     pub why : Leave
     pub heard : WasHeard came.splitter came.lines came.left left why
+    -- of this number, which its watcher was given
     pub id : ℕ
+    pub given : session ≡ Some id
     pub ended : HasEnded id e.token e.fresh (items_of e.end) came.now (contents e.out) e.written
 
   -- Nobody has a session, or is refused one, but who came in; and who logged in and is let in has
-  -- one or is refused one, if the caller does not turn the client away.
+  -- one or is refused one, if the watcher has not turned the client away.
   abbrev pub IsServed : Served W g → Type 0
   IsServed served.NoLogin =
       Failed began left ⊎ GotNoWayIn turns_away settings places began left was

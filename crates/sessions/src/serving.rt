@@ -1,6 +1,6 @@
 //! A client, from its first byte to the end of its session.
 
-ghost use Rattle.std.specs.Prelude.{ℕ, ◌≡◌, [], IfOk, None, map};
+ghost use Rattle.std.specs.Prelude.{◌≡◌, [], IfOk, None, Some, map};
 ghost use Rattle.hub_threads.specs.Rings.{closed_of, items_of, sent_of};
 ghost use Rattle.sessions.specs.Claims.{parts_of};
 ghost use Rattle.sessions.specs.Leaving.{HasEnded, WasHeard};
@@ -126,7 +126,8 @@ fn turn_away<W: Write + Drop, R: Threads + Wait>(rt: &R, handle: Writer<W>, erro
 
 /// Serves a client that was let in: starts a thread that writes to it, attaches it, and says each
 /// of its lines to the hub, those that are unread first, until QUIT, the input's end or a fault.
-/// Answers why it went, and what its writer handed back. No write is made under the lock. If no
+/// Answers why it went, what its writer handed back, and the number of its session. No write is made
+/// under the lock. If no
 /// thread can be started it is not attached; if it is not attached it is told why.
 ///
 /// A line that comes while the network is offline or takes no more, or for which there is no memory
@@ -150,11 +151,12 @@ pub fn serve<
     unread: Unread,
     network: &Network<V>,
     watcher: &mut X,
-) -> Result<(Leave, Ended<W>), ServeFault>
+) -> Result<(Leave, Ended<W>, SessionId), ServeFault>
     ensures heard { IfOk result (λ x. WasHeard unread.splitter unread.lines.items
         (I.remaining reader.old) (I.remaining reader.new) x.0) }
-    ensures ended { IfOk result (λ x. (id : ℕ) × HasEnded id x.1.token x.1.fresh (items_of x.1.end)
+    ensures ended { IfOk result (λ x. HasEnded x.2 x.1.token x.1.fresh (items_of x.1.end)
         (W.contents writer) (W.contents x.1.out) x.1.written) }
+    ensures session { IfOk result (λ x. X.session watcher.new ≡ Some x.2) }
 {
     let rt = &worker.rt;
     let (outlet, handle) = match start_writer(worker, writer, network) {
@@ -183,7 +185,7 @@ pub fn serve<
     let leave = talk(*alloc, &mut talking, reader, unread);
     watcher.ended(leave);
     match end_session(rt, network, id, handle) {
-        Ok(ended) => Ok((leave, ended)),
+        Ok(ended) => Ok((leave, ended, id)),
         Err(NoSession) => Err(ServeFault::Cut),
     }
 }
@@ -210,9 +212,9 @@ pub fn serve_session<
     networks: &[(Place, N)],
     watcher: &mut X,
 ) -> Result<Served<W>, OutOfMemory>
-    ensures { IfOk result (IsServed W.contents (λ claim. (x : X) × X.turns_away x claim) config.now
-        (map (λ one. one.0) networks.now) (I.remaining reader.old) (I.remaining reader.new)
-        (W.contents writer)) }
+    ensures { IfOk result (IsServed W.contents (X.turns_away watcher.new) (X.session watcher.new)
+        config.now (map (λ one. one.0) networks.now) (I.remaining reader.old)
+        (I.remaining reader.new) (W.contents writer)) }
 {
     let mut writer = writer;
     let LoggedIn { ending, unread } = match log_in(worker.alloc, reader, &mut writer) {
@@ -245,7 +247,7 @@ pub fn serve_session<
         }
     };
     match serve(worker, reader, writer, &claim, unread, &network, watcher) {
-        Ok((_, ended)) => Ok(Served::Ended(ended)),
+        Ok((_, ended, _)) => Ok(Served::Ended(ended)),
         Err(ServeFault::Refused(error)) => Ok(Served::Refused(error)),
         Err(ServeFault::Cut) => Ok(Served::Cut),
         Err(ServeFault::Memory) => Err(OutOfMemory),

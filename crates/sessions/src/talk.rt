@@ -24,7 +24,9 @@ fn tell_change<V: NetworkView + Drop, N, I: Read, X: Watcher<V, N, I>>(
     watcher: &mut X,
     before: Option<Caps>,
     after: Option<Caps>,
-) {
+)
+    ensures { X.session watcher.new ≡ X.session watcher.old }
+{
     match after {
         Some(caps) if before != after => watcher.caps_changed(caps),
         _ => {}
@@ -61,7 +63,10 @@ impl<
         gate: &'a G,
         clock: &'a C,
         watcher: &'a mut X,
-    ) -> Self {
+    ) -> Self
+        ensures reference { result.watcher.ghost_name ≡ watcher.entry.ghost_name }
+        ensures session { X.session result.watcher.now ≡ X.session watcher.old }
+    {
         Talking {
             rt,
             network,
@@ -76,7 +81,9 @@ impl<
     /// Says a CAP line, and tells if it changed the client's capabilities; answers why the session
     /// ends, where it does.
     fn say_cap(&mut self, line: &Line, moment: Moment) -> Option<Leave>
-        ensures { LeavesBy line.now result }
+        ensures said { LeavesBy line.now result }
+        ensures reference { self.new.watcher.ghost_name ≡ self.old.watcher.ghost_name }
+        ensures session { X.session self.new.watcher.now ≡ X.session self.old.watcher.now }
     {
         let mut hub = self.network.lock(self.rt);
         let before = hub.caps(self.id);
@@ -89,7 +96,9 @@ impl<
 
     /// Says a line; answers why the session ends, where it does.
     fn say_line(&mut self, line: &Line) -> Option<Leave>
-        ensures { LeavesBy line.now result }
+        ensures said { LeavesBy line.now result }
+        ensures reference { self.new.watcher.ghost_name ≡ self.old.watcher.ghost_name }
+        ensures session { X.session self.new.watcher.now ≡ X.session self.old.watcher.now }
     {
         let moment = self.clock.now();
         if line.is(b"CAP") {
@@ -101,7 +110,9 @@ impl<
     /// Says lines, in order, up to one that ends the session; answers why, where one does. The lock
     /// is taken anew for each.
     fn say_all(&mut self, lines: &[Line]) -> Option<Leave>
-        ensures { WereSaid lines.now result }
+        ensures said { WereSaid lines.now result }
+        ensures reference { self.new.watcher.ghost_name ≡ self.old.watcher.ghost_name }
+        ensures session { X.session self.new.watcher.now ≡ X.session self.old.watcher.now }
     {
         for line in lines {
             if let Some(why) = self.say_line(line) {
@@ -118,11 +129,14 @@ impl<V: NetworkView + Drop, N, I: Read, G: Gate, C: Clock, X: Watcher<V, N, I>, 
     ghost use Rattle.std.specs.Prelude.{None, Some};
     ghost use Rattle.sessions.specs.Leaving.{WereSaid};
 
-    ghost is_after = { λ began lines now. WereSaid lines None };
+    ghost is_after = { λ began lines now. WereSaid lines None
+        × ((now.watcher.ghost_name ≡ began.watcher.ghost_name)
+        × (X.session now.watcher.now ≡ X.session began.watcher.now)) };
 
-    ghost ends = { λ began lines why now. WereSaid lines (Some why) };
+    ghost ends = { λ began lines why now. WereSaid lines (Some why)
+        × ((now.watcher.ghost_name ≡ began.watcher.ghost_name)
+        × (X.session now.watcher.now ≡ X.session began.watcher.now)) };
 
-    #[tactic(auto, using(crate::proofs::Heard::said_on, crate::proofs::Heard::said_last))]
     fn take_lines(&mut self, lines: Vec<Line>) -> Option<Leave> {
         self.say_all(lines.as_slice())
     }
@@ -161,8 +175,10 @@ pub(crate) fn talk<
     reader: &mut I,
     unread: Unread,
 ) -> Leave
-    ensures { WasHeard unread.splitter unread.lines.items (I.remaining reader.old)
+    ensures heard { WasHeard unread.splitter unread.lines.items (I.remaining reader.old)
         (I.remaining reader.new) result }
+    ensures reference { talking.new.watcher.ghost_name ≡ talking.old.watcher.ghost_name }
+    ensures session { X.session talking.new.watcher.now ≡ X.session talking.old.watcher.now }
 {
     let Unread { splitter, lines } = unread;
     let mut splitter = splitter;

@@ -1,6 +1,6 @@
 //! Who watches how a client is served, and lends it its network.
 
-ghost use Rattle.std.specs.Prelude.{◌≡◌, false};
+ghost use Rattle.std.specs.Prelude.{ℕ, ◌≡◌, Option, Some, false};
 ghost use Rattle.sessions.specs.Claims.{ClaimParts, parts_of};
 
 use crate::attending::Leave;
@@ -33,13 +33,17 @@ pub enum Refusal {
 /// What [`serve_session`](crate::serve_session) promises holds whatever a watcher answers: it can
 /// turn a client away, and can't let one in.
 pub trait Watcher<V: NetworkView + Drop, N, I: Read> {
-    // It may turn away a client that claims this.
+    // It has turned away a client that claims this.
     ghost turns_away: { Self → ClaimParts → Type 0 };
+
+    // The number of the session that its client got last, if any.
+    ghost session: { Self → Option ℕ };
 
     /// The login is complete; whether the password is right isn't known yet. If the answer is
     /// `false`, the client is not served and gets no answer.
     fn logged_in(&mut self, claim: &Claim) -> bool
-        ensures { result ≡ false → turns_away self.new (parts_of claim.now) };
+        ensures turned { result ≡ false → turns_away self.new (parts_of claim.now) }
+        ensures kept { session self.new ≡ session self.old };
 
     /// The client may attach to this network. Lends the network for the session, or tells why there
     /// is none now; the client is then told so. From here on the reader reads for a session; it must
@@ -50,28 +54,45 @@ pub trait Watcher<V: NetworkView + Drop, N, I: Read> {
         claim: &Claim,
         network: &N,
     ) -> Result<Arc<Network<V>>, AttachError>
-        ensures { I.remaining reader.new ≡ I.remaining reader.old };
+        ensures unread { I.remaining reader.new ≡ I.remaining reader.old }
+        ensures kept { session self.new ≡ session self.old };
 
     /// The client gets no session. It is told why after this call returns, unless its login failed
     /// or was closed, or no thread could be started for its session.
-    fn refused(&mut self, refusal: Refusal);
+    fn refused(&mut self, refusal: Refusal)
+        ensures kept { session self.new ≡ session self.old };
 
     /// The client has a session with this number.
-    fn attached(&mut self, id: SessionId);
+    fn attached(&mut self, id: SessionId)
+        ensures { session self.new ≡ Some id };
 
     /// The client holds these capabilities now, and held others before.
-    fn caps_changed(&mut self, caps: Caps);
+    fn caps_changed(&mut self, caps: Caps)
+        ensures kept { session self.new ≡ session self.old };
 
     /// The session ended, for this reason. Its writer may still write.
-    fn ended(&mut self, why: Leave);
+    fn ended(&mut self, why: Leave)
+        ensures kept { session self.new ≡ session self.old };
 }
 
-/// A watcher that does nothing. A network that is served is one that threads share.
+/// A watcher that turns nobody away, and knows of its client only the number of its session. A
+/// network that is served is one that threads share.
 #[derive(Clone, Copy)]
-pub struct Unwatched;
+pub struct Unwatched {
+    session: Option<SessionId>,
+}
+
+impl Unwatched {
+    /// A watcher of a client that has no session yet.
+    pub fn new() -> Unwatched {
+        Unwatched { session: None }
+    }
+}
 
 impl<V: NetworkView + Drop, I: Read> Watcher<V, Arc<Network<V>>, I> for Unwatched {
     ghost turns_away = { λ _ _. ⊥ };
+
+    ghost session = { λ w. w.session };
 
     fn logged_in(&mut self, _claim: &Claim) -> bool {
         true
@@ -91,7 +112,9 @@ impl<V: NetworkView + Drop, I: Read> Watcher<V, Arc<Network<V>>, I> for Unwatche
 
     fn refused(&mut self, _refusal: Refusal) {}
 
-    fn attached(&mut self, _id: SessionId) {}
+    fn attached(&mut self, id: SessionId) {
+        self.session = Some(id);
+    }
 
     fn caps_changed(&mut self, _caps: Caps) {}
 

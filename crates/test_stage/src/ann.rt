@@ -80,7 +80,14 @@ pub fn serves_over<W: Write + Send + Drop + 'static, R: Threads + Wait + Send + 
         gate: &FreeGate,
         clock: &Still,
     };
-    Ok(serve_session(&worker, &mut said, out, &config, &networks, &mut Unwatched)?)
+    Ok(serve_session(
+        &worker,
+        &mut said,
+        out,
+        &config,
+        &networks,
+        &mut Unwatched::new(),
+    )?)
 }
 
 /// Serves a client that says this over this writer. Whether its session was cut.

@@ -76,7 +76,7 @@ fn serve<R: Threads + Wait + Clock + Send + Copy + 'static>(
         gate: &FreeGate,
         clock: &clock,
     };
-    let served = serve_session(&worker, input, out, config, networks, &mut Unwatched)?;
+    let served = serve_session(&worker, input, out, config, networks, &mut Unwatched::new())?;
     match served {
         Served::Ended(ended) if ended.token && ended.written == Ok(BURST.len() as u64) => Ok(()),
         _ => Err("the session has not ended with all written".into()),

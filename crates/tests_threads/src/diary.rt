@@ -26,6 +26,7 @@ pub(crate) struct Diary {
     pub(crate) text: Vec<u8>,
     // whether there was memory for each note
     pub(crate) is_whole: bool,
+    session: Option<SessionId>,
 }
 
 /// A word, and what is claimed.
@@ -51,17 +52,22 @@ impl Diary {
             answers,
             text: Vec::new(alloc),
             is_whole: true,
+            session: None,
         }
     }
 
     /// Remembers whether there was memory for a note.
-    fn note(&mut self, is_noted: bool) {
+    fn note(&mut self, is_noted: bool)
+        ensures { self.new.session ≡ self.old.session }
+    {
         self.is_whole = self.is_whole && is_noted;
     }
 }
 
 impl<V: NetworkView + Drop, I: Read> Watcher<V, Arc<Network<V>>, I> for Diary {
     ghost turns_away = { λ _ _. Unit {0} };
+
+    ghost session = { λ w. w.session };
 
     fn logged_in(&mut self, claim: &Claim) -> bool {
         let noted = push_claimed(&mut self.text, b"logged in ", claim);
@@ -92,6 +98,7 @@ impl<V: NetworkView + Drop, I: Read> Watcher<V, Arc<Network<V>>, I> for Diary {
     }
 
     fn attached(&mut self, id: SessionId) {
+        self.session = Some(id);
         let noted = writeln!(self.text, "attached: {id}");
         self.note(noted.is_ok());
     }

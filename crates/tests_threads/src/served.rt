@@ -46,7 +46,14 @@ fn served_text<R: Threads + Wait + Send + Copy + 'static>(
         gate: &FreeGate,
         clock: &Still,
     };
-    let served = serve_session(&worker, &mut said, writer, config, networks, &mut Unwatched)?;
+    let served = serve_session(
+        &worker,
+        &mut said,
+        writer,
+        config,
+        networks,
+        &mut Unwatched::new(),
+    )?;
     let mut out = outcome_text(alloc, &served)?;
     push_sent(sent, &mut out)?;
     Ok(out)

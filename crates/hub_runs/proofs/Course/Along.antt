@@ -72,15 +72,15 @@ module _ (b : Before) (start : WorldState) (all : List Event) (answers : List Re
     pub gone : sents w.gone ≡ gones (limits_from b start.hub) ds
     pub numbers : Numbers (limits_from b start.hub) ds (numbers_given replies)
     pub rest : w.rest ≡ rest_after [] events
-    pub seen : reverse (heard_back ds) ≡ arrivals (transcript_of events)
+    pub seen : reverse (came_back ds) ≡ transcript_of events
     pub came : AllCame ds
 
   module _ (events later : List Event) (replies after : List Reply) (ds : List Deed)
       (w : WorldState) (s : Standing events replies ds w) where
-    came_event : (e : Event) (r : Reply) (w' : WorldState) → all ≡ events ++ e ∷ later
+    came_by : (e : Event) (r : Reply) (w' : WorldState) → all ≡ events ++ e ∷ later
         → answers ≡ replies ++ r ∷ after → Happens e r w w'
         → AllCame (with_event ds w.rest e (answer_of r))
-    came_event (on.Attach caps name size) (reply.Attach (Ok id)) w' are told h =
+    came_by (on.Attach caps name size) (reply.Attach (Ok id)) w' are told h =
         let heard = heard_then s.followed in
         let burst = burst_is s.followed caps (name_of name) size id in
         let long = length-map (transcript_of events) (λ (x : Came). x.0) in
@@ -100,14 +100,14 @@ module _ (b : Before) (start : WorldState) (all : List Event) (answers : List Re
             so_far = s.so_far;
           };
           more = [];
-          burst = grind (arith, burst, heard, s.seen);
-          within = grind (arith, s.seen, length-reverse (heard_back ds), long);
+          burst = grind (arith, burst, heard, s.seen, came_heard ds);
+          within = grind (arith, s.seen, came_heard ds, length-reverse (heard_back ds), long);
         } in
         (came, s.came)
-    came_event (on.Attach caps name size) (reply.Attach (Err e)) w' are told h = s.came
-    came_event (on.Attach caps name size) _ w' are told h = absurd h
-    came_event (on.Detach id) r w' are told h = grind (arith, s.came)
-    came_event e r w' are told h =
+    came_by (on.Attach caps name size) (reply.Attach (Err e)) w' are told h = s.came
+    came_by (on.Attach caps name size) _ w' are told h = absurd h
+    came_by (on.Detach id) r w' are told h = grind (arith, s.came)
+    came_by e r w' are told h =
         by_event AllCame came_plain ds w.rest e (answer_of r) tt s.came
 
   -- after the others too
@@ -134,8 +134,8 @@ module _ (b : Before) (start : WorldState) (all : List Event) (answers : List Re
             (one.numbers (numbers_given replies) s.numbers);
         rest = rw (one.rest, s.rest) (sym (rest_more [] events e));
         seen = let took = transcript_on [] events e in
-            grind (arith, heard_event ds w.rest e (answer_of r), s.seen, map-append, took, s.rest);
-        came = came_event events es replies rs ds w s e r h.0 are told h.1;
+            grind (arith, came_event ds w.rest e (answer_of r), s.seen, took, s.rest);
+        came = came_by events es replies rs ds w s e r h.0 are told h.1;
       } in
       let are' = are ∙ sym (append_snoc events e es) in
       let told' = told ∙ sym (append_snoc replies r rs) in

@@ -59,7 +59,14 @@ fn serves<R: Threads + Wait + Send + Copy + Drop + 'static>(
         gate: &FreeGate,
         clock: &Still,
     };
-    Ok(serve_session(&worker, &mut said, out, config, networks, &mut Unwatched))
+    Ok(serve_session(
+        &worker,
+        &mut said,
+        out,
+        config,
+        networks,
+        &mut Unwatched::new(),
+    ))
 }
 
 /// Fails if a client for which memory was refused was sent anything else than a beginning of what

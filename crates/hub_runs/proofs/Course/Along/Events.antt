@@ -12,12 +12,12 @@ abbrev pub sents : List OutletState → List (List (List Parts))
 sents os = map (λ (o : OutletState). o.sent) os
 
 -- items that were taken
-pub heard_items : (ds : List Deed) (xs : List Came)
-    → reverse (heard_back (with_items ds xs)) ≡ reverse (heard_back ds) ++ arrivals xs
-heard_items ds [] = sym (append-nil (reverse (heard_back ds)))
-heard_items ds (x ∷ xs) =
-    let turned = reverse-append (x.0 ∷ []) (heard_back ds) in
-    grind (arith, turned, append_assoc, heard_items (Took x ∷ ds) xs)
+pub came_items : (ds : List Deed) (xs : List Came)
+    → reverse (came_back (with_items ds xs)) ≡ reverse (came_back ds) ++ xs
+came_items ds [] = sym (append-nil (reverse (came_back ds)))
+came_items ds (x ∷ xs) =
+    let turned = reverse-append (x ∷ []) (came_back ds) in
+    grind (arith, turned, append_assoc, came_items (Took x ∷ ds) xs)
 
 -- no session comes or goes
 abbrev pub Plain : Deed → Type 0
@@ -45,12 +45,11 @@ module _ (P : List Deed → Type 0) (step : (d : Deed) (ds : List Deed) → Plai
     by_event ds rest (on.Detach id) a plain p = absurd plain
     by_event ds rest e a plain p = grind (arith, step)
 
-pub heard_event : (ds : List Deed) (rest : List ℕ) (e : Event) (a : Answer)
-    → reverse (heard_back (with_event ds rest e a))
-    ≡ reverse (heard_back ds) ++ arrivals (items_of e rest)
-heard_event ds rest (on.Up bytes moment) a = heard_items ds _
-heard_event ds rest (on.Lost moment) a = reverse-append (Lost ∷ []) (heard_back ds)
-heard_event ds rest e a = grind (arith, append-nil)
+pub came_event : (ds : List Deed) (rest : List ℕ) (e : Event) (a : Answer)
+    → reverse (came_back (with_event ds rest e a)) ≡ reverse (came_back ds) ++ items_of e rest
+came_event ds rest (on.Up bytes moment) a = came_items ds _
+came_event ds rest (on.Lost moment) a = reverse-append ((Lost, moment.0) ∷ []) (came_back ds)
+came_event ds rest e a = grind (arith, append-nil)
 
 range_more : (a n : ℕ) → range_with_len a (n + 1) ≡ range_with_len a n ++ (a + n) ∷ []
 range_more a zero = grind arith

@@ -8,23 +8,23 @@ pub returns-clause-cut : goal.returns-clause-cut
 returns-clause-cut c = λ batches n all are.
     if_ok c.recall_frames.result _ _ (λ r k.
     cut_recalled (nothing c.args.capacity c.args.first) (kept_parts r.kept) c.args.bytes.now r.batches r.damage batches n all are k)
-    c.recall_frames.ensures
+    c.recall_frames.ensures.recalls
 
 pub returns-clause-whole : goal.returns-clause-whole
 returns-clause-whole c = λ batches torn kept all none are done.
     if_ok c.recall_frames.result _ _ (λ r k.
     whole_recalled (nothing c.args.capacity c.args.first) (kept_parts r.kept) kept c.args.bytes.now torn r.batches r.damage batches all none are done k)
-    c.recall_frames.ensures
+    c.recall_frames.ensures.recalls
 
 pub returns-clause-damaged : goal.returns-clause-damaged
 returns-clause-damaged c = λ batches bad more kept why all fits are done fails.
     if_ok c.recall_frames.result _ _ (λ r k.
     damaged_recalled (nothing c.args.capacity c.args.first) (kept_parts r.kept) kept c.args.bytes.now bad more r.batches r.damage batches why all fits are done fails k)
-    c.recall_frames.ensures
+    c.recall_frames.ensures.recalls
 
 pub returns-clause-begins : goal.returns-clause-begins
 returns-clause-begins c =
     if_ok c.recall_frames.result _ _ (λ r k.
     begins c.args.capacity c.args.first c.args.bytes.now r.batches r.damage
     (nothing c.args.capacity c.args.first) (kept_parts r.kept) refl k)
-    c.recall_frames.ensures
+    c.recall_frames.ensures.recalls

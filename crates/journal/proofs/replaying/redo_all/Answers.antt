@@ -25,8 +25,8 @@ loop-payload-preserved c =
           (stops_later p ps old new n d c.in-Ok.ensures.took s)));
     }
 
-pub returns-in-Damaged : goal.returns-in-Damaged
-returns-in-Damaged c =
+pub returns-in-Damaged-clause-redone : goal.returns-in-Damaged-clause-redone
+returns-in-Damaged-clause-redone c =
     let start = nothing c.args.capacity c.args.first in
     let all = map (λ (p : Bor (List ℕ)). p.now) c.args.payloads.items in
     let old = kept_parts c.loop-payload.kept in

@@ -15,9 +15,10 @@ returns-in-Ok-serve g c = record {
         c.in-Some.ensures.some;
   };
   why = c.in-Ok-serve.field-0-0;
-  heard = rw c.let_in-2.ensures at c.in-Ok-serve.ensures.heard;
-  id = c.in-Ok-serve.ensures.ended.0;
-  ended = c.in-Ok-serve.ensures.ended.1;
+  heard = rw c.let_in-2.ensures.unread at c.in-Ok-serve.ensures.heard;
+  id = c.in-Ok-serve.field-0-2;
+  given = c.in-Ok-serve.ensures.session;
+  ended = c.in-Ok-serve.ensures.ended;
 }
 
 pub returns-in-Err-let_in : goal.returns-in-Err-let_in

@@ -2,7 +2,7 @@ use Rattle.hub_core.proofs.hub.Hub.attach.Goals as goal
 use Rattle.hub_core.proofs.hub.Hub.attach.Given
 use Rattle.{history.specs.Marks.mark_of, hub_core.proofs.FoundRoom.found_took}
 use Rattle.hub_core.proofs.{Running.{attached_fits, is_ready, runs_with}, Words.{◌++◌, ◌∙◌, ◌∷◌}}
-use Rattle.hub_core.proofs.Words.{◌≡◌, EachFits, HubState, None, Option, Session, SessionState}
+use Rattle.hub_core.proofs.Words.{◌≡◌, EachFits, HubState, None, Option, Session, SessionState, heard}
 use Rattle.hub_core.proofs.Words.{Some, Text, Took, [], hub_of, map, map-append, option_and_then}
 use Rattle.hub_core.{proofs.Words.{option_map, refl, state_of, view_now}, specs.Attaching.Attaches}
 use Rattle.{hub_core.specs.Attaching.{missed, refusal_of}, welcome.specs.Playback.burst_of}
@@ -61,8 +61,7 @@ module _ (g : Given.Over) (c : goal.After-push_reserved g) where
   }
 
   -- the burst is read as the view
-  fit : EachFits (g.V.NetworkView.view c.self.inside.view)
-      (map state c.push_reserved.new.self.items)
+  fit : EachFits (heard old) (map state c.push_reserved.new.self.items)
   fit =
       rw now (attached_fits g.O.Outlet.alone old _ c.self.inside.online c.args.caps name
       (option_and_then (λ n. mark_of n c.self.inside.marks) name) c.in-Ok.parts.0

@@ -33,7 +33,7 @@ module _ (g : Given.Over) (c : goal.Joined-gone-2 g) where
     number = around.number;
     sent = c.close.ensures.sent;
     closed = c.close.ensures.first (each_at (Fits _) around.front around.here around.back
-        (rw around.was at c.self.invariant.0.fit)).1;
+        (rw around.was at c.self.invariant.0.fit)).opened;
     capacity = c.close.ensures.capacity;
     full = c.close.ensures.full;
     told_so = c.close.ensures.told;

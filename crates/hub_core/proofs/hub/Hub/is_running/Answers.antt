@@ -1,7 +1,11 @@
 use Rattle.hub_core.proofs.hub.Hub.is_running.Goals as goal
+use Rattle.hub_core.proofs.Running.{each_agrees}
 
 -- the running fact says itself of which view it is, whether online, and what was lost
-pub returns : goal.returns
-returns g c =
+pub returns-clause-running : goal.returns-clause-running
+returns-clause-running g c =
     let run = c.self.invariant.0 in
     rw (← c.self.view_is, ← run.view_is, ← run.online_is, ← run.lost_is) run
+
+pub returns-clause-agree : goal.returns-clause-agree
+returns-clause-agree g c = rw (← c.self.view_is) (each_agrees _ _ c.self.invariant.0.fit)

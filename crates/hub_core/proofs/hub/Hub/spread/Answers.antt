@@ -73,7 +73,7 @@ invariant_of-self-2 g c = (
       (own g c) c.requires.message (sourced g c))
       (λ some. rw (← c.self.view_is) at c.requires.number) (entry_is_message x)
       (rw (made g c) at c.in_ok-entry.ensures.written)
-      (each_fits_unread g.O.Outlet.alone (view g c)
+      (each_fits_unread g.O.Outlet.alone (heard (old g c))
       (given_but (Some c.args.id) (packet_for (view g c) x)) (old g c).sessions _
       (given_unread (Some c.args.id) (packet_for (view g c) x)
       (λ caps. said_unread (view g c) (own g c) c.args.moment.0 caps c.requires.message))

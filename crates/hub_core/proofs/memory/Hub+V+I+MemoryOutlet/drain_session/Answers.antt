@@ -2,8 +2,8 @@ use Rattle.hub_core.proofs.memory.Hub+V+I+MemoryOutlet.drain_session.Goals as go
 use Rattle.hub_core.proofs.memory.Hub+V+I+MemoryOutlet.drain_session.Given
 use Rattle.hub_core.proofs.{Each.{each_at, each_with}, FoundRoom.drained, Running.fits_same}
 use Rattle.hub_core.proofs.{Running.runs_with, Splits.{around_of, lacks, set_states, within}}
-use Rattle.hub_core.proofs.Words.{Around, EachFits, Fits, HubState, Inside, Session, SessionState}
-use Rattle.hub_core.proofs.Words.{Some, View, ap, get_or, hub_of, inl, inr, map, position, refl}
+use Rattle.hub_core.proofs.Words.{Around, Arrival, EachFits, Fits, HubState, List, Inside, Session, SessionState}
+use Rattle.hub_core.proofs.Words.{Some, ap, get_or, hub_of, inl, inr, map, position, refl}
 use Rattle.hub_core.proofs.Words.{set, state_of, sym, with_outlet, with_sessions, ℕ, ◌++◌, ◌==◌}
 use Rattle.{hub_core.proofs.Words.{◌∙◌, ◌∷◌, ◌≡◌}, hub_ends.specs.Memory.state_of as memory_state}
 use Rattle.hub_ends.specs.declared.memory_outlet.MemoryOutlet.{MemoryOutlet}
@@ -27,14 +27,14 @@ module _ (g : Given.Over)
         ≡ around.front ++ with_outlet around.here (memory_state o) ∷ around.back
     now = set_states state i.sessions.items place _ (within state id i.sessions.items place found)
 
-    fits : (v : View) → (memory_state o).sent ≡ (memory_state s.outlet).sent
-        → o.closed ≡ s.outlet.closed → EachFits v old.sessions
-        → EachFits v (map state (set i.sessions.items place record s { outlet = o }))
-    fits v sent closed fit =
+    fits : (items : List Arrival) → (memory_state o).sent ≡ (memory_state s.outlet).sent
+        → o.closed ≡ s.outlet.closed → EachFits items old.sessions
+        → EachFits items (map state (set i.sessions.items place record s { outlet = o }))
+    fits items sent closed fit =
         let all = rw around.was at fit in
-        let here = each_at (Fits v) around.front around.here around.back all in
-        rw now (each_with (Fits v) around.front around.here _ around.back
-        (fits_same v around.here (memory_state o) sent closed here) all)
+        let here = each_at (Fits items) around.front around.here around.back all in
+        rw now (each_with (Fits items) around.front around.here _ around.back
+        (fits_same items around.here (memory_state o) sent closed here) all)
 
 pub returns-in_default-clause-ok : goal.returns-in_default-clause-ok
 returns-in_default-clause-ok g c =

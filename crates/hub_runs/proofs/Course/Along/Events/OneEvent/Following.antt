@@ -10,12 +10,21 @@ pub use Rattle.hub_core.specs.Saying.{Cuts, Forwards, after_answer, answer_packe
 pub use Rattle.hub_core.specs.{Saying.{sent_up, with_sessions}, States.heard}
 pub use Rattle.hub_core.specs.declared.hub.Pumped.TheVariants.{Nothing, Taken}
 pub use Rattle.{hub_ends.specs.Came.arrivals, hub_runs.specs.Course.{kept_then, mark_then}}
-pub use Rattle.{hub_runs.specs.Course.{message_said, messages, view_then}, std.proofs.Common.inl}
+pub use Rattle.{hub_runs.specs.Course.{came_back, message_said, messages, view_then}, std.proofs.Common.inl}
 pub use Rattle.std.proofs.lemmas.List.{length-reverse, reverse-append, reverse-reverse}
 
 -- what was heard is all that was taken
 pub heard_is : (h : HubState) → h.held ≡ None → heard h ≡ arrivals h.taken
 heard_is h e = grind (arith, less_none)
+
+-- items are what came, without the moments
+pub came_heard : (ds : List Deed) → arrivals (reverse (came_back ds)) ≡ reverse (heard_back ds)
+came_heard [] = refl
+came_heard (Took x ∷ ds) =
+    let came = reverse-append (x ∷ []) (came_back ds) in
+    let heard = reverse-append (x.0 ∷ []) (heard_back ds) in
+    grind (arith, came, heard, map-append, came_heard ds)
+came_heard (d ∷ ds) = came_heard ds
 
 -- the item that comes is the one that was put
 the_one : (h : HubState) (x y : Came) (later : List Came) → h.held ≡ None → h.ahead ≡ []
@@ -23,7 +32,7 @@ the_one : (h : HubState) (x y : Came) (later : List Came) → h.held ≡ None �
 the_one h x y later held ahead comes = grind arith
 
 -- the session that goes
-abbrev pub around_gone : {h : HubState} {id : ℕ} {o : OutletState} {told : Bool} {new : HubState}
+abbrev pub around_gone : {h : HubState} {id : ℕ} {o : OutletState} {told : Option ℕ} {new : HubState}
     → Detaches h id o told new → Around h id
 around_gone d = record {
   front = d.front;
@@ -38,7 +47,7 @@ around_gone d = record {
 pub record Followed (l : Limits) (ds : List Deed) (h : HubState) : Type 0 where
   pub held : h.held ≡ None
   pub ahead : h.ahead ≡ []
-  pub taken : arrivals h.taken ≡ reverse (heard_back ds)
+  pub taken : h.taken ≡ reverse (came_back ds)
   pub seated : Seated l ds h
   pub history : h.history ≡ kept_then l.before ds
   pub messages : AreMessages h.history.kept
@@ -49,7 +58,7 @@ pub record Followed (l : Limits) (ds : List Deed) (h : HubState) : Type 0 where
 
 module _ {l : Limits} {ds : List Deed} {h : HubState} (f : Followed l ds h) where
   pub heard_then : heard h ≡ reverse (heard_back ds)
-  heard_then = grind (arith, heard_is, f.held, f.taken)
+  heard_then = grind (arith, heard_is, f.held, f.taken, came_heard ds)
 
   pub now_seen : view_now h ≡ view_then ds
   unfolding view_of
@@ -57,7 +66,7 @@ module _ {l : Limits} {ds : List Deed} {h : HubState} (f : Followed l ds h) wher
 
   -- one thing more, by which this message came, if any
   followed_by : (d : Deed) (now : HubState) (e : Option _) → now.held ≡ None → now.ahead ≡ []
-      → arrivals now.taken ≡ reverse (heard_back (d ∷ ds)) → Seated l (d ∷ ds) now
+      → now.taken ≡ reverse (came_back (d ∷ ds)) → Seated l (d ∷ ds) now
       → now.history ≡ with_entry h.history e
       → messages (d ∷ ds) ≡ messages ds ++ option_to_list e → (IsSome e → IsSome h.history.next)
       → IfSome e (λ e. IsTrue (is_message_command e.command)) → Ups l.upstream (d ∷ ds) now.upstream
@@ -72,9 +81,9 @@ module _ {l : Limits} {ds : List Deed} {h : HubState} (f : Followed l ds h) wher
   took x (Taken cut) new t =
       let one = the_one h x t.item new.ahead f.held f.ahead t.comes.ahead in
       let turned = reverse-append (x.0 ∷ []) (heard_back ds) in
-      let put = map-append (λ (c : Came). c.0) h.taken (x ∷ []) in
-      let more : arrivals new.taken ≡ reverse (heard_back (Took x ∷ ds)) =
-      rw (t.comes.taken, f.held, one.0) (cc (put, turned, f.taken)) in
+      let put = reverse-append (x ∷ []) (came_back ds) in
+      let more : new.taken ≡ reverse (came_back (Took x ∷ ds)) =
+      rw (t.comes.taken, f.held, one.0) (cc (put, f.taken)) in
       rw t.others (followed_by (Took x) _ (entry_for x) t.held one.1 more
       (seated_on l _ _ _ _ f.seated (refl, (λ known. refl), refl) refl f.seated.known
       (goes_delivered l _ _ (λ s. packet_for (view_now h) t.item s.caps) (λ s k. record {
@@ -107,7 +116,7 @@ module _ {l : Limits} {ds : List Deed} {h : HubState} (f : Followed l ds h) wher
 
   -- it changes sessions, names and the outlet to the network alone
   alone_on : (d : Deed) (ss : List SessionState) (o : OutletState) (marks : NameMarks)
-      → heard_back (d ∷ ds) ≡ heard_back ds → messages (d ∷ ds) ≡ messages ds ++ [] → Stay d ds
+      → came_back (d ∷ ds) ≡ came_back ds → messages (d ∷ ds) ≡ messages ds ++ [] → Stay d ds
       → Goes l (d ∷ ds) h.sessions ss → Ups l.upstream (d ∷ ds) o → AreKnown (names_then l.before.names ds) marks
       → ((n : Text) → mark_of n marks ≡ mark_then l.before n (d ∷ ds))
       → Followed l (d ∷ ds) record h { sessions = ss; upstream = o; marks = marks }
@@ -119,7 +128,7 @@ module _ {l : Limits} {ds : List Deed} {h : HubState} (f : Followed l ds h) wher
 
   -- sessions alone
   sessions_on : (d : Deed) (ss : List SessionState)
-      → heard_back (d ∷ ds) ≡ heard_back ds → messages (d ∷ ds) ≡ messages ds ++ [] → Stay d ds
+      → came_back (d ∷ ds) ≡ came_back ds → messages (d ∷ ds) ≡ messages ds ++ [] → Stay d ds
       → up_by l.upstream (waiting l.upstream ds) d ≡ [] → taken_out d ≡ 0
       → ((n : Text) → mark_then l.before n (d ∷ ds)
       ≡ mark_then l.before n ds) → Goes l (d ∷ ds) h.sessions ss
@@ -164,7 +173,7 @@ module _ {l : Limits} {ds : List Deed} {h : HubState} (f : Followed l ds h) wher
       sessions_on _ _ refl refl (refl, (λ known. refl), refl) refl refl (λ n. refl)
       (all_still l _ _ (λ n. inr e) h.sessions f.seated.sit)
 
-  pub left : (id : ℕ) (o : OutletState) (told : Bool) (new : HubState) → Detaches h id o told new
+  pub left : (id : ℕ) (o : OutletState) (told : Option ℕ) (new : HubState) → Detaches h id o told new
       → Followed l (Left id ∷ ds) new
   left id o told new d =
       let s = d.gone in

@@ -4,7 +4,7 @@ unfoldable pub use HoldingLaw.*
 pub use Rattle.hub_ends.specs.Outlets.{Took as TookPacket}
 pub use Rattle.history.{proofs.LastMessages.one_more, specs.Marks.{NameMarks, bytes_cmp, mark_of}}
 pub use Rattle.{history.specs.Messages.{Messages, history_of}, hub_core.specs.Attaching.{marked, with_name}}
-pub use Rattle.hub_runs.specs.Ran.{KeepsOn, kept_on}
+pub use Rattle.{hub_core.specs.Running.kept_on, hub_runs.specs.Ran.KeepsOn}
 pub use Rattle.hub_core.specs.{InMemory.Drains, Pumping.{Puts, pong_for, with_entry}}
 pub use Rattle.{hub_ends.specs.Outlets.OutletState, hub_runs.specs.Course.{Deed, Drained, Joined}}
 pub use Rattle.hub_runs.specs.Course.{Took, mark_left, session_then, taken_out, up_by, upward}
