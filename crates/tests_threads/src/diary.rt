@@ -1,5 +1,7 @@
 //! `Diary`: a watcher that notes each step of a session.
 
+ghost use Rattle.std.specs.Prelude.{◌≡◌};
+
 use client_caps::Caps;
 use hub_core::AttachError;
 use hub_ends::SessionId;
