@@ -1,6 +1,6 @@
 -- What attach and detach do.
 use Rattle.std.specs.Prelude.{◌≡◌, ◌≢◌, ◌⊎◌, ◌<◌, ◌&&◌, ℕ, List, [], ◌∷◌, ◌++◌, Option, None, Some}
-use Rattle.std.specs.Prelude.{Bool, true, false, not, nat_le, length, if◌then◌else◌}
+use Rattle.std.specs.Prelude.{Bool, false, not, nat_le, length, if◌then◌else◌}
 use Rattle.std.specs.Option.{option_map, option_and_then, option_map_or, is_none}
 use Rattle.std.specs.FinMap as map
 use Rattle.irc_support.specs.Text.{Text}

@@ -12,7 +12,6 @@ use Rattle.client_caps.specs.Caps.{held}
 use Rattle.client_caps.specs.LateAttach.{as_received}
 use Rattle.history.specs.Entry.{EntryParts, is_message, is_message_command}
 use Rattle.history.specs.Messages.{AreKeptBefore, AreWrittenMessages, Messages, numbered}
-use Rattle.hub_ends.specs.Came.{Came}
 use Rattle.irc_support.specs.Text.{Text}
 use Rattle.hub_core.specs.Online.{is_online}
 use Rattle.hub_core.specs.LostChannels.{Joinings, lost_channels}

@@ -1,6 +1,6 @@
 -- What events do to a hub over ends in memory: there each step is told by the state before it.
 use Rattle.std.specs.Prelude.{◌≡◌, ◌⊎◌, ℕ, List, [], ◌∷◌, ◌++◌, Option, None, Some, Bool, true}
-use Rattle.std.specs.Prelude.{false, is_some, map, Ok, Err}
+use Rattle.std.specs.Prelude.{false, map, Ok, Err}
 use Rattle.std.specs.List.{filter_map}
 use Rattle.std.specs.Option.{option_map}
 use Rattle.std.specs.Prelude.{Vec}

@@ -2,7 +2,7 @@
 use Rattle.hub_threads.specs.Queues.{closed_in, closing, ended_by, is_nil, packets_in}
 use Rattle.hub_threads.specs.declared.queued.Queued.{Queued, TheVariants.{Closing, Lines}}
 use Rattle.{irc_line.specs.{Line.Parts, Lines.counted}, std.proofs.Common.{Bool, List, None, Option, Some}}
-use Rattle.std.proofs.Common.{[], append-nil, arith, cond, false, is_some, length, map, refl, true, ℕ}
+use Rattle.std.proofs.Common.{[], append-nil, arith, cond, false, is_some, length, map, refl, ℕ}
 use Rattle.std.proofs.{Common.{◌++◌, ◌<◌, ◌∷◌, ◌≡◌}, lemmas.List.{length-map, map-append}}
 
 pub packets_in_lines : (xs : List Queued) (p : List Parts)

@@ -1,6 +1,6 @@
 -- What the lines of a client's login give (RFC 2812, section 3.1; IRCv3 capability negotiation).
 -- Commands are compared without regard to the case of ASCII letters.
-use Rattle.std.specs.Prelude.{ℕ, Bool, true, false, not, ◌&&◌, List, [], ◌∷◌, codes, map}
+use Rattle.std.specs.Prelude.{Bool, true, false, not, ◌&&◌, List, [], ◌∷◌, codes, map}
 use Rattle.std.specs.Prelude.{slice_get, is_some, unwrap_or, Option, Some, None, if◌then◌else◌}
 use Rattle.std.specs.List.{filter_map, flat_map, list_all}
 use Rattle.irc_line.specs.Line.{Parts, has_command}
