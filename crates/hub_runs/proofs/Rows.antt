@@ -9,11 +9,10 @@ use Rattle.hub_ends.specs.Came.{Came}
 use Rattle.hub_runs.specs.Course.{Asked, Deed, Joined, Took, held_since, session_then}
 use Rattle.hub_runs.specs.Ran.{none_before}
 use Rattle.hub_runs.specs.Replies.{Limits, OfAttach, OfDetach, OfLines, replies_of}
-use Rattle.irc_line.specs.Line.{Parts}
 use Rattle.irc_support.specs.Text.{Text}
 use Rattle.irc_support.specs.{Settings.mapping_of, Tokens.set_tokens}
 use Rattle.net_view.specs.{Arrival.Lost, StateLines.{state_lines, told}}
-use Rattle.std.proofs.Common.{◌∷◌, ◌≡◌, Err, List, None, Ok, Option, Some, [], codes, false, map, refl}
+use Rattle.std.proofs.Common.{◌∷◌, ◌≡◌, Err, List, None, Ok, Option, Some, [], codes, false, refl}
 use Rattle.std.proofs.Common.{true, ℕ}
 use Rattle.std.specs.Prelude.{Vec}
 use Rattle.std.specs.declared.alloc.Global.{Global}

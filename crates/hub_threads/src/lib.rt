@@ -35,7 +35,7 @@ pub use outlet_end::{OutletEnd, Stopper};
 pub use outlet_pair::outlet;
 pub use outlet_ring::RingOutlet;
 pub use patience::Patience;
-pub use pumping::{PumpEnd, REFUSALS, REFUSED_REST, Refusals, pump_loop};
+pub use pumping::{Permission, Permit, PumpEnd, REFUSALS, REFUSED_REST, Refusals, pump_loop};
 pub use queued::{Counted, Queued};
 pub use reading::{ReadEnd, Reading, put_lines, read_in};
 pub use slowness::WRITE_CALL;

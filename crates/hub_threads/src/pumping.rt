@@ -78,40 +78,88 @@ impl Refusals {
     }
 }
 
-/// Pumps this many times. A turn without an item counts, and so does a refusal for memory: it rests
-/// for this many milliseconds then, and tries the item again. The lock is taken anew for each step.
-/// Without an item it sleeps until it is woken: at most 1 ms, unless `turns` are endless.
+/// What a pump may do next.
+#[derive(Clone, Copy, Debug, PartialEq, Eq)]
+pub enum Permission {
+    /// It may take an item.
+    Take,
+    /// It rests, as after a refused allocation, which this counts as.
+    Rest,
+    /// It ends.
+    End,
+}
+
+/// Decides before each turn of a pump whether it may take an item. A number of turns is one:
+/// [`Turns`].
+pub trait Permit {
+    /// What the pump may do in its next turn.
+    fn may_take(&mut self) -> Permission;
+
+    /// Is told what the pump answered, if it might take an item.
+    fn pumped(&mut self, _outcome: Result<Pumped, HubError>) {}
+
+    /// How many turns are left, as far as is known. If they are endless, the pump sleeps until it is
+    /// woken, else at most 1 ms.
+    fn left(&self) -> Turns;
+}
+
+impl Permit for Turns {
+    fn may_take(&mut self) -> Permission {
+        match *self {
+            Turns::Endless => Permission::Take,
+            Turns::AtMost(0) => Permission::End,
+            Turns::AtMost(left) => {
+                *self = Turns::AtMost(left - 1);
+                Permission::Take
+            }
+        }
+    }
+
+    fn left(&self) -> Turns {
+        *self
+    }
+}
+
+/// Pumps as long as it is permitted, for example this many times. A turn without an item counts, and
+/// so does a refused allocation: it rests for this many milliseconds then, and tries the item again.
+/// The lock is taken anew for each step. Without an item it sleeps until it is woken: at most 1 ms,
+/// unless the turns are endless. It ends with `Turns` if it may take no more.
 ///
 /// Before an item, sessions that packets have left nearly full are given time, outside the lock: at
-/// most 50 ms for all, and none for who took nothing when it was given some. Who is full then is cut.
-pub fn pump_loop<V: NetworkView + Drop, G: Gate, C: Clock, R: Wait>(
+/// most 50 ms for all, and none for a session that took nothing the last time. One that is still full
+/// is cut.
+pub fn pump_loop<V: NetworkView + Drop, G: Gate, C: Clock, P: Permit + Drop, R: Wait>(
     rt: &R,
     alloc: Global,
     network: &Network<V>,
     gate: &G,
     clock: &C,
-    turns: Turns,
+    permit: P,
     rest: u64,
 ) -> PumpEnd {
     // nobody rings it, so a rest is not cut short by what comes
     let bed = Parker::new();
     let mut patience = Patience::new(alloc);
     let mut refusals = Refusals::none();
-    let mut made = 0u64;
+    let mut permit = permit;
     for _ in rt.forever() {
-        if turns.are_over(made) {
-            return PumpEnd::Turns;
-        }
-        made = made.saturating_add(1);
-        gate.pass(Point::BeforeStep);
-        patience.give_time(rt, network, network.bell(), clock);
-        let outcome = network.lock(rt).pump();
-        gate.pass(Point::AfterStep);
+        let outcome = match permit.may_take() {
+            Permission::End => return PumpEnd::Turns,
+            Permission::Rest => Err(HubError::OutOfMemory),
+            Permission::Take => {
+                gate.pass(Point::BeforeStep);
+                patience.give_time(rt, network, network.bell(), clock);
+                let outcome = network.lock(rt).pump();
+                gate.pass(Point::AfterStep);
+                permit.pumped(outcome);
+                outcome
+            }
+        };
         if let Some(end) = refusals.note(outcome) {
             return end;
         }
         match outcome {
-            Ok(Pumped::Nothing) => network.bell().wait(rt, turns),
+            Ok(Pumped::Nothing) => network.bell().doze(rt, permit.left()),
             Err(_) => bed.park_timeout(rt, Duration::from_millis(rest)),
             Ok(Pumped::Taken { .. }) => {}
         }

@@ -9,13 +9,14 @@ use crate::slot::Slot;
 use crate::sparing::Sparing;
 use crate::station::Station;
 use hub_core::{HubError, Pumped};
-use hub_threads::{Network, Patience, PumpEnd, REFUSALS, REFUSED_REST, Refusals, Turns};
+use hub_threads::{
+    FreeGate, Network, Permission, Permit, PumpEnd, REFUSALS, REFUSED_REST, Turns, pump_loop,
+};
 use net_view::NetworkView;
 use std::alloc::Global;
 use std::rt::Clock;
 use std::sync::Wait;
 use std::thread;
-use std::thread::Parker;
 use std::time::{Duration, Instant};
 
 /// For how many seconds the log tells nothing more of a network for which there is no memory.
@@ -46,6 +47,41 @@ pub struct Pump<'a, V: NetworkView + Drop> {
     refused: u32,
 }
 
+/// This many turns, until the slot is closed; a network that waits for memory takes nothing.
+#[derive(Drop)]
+struct Sparingly<'a, 'b, V: NetworkView + Drop, R> {
+    rt: &'a R,
+    slot: &'a Slot<V>,
+    sparing: &'a mut Sparing<'b>,
+    turns: Turns,
+}
+
+impl<V: NetworkView + Drop, R: Wait + Clock> Permit for Sparingly<'_, '_, V, R> {
+    fn may_take(&mut self) -> Permission {
+        if self.slot.is_closed() || self.turns.may_take() == Permission::End {
+            return Permission::End;
+        }
+        self.sparing.note_taken(self.slot.taken_beside());
+        if self.sparing.may_take(self.rt) {
+            Permission::Take
+        } else {
+            Permission::Rest
+        }
+    }
+
+    fn pumped(&mut self, outcome: Result<Pumped, HubError>) {
+        match outcome {
+            Ok(Pumped::Taken { .. }) => self.sparing.note_taken(1),
+            Err(HubError::OutOfMemory) => self.sparing.note_refused(self.rt),
+            Ok(Pumped::Nothing) | Err(HubError::Spent) => {}
+        }
+    }
+
+    fn left(&self) -> Turns {
+        self.turns
+    }
+}
+
 impl<'a, V: NetworkView + Drop> Pump<'a, V> {
     /// A pump that makes this many turns at a time, and rests for `rest` milliseconds after a
     /// refusal. When its network takes much, it leaves so many bytes beside the reserve.
@@ -65,23 +101,7 @@ impl<'a, V: NetworkView + Drop> Pump<'a, V> {
         }
     }
 
-    /// Takes an item into the hub, where the network may take one; else it is as if memory were
-    /// refused.
-    fn take<R: Wait + Clock>(&mut self, rt: &R, network: &Network<V>) -> Result<Pumped, HubError> {
-        self.sparing.note_taken(self.slot.taken_beside());
-        if !self.sparing.may_take(rt) {
-            return Err(HubError::OutOfMemory);
-        }
-        let outcome = network.lock(rt).pump();
-        match outcome {
-            Ok(Pumped::Taken { .. }) => self.sparing.note_taken(1),
-            Err(HubError::OutOfMemory) => self.sparing.note_refused(rt),
-            Ok(Pumped::Nothing) | Err(HubError::Spent) => {}
-        }
-        outcome
-    }
-
-    /// Makes this many turns, as `pump_loop` does; but a network that waits for memory takes nothing.
+    /// Pumps this network, this many times or until its slot is closed.
     fn turn<R: Wait + Clock>(
         &mut self,
         rt: &R,
@@ -89,32 +109,14 @@ impl<'a, V: NetworkView + Drop> Pump<'a, V> {
         network: &Network<V>,
         turns: Turns,
     ) -> PumpEnd {
-        let Ok(bell) = network.pump_bell() else {
-            return PumpEnd::Memory;
+        let permit = Sparingly {
+            rt,
+            slot: self.slot,
+            sparing: &mut self.sparing,
+            turns,
         };
-        // nobody rings it, so a rest is not cut short by what comes
-        let bed = Parker::new();
         let clock = SystemClock::of(rt);
-        let mut patience = Patience::new(alloc);
-        let mut refusals = Refusals::none();
-        let mut made = 0u64;
-        for _ in rt.forever() {
-            if turns.are_over(made) || self.slot.is_closed() {
-                return PumpEnd::Turns;
-            }
-            made = made.saturating_add(1);
-            patience.give_time(rt, network, &bell, &clock);
-            let outcome = self.take(rt, network);
-            if let Some(end) = refusals.note(outcome) {
-                return end;
-            }
-            match outcome {
-                Ok(Pumped::Nothing) => bell.doze(rt, turns),
-                Err(_) => bed.park_timeout(rt, Duration::from_millis(self.rest)),
-                Ok(Pumped::Taken { .. }) => {}
-            }
-        }
-        unreachable!()
+        pump_loop(rt, alloc, network, &FreeGate, &clock, permit, self.rest)
     }
 
     /// Pumps for its turns, or until there is no memory or no number. After want of memory only as
