@@ -8,7 +8,7 @@ use Rattle.irc_line.proofs.WrittenStream.{written-lines}
 use Rattle.irc_line.specs.Lines.{lines_of}
 use Rattle.irc_line.specs.Writing.{is_writable}
 use Rattle.journal.specs.Reading.{number_in, number_on, record_of, records_in, records_on}
-use Rattle.journal.specs.Records.{AreSound, IsBatch, IsSound, RecordParts, gone, line_for, mark, message, name, next, on, payload_of}
+use Rattle.journal.specs.Records.{AreSound, IsBatch, IsSound, RecordParts, gone, line_for, mark, message, name, next, on, payload_of, seen}
 
 -- ---- numbers
 
@@ -49,6 +49,7 @@ record_again (next n) s = rw (number_again n s.right) refl
 record_again (message e) s = grind (arith, s.right.1, s.right.0.time)
 record_again (name x) s = refl
 record_again (mark x n) s = rw (number_again n s.right) refl
+record_again (seen x n) s = rw (number_again n s.right) refl
 record_again (gone x) s = refl
 record_again (on channel None) s = refl
 record_again (on channel (Some key)) s = refl

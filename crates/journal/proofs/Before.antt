@@ -8,8 +8,8 @@ use Rattle.history.proofs.LastMessages.{all_kept}
 use Rattle.history.specs.Entry.{EntryParts, IsWrittenEntry, is_message_command}
 use Rattle.history.specs.Marks.{NameMarks}
 use Rattle.history.specs.Messages.{AreKeptBefore, Messages, no_messages, with_message}
-use Rattle.journal.specs.Kept.{KeptParts, after, after_each, skipped, then_after, with_history, with_marks, with_next}
-use Rattle.journal.specs.Records.{AreSound, IsRight, IsSound, RecordParts, gone, mark, message, name, next, on}
+use Rattle.journal.specs.Kept.{KeptParts, after, after_each, skipped, then_after, with_history, with_names, with_next}
+use Rattle.journal.specs.Records.{AreSound, IsRight, IsSound, RecordParts, gone, mark, message, name, next, on, seen}
 use Rattle.journal.specs.Recalls.{CanBegin, Recalls, Takes, TakesAll}
 use Rattle.journal.specs.declared.damage.Damage.{Damage}
 
@@ -58,17 +58,19 @@ history_on : (k : KeptParts) (r : Result Messages Damage) → IfOk r CanBegin
 history_on k (Ok h) can = can
 history_on k (Err d) can = tt
 
-marks_on : (k : KeptParts) (r : Result NameMarks Damage) → CanBegin k.history
-    → IfOk (with_marks k r) (λ n. CanBegin n.history)
-marks_on k (Ok m) can = can
-marks_on k (Err d) can = tt
+names_on : (k : KeptParts) (r s : Result NameMarks Damage) → CanBegin k.history
+    → IfOk (with_names k r s) (λ n. CanBegin n.history)
+names_on k (Ok m) (Ok n) can = can
+names_on k (Ok m) (Err d) can = tt
+names_on k (Err d) s can = tt
 
 begins_after : (r : RecordParts) (k : KeptParts) → IsSound r → CanBegin k.history
     → IfOk (after r k) (λ n. CanBegin n.history)
 begins_after (next n) k s can = history_on k _ (skip_begins n can.0 k.history can.1)
 begins_after (message e) k s can = history_on k _ (next_begins e can.0 k.history can.1 s.right)
-begins_after (name x) k s can = marks_on k _ can
-begins_after (mark x n) k s can = marks_on k _ can
+begins_after (name x) k s can = names_on k _ _ can
+begins_after (mark x n) k s can = names_on k _ _ can
+begins_after (seen x n) k s can = names_on k _ _ can
 begins_after (gone x) k s can = can
 begins_after (on channel key) k s can = can
 

@@ -6,7 +6,7 @@ use Rattle.std.specs.FinMap as fin
 use Rattle.history.specs.Entry.{EntryParts}
 use Rattle.history.specs.Marks.{NameMarks, admitted, mark_of, with_mark}
 use Rattle.history.specs.Messages.{Messages, no_messages, with_message}
-use Rattle.journal.specs.Records.{RecordParts, gone, mark, message, name, next, on, text_of}
+use Rattle.journal.specs.Records.{RecordParts, gone, mark, message, name, next, on, seen, text_of}
 use Rattle.journal.specs.declared.damage.Damage.{Damage}
 use Rattle.journal.specs.declared.damage.Damage.TheVariants as damage
 use Rattle.journal.specs.declared.damage.RedoError.{RedoError}
@@ -14,11 +14,13 @@ use Rattle.journal.specs.declared.damage.RedoError.TheVariants as fault
 use Rattle.journal.specs.declared.kept.Channel.{Channel}
 use Rattle.journal.specs.declared.kept.Kept.{Kept}
 
--- the messages, the client names with their marks, and the channels that we are on, each with its
--- key if it has one
+-- the messages; the client names, each with the number that counts, which is that of its last mark
+-- or of what its sessions were given; the same names, each with its last mark; and the channels
+-- that we are on, each with its key if it has one
 pub record KeptParts : Type 0 where
   pub history : Messages
   pub marks : NameMarks
+  pub marked : NameMarks
   pub channels : List (List ℕ × Option (List ℕ))
 
 abbrev pub channel_parts : Channel → List ℕ × Option (List ℕ)
@@ -28,13 +30,18 @@ abbrev pub kept_parts : Kept → KeptParts
 kept_parts k = record {
   history = k.history;
   marks = k.marks;
+  marked = k.marked;
   channels = map channel_parts k.channels.items;
 }
 
 -- before any record: the first message has this number
 abbrev pub nothing : ℕ → ℕ → KeptParts
-nothing capacity first =
-    record { history = no_messages capacity first; marks = fin.empty; channels = [] }
+nothing capacity first = record {
+  history = no_messages capacity first;
+  marks = fin.empty;
+  marked = fin.empty;
+  channels = [];
+}
 
 -- ---- one record
 
@@ -56,7 +63,7 @@ named x marks =
     if not (fin.contains_key marks x) && nat_le 64 (fin.len marks) then Err damage.TooManyNames
     else Ok (admitted x marks)
 
--- the name has seen all up to a number, which is none that it had passed
+-- the name has seen all up to a number, which is not below its last mark
 abbrev pub marked_at : List ℕ → ℕ → Option ℕ → NameMarks → Result NameMarks Damage
 marked_at x number None marks = Ok (with_mark x number marks)
 marked_at x number (Some before) marks =
@@ -69,21 +76,34 @@ then_marked x number (Err d) = Err d
 abbrev pub marked : List ℕ → ℕ → NameMarks → Result NameMarks Damage
 marked x number marks = then_marked x number (named x marks)
 
+-- this number counts for a name, whatever counted before
+abbrev pub then_counted : List ℕ → ℕ → Result NameMarks Damage → Result NameMarks Damage
+then_counted x number (Ok marks) = Ok (with_mark x number marks)
+then_counted x number (Err d) = Err d
+
+abbrev pub counted : List ℕ → ℕ → NameMarks → Result NameMarks Damage
+counted x number marks = then_counted x number (named x marks)
+
 -- the same of all that is kept
 abbrev pub with_history : KeptParts → Result Messages Damage → Result KeptParts Damage
 with_history k (Ok h) = Ok (record k { history = h })
 with_history k (Err d) = Err d
 
-abbrev pub with_marks : KeptParts → Result NameMarks Damage → Result KeptParts Damage
-with_marks k (Ok m) = Ok (record k { marks = m })
-with_marks k (Err d) = Err d
+-- the numbers that count, and the last marks
+abbrev pub with_names : KeptParts → Result NameMarks Damage → Result NameMarks Damage
+    → Result KeptParts Damage
+with_names k (Ok marks) (Ok marked) = Ok (record k { marks = marks; marked = marked })
+with_names k (Ok marks) (Err d) = Err d
+with_names k (Err d) _ = Err d
 
 abbrev pub after : RecordParts → KeptParts → Result KeptParts Damage
 after (next number) k = with_history k (skipped number k.history.next k.history)
 after (message e) k = with_history k (with_next e k.history.next k.history)
-after (name x) k = with_marks k (named x k.marks)
-after (mark x number) k = with_marks k (marked x number k.marks)
-after (gone x) k = Ok (record k { marks = fin.remove k.marks x })
+after (name x) k = with_names k (named x k.marks) (named x k.marked)
+after (mark x number) k = with_names k (counted x number k.marks) (marked x number k.marked)
+after (seen x number) k = with_names k (counted x number k.marks) (named x k.marked)
+after (gone x) k =
+    Ok (record k { marks = fin.remove k.marks x; marked = fin.remove k.marked x })
 after (on channel key) k = Ok (record k { channels = k.channels ++ (channel, key) ∷ [] })
 
 -- ---- batches

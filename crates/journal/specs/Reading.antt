@@ -8,7 +8,7 @@ use Rattle.std.specs.Option.{option_and_then, option_map}
 use Rattle.irc_line.specs.Line.{Parts, has_command}
 use Rattle.irc_line.specs.Tags.{is_tag_byte}
 use Rattle.history.specs.Entry.{message_of}
-use Rattle.journal.specs.Records.{RecordParts, gone, mark, message, name, next, on}
+use Rattle.journal.specs.Records.{RecordParts, gone, mark, message, name, next, on, seen}
 
 -- the number that digits are behind those of a number
 abbrev pub number_on : ℕ → List ℕ → Option ℕ
@@ -36,6 +36,7 @@ one_in line x =
 abbrev pub two_in : Parts → List ℕ → List ℕ → Option RecordParts
 two_in line x y =
     if has_command line (codes "MARK") then option_map (mark x) (number_in y) else
+    if has_command line (codes "SEEN") then option_map (seen x) (number_in y) else
     if has_command line (codes "ON") then Some (on x (Some y)) else None
 
 -- by the first two parameters

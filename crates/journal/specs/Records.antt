@@ -12,12 +12,14 @@ use Rattle.journal.specs.declared.record.Record.{Record}
 use Rattle.journal.specs.declared.record.Record.TheVariants as rec
 
 -- The next message has this number. A message was kept. A client name was admitted; it has seen all
--- up to this number; it was forgotten. We are on a channel, with this key if it has one.
+-- up to this number; its sessions were given all up to this number; it was forgotten. We are on a
+-- channel, with this key if it has one.
 pub data RecordParts : Type 0 where
   next : ℕ → RecordParts
   message : EntryParts → RecordParts
   name : List ℕ → RecordParts
   mark : List ℕ → ℕ → RecordParts
+  seen : List ℕ → ℕ → RecordParts
   gone : List ℕ → RecordParts
   on : List ℕ → Option (List ℕ) → RecordParts
 
@@ -30,6 +32,7 @@ record_parts (rec.Next number) = next number
 record_parts (rec.Message entry) = message entry
 record_parts (rec.Name x) = name x.items
 record_parts (rec.Mark x number) = mark x.items number
+record_parts (rec.Seen x number) = seen x.items number
 record_parts (rec.Gone x) = gone x.items
 record_parts (rec.On channel key) = on channel.items (option_map text_of key)
 
@@ -48,6 +51,7 @@ line_for (message e) =
     (e.target ∷ e.text ∷ [])
 line_for (name x) = bare (codes "NAME") (x ∷ [])
 line_for (mark x number) = bare (codes "MARK") (x ∷ decimal number ∷ [])
+line_for (seen x number) = bare (codes "SEEN") (x ∷ decimal number ∷ [])
 line_for (gone x) = bare (codes "GONE") (x ∷ [])
 line_for (on channel None) = bare (codes "ON") (channel ∷ [])
 line_for (on channel (Some key)) = bare (codes "ON") (channel ∷ key ∷ [])
@@ -58,6 +62,7 @@ IsRight (next number) = number < 2 ^ 64
 IsRight (message e) = IsWrittenEntry e × IsTrue (is_message_command e.command)
 IsRight (name x) = Unit {0}
 IsRight (mark x number) = number < 2 ^ 64
+IsRight (seen x number) = number < 2 ^ 64
 IsRight (gone x) = Unit {0}
 IsRight (on channel key) = Unit {0}
 

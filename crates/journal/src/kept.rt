@@ -18,6 +18,8 @@ pub struct Kept {
     pub history: History,
     /// The client names, each with what it has seen.
     pub marks: Marks,
+    /// The same names, each with its last `MARK`, which counts where no `SEEN` came behind it.
+    pub marked: Marks,
     /// The channels that we are on.
     pub channels: Vec<Channel>,
 }

@@ -76,6 +76,11 @@ pub fn line_for(alloc: Global, item: &Record) -> Result<Line, MakeError>
             b"MARK",
             &[name.as_slice(), digits.format(*number).as_bytes()],
         ),
+        Record::Seen(name, number) => bare(
+            alloc,
+            b"SEEN",
+            &[name.as_slice(), digits.format(*number).as_bytes()],
+        ),
         Record::Gone(name) => bare(alloc, b"GONE", &[name.as_slice()]),
         Record::On(channel, None) => bare(alloc, b"ON", &[channel.as_slice()]),
         Record::On(channel, Some(key)) => {
@@ -131,6 +136,12 @@ fn read_two(
     if line.is(b"MARK") {
         return match number_in(other) {
             Some(number) => Ok(Some(Record::Mark(Vec::from_slice(alloc, text)?, number))),
+            None => Ok(None),
+        };
+    }
+    if line.is(b"SEEN") {
+        return match number_in(other) {
+            Some(number) => Ok(Some(Record::Seen(Vec::from_slice(alloc, text)?, number))),
             None => Ok(None),
         };
     }

@@ -13,6 +13,9 @@ pub enum Record {
     Name(Vec<u8>),
     /// A client name has seen all up to this number, as `MARK laptop 1233`.
     Mark(Vec<u8>, u64),
+    /// The last number that every session of a client name was given and its writer had written, as
+    /// `SEEN laptop 1240`. The last `MARK` or `SEEN` of a name counts.
+    Seen(Vec<u8>, u64),
     /// A client name was forgotten, as `GONE laptop`.
     Gone(Vec<u8>),
     /// We are on a channel, with this key if it has one, as `ON #c secret`.

@@ -3,7 +3,7 @@
 ghost use Rattle.std.specs.Prelude.{◌≡◌, ◌++◌, IfErr, IfOk, IfSome, IfNone, OnOk, List, map, option_map};
 ghost use Rattle.history.specs.Marks.{with_mark};
 ghost use Rattle.journal.specs.Records.{parts_of_all, record_parts};
-ghost use Rattle.journal.specs.Kept.{Does, after, after_batch, channel_parts, kept_parts, marked};
+ghost use Rattle.journal.specs.Kept.{Does, after, after_batch, channel_parts, counted, kept_parts, marked};
 ghost use Rattle.journal.specs.Kept.{named, skipped, with_next};
 
 use crate::damage::{Damage, RedoError};
@@ -50,6 +50,15 @@ fn admit(marks: &mut Marks, name: &[u8]) -> Result<(), RedoError>
     }
 }
 
+/// Has this number count for a name.
+fn count(marks: &mut Marks, name: &[u8], latest: u64) -> Result<(), RedoError>
+    ensures { Does result (counted name.now latest marks.old) marks.new }
+{
+    admit(marks, name)?;
+    marks.set_mark(name, latest);
+    Ok(())
+}
+
 /// Sets the mark of a name, which never goes back.
 fn mark(marks: &mut Marks, name: &[u8], number: u64) -> Result<(), RedoError>
     ensures { Does result (marked name.now number marks.old) marks.new }
@@ -72,10 +81,21 @@ fn redo(kept: &mut Kept, item: Record) -> Result<(), RedoError>
     match item {
         Record::Next(number) => skip(&mut kept.history, number),
         Record::Message(entry) => keep(&mut kept.history, entry),
-        Record::Name(name) => admit(&mut kept.marks, &name),
-        Record::Mark(name, number) => mark(&mut kept.marks, &name, number),
+        Record::Name(name) => {
+            admit(&mut kept.marks, &name)?;
+            admit(&mut kept.marked, &name)
+        }
+        Record::Mark(name, number) => {
+            count(&mut kept.marks, &name, number)?;
+            mark(&mut kept.marked, &name, number)
+        }
+        Record::Seen(name, latest) => {
+            count(&mut kept.marks, &name, latest)?;
+            admit(&mut kept.marked, &name)
+        }
         Record::Gone(name) => {
             kept.marks.forget(&name);
+            kept.marked.forget(&name);
             Ok(())
         }
         Record::On(name, key) => {

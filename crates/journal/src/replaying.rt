@@ -82,6 +82,7 @@ pub fn redo_all(
     let mut kept = Kept {
         history: History::new(alloc, capacity, first)?,
         marks: Marks::new(alloc)?,
+        marked: Marks::new(alloc)?,
         channels: Vec::new(alloc),
     };
     let mut done: usize = 0;
