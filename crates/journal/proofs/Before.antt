@@ -1,5 +1,5 @@
 -- A hub can go on from what was kept.
-use Rattle.std.proofs.Common.{◌≡◌, ◌<◌, ◌≤◌, ◌+◌, ◌^◌, ℕ, List, [], ◌∷◌, Option, Some, Result, Ok, Err, refl, sym, subst, arith, true, ltb}
+use Rattle.std.proofs.Common.{◌≡◌, ◌<◌, ◌≤◌, ◌+◌, ◌^◌, ℕ, List, [], ◌∷◌, Option, Some, Result, Ok, Err, refl, sym, ap, subst, arith, inl, inr, true, ltb, ◌∙◌}
 use Rattle.std.specs.Prelude.{IfOk, IsTrue}
 use Rattle.std.specs.List.{AllByRecursion}
 use Rattle.std.proofs.lemmas.Bool.{lt-ltb}
@@ -10,7 +10,7 @@ use Rattle.history.specs.Marks.{NameMarks}
 use Rattle.history.specs.Messages.{AreKeptBefore, Messages, no_messages, with_message}
 use Rattle.journal.specs.Kept.{KeptParts, after, after_each, skipped, then_after, with_history, with_names, with_next}
 use Rattle.journal.specs.Records.{AreSound, IsRight, IsSound, RecordParts, gone, mark, message, name, next, on, seen}
-use Rattle.journal.specs.Recalls.{CanBegin, Recalls, Takes, TakesAll}
+use Rattle.journal.specs.Recalls.{CanBegin, RecallsFile, Takes, TakesAll}
 use Rattle.journal.specs.declared.damage.Damage.{Damage}
 
 lower : (first last : ℕ) → first ≤ last → (ms : List (ℕ × EntryParts))
@@ -100,9 +100,12 @@ begins_all : (ps : List (List ℕ)) (a b : KeptParts) → TakesAll ps a b → Ca
 begins_all [] a b t can = subst (λ (k : KeptParts). CanBegin k.history) (sym t) can
 begins_all (p ∷ ps) a b t can = begins_all ps t.0 b t.2 (begins_takes p a t.0 t.1 can)
 
-pub begins : (capacity first : ℕ) (bytes : List ℕ) (n : ℕ) (d : Option Damage)
+pub begins : (capacity first : ℕ) (bytes : List ℕ) (n used : ℕ) (d : Option Damage)
     (start kept : KeptParts) → start.history ≡ no_messages capacity first
-    → Recalls start bytes n d kept → CanBegin kept.history
-begins capacity first bytes n d start kept is r =
-    begins_all r.recalled.front start kept r.recalled.took
+    → RecallsFile start bytes n used d kept → CanBegin kept.history
+begins capacity first bytes n used d start kept is (inl r) =
+    begins_all r.recalls.recalled.front start kept r.recalls.recalled.took
     (subst CanBegin (sym is) (none_kept capacity first))
+begins capacity first bytes n used d start kept is (inr r) =
+    subst CanBegin (sym (ap (λ (k : KeptParts). k.history) r.start_kept ∙ is))
+    (none_kept capacity first)

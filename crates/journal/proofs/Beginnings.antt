@@ -25,7 +25,7 @@ sound_of : (bs : Batches) → AreBatches bs → AllSound bs
 sound_of [] all = tt
 sound_of (b ∷ bs) all = (all.0.0, sound_of bs all.1)
 
-fit_of : (bs : Batches) → AreBatches bs → ArePayloads (texts bs)
+pub fit_of : (bs : Batches) → AreBatches bs → ArePayloads (texts bs)
 fit_of [] all = tt
 fit_of (b ∷ bs) all = (all.0.1, fit_of bs all.1)
 
@@ -106,10 +106,10 @@ beginning_of bs start kept ps more n d sound e r =
       after = done_of f.ahead start kept all (subst (λ qs. TakesAll qs start kept) f.texts_are r.took);
     }
 
-pub cut_recalled : (start kept : KeptParts) (bytes : List ℕ) (m : ℕ) (d : Option Damage)
-    (bs : Batches) (n : ℕ) → AreBatches bs → bytes ≡ take n (journal_of bs)
-    → Recalls start bytes m d kept → IsAfterBeginning bs start kept
-cut_recalled start kept bytes m d bs n all are r =
+pub cut_recalled : (start kept : KeptParts) (bytes : List ℕ) (m used : ℕ)
+    (d : Option Damage) (bs : Batches) (n : ℕ) → AreBatches bs → bytes ≡ take n (journal_of bs)
+    → Recalls start bytes m used d kept → IsAfterBeginning bs start kept
+cut_recalled start kept bytes m used d bs n all are r =
     let split = subst (λ (b : List ℕ). Splits b r.payloads r.rest) are r.splits in
     let k = cut (texts bs) r.payloads r.rest n (fit_of bs all) split in
     let whole : r.payloads ++ drop k.0 (texts bs) ≡ texts bs =
@@ -145,11 +145,11 @@ all_done ps start kept wanted n d t r = go d r.later r.ends r.are where
         fails = ends;
       }))
 
-pub whole_recalled : (start kept wanted : KeptParts) (bytes torn : List ℕ) (m : ℕ)
+pub whole_recalled : (start kept wanted : KeptParts) (bytes torn : List ℕ) (m used : ℕ)
     (d : Option Damage) (bs : Batches) → AreBatches bs → frame_at torn ≡ None
-    → bytes ≡ journal_of bs ++ torn → after_all bs start ≡ Ok wanted → Recalls start bytes m d kept
+    → bytes ≡ journal_of bs ++ torn → after_all bs start ≡ Ok wanted → Recalls start bytes m used d kept
     → (kept ≡ wanted) × (d ≡ None) × (m ≡ length bs)
-whole_recalled start kept wanted bytes torn m d bs all none are done r =
+whole_recalled start kept wanted bytes torn m used d bs all none are done r =
     let split = subst (λ (b : List ℕ). Splits b r.payloads r.rest) are r.splits in
     let same : r.payloads ≡ texts bs = torn_end (texts bs) r.payloads torn r.rest (fit_of bs all) none split in
     let took = took_of bs start wanted (sound_of bs all) done in
@@ -208,12 +208,12 @@ stopped_at (p ∷ ps) bad more (q ∷ front) later start wanted kept why d t f e
     let s = stopped_at ps bad more front later t.0 wanted kept why d t.2 f rest went ends in
     (s.0, s.1, ap (λ (n : ℕ). suc n) s.2)
 
-pub damaged_recalled : (start kept wanted : KeptParts) (bytes bad more : List ℕ) (m : ℕ)
+pub damaged_recalled : (start kept wanted : KeptParts) (bytes bad more : List ℕ) (m used : ℕ)
     (d : Option Damage) (bs : Batches) (why : Damage) → AreBatches bs → length bad < 2 ^ 32
     → bytes ≡ journal_of bs ++ (frame bad ++ more) → after_all bs start ≡ Ok wanted
-    → Fails bad wanted why → Recalls start bytes m d kept
+    → Fails bad wanted why → Recalls start bytes m used d kept
     → (kept ≡ wanted) × (d ≡ Some why) × (m ≡ length bs)
-damaged_recalled start kept wanted bytes bad more m d bs why all fits are done fails r =
+damaged_recalled start kept wanted bytes bad more m used d bs why all fits are done fails r =
     let split = subst (λ (b : List ℕ). Splits b r.payloads r.rest) are r.splits in
     let front = behind (texts bs) (frame bad ++ more) r.payloads r.rest (fit_of bs all) split in
     let next = front_frame bad more front.0 r.rest fits front.2 in

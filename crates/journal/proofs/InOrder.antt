@@ -3,9 +3,10 @@ use Rattle.std.proofs.Common.{◌≡◌, ◌∙◌, ◌+◌, ◌++◌, arith, �
 use Rattle.journal.proofs.Again.{one_batch}
 use Rattle.journal.specs.Kept.{KeptParts, after_batch}
 use Rattle.journal.specs.Records.{RecordParts}
-use Rattle.std.proofs.Common.{Bor, map, take}
-use Rattle.std.proofs.lemmas.List.{take-map, take_at}
-use Rattle.frames.specs.Frames.{Splits}
+use Rattle.std.proofs.Common.{Bor, None, append-nil, length, map, take}
+use Rattle.std.proofs.lemmas.List.{length-map, take-map, take_at}
+use Rattle.std.specs.List.{flat_map}
+use Rattle.frames.specs.Frames.{Splits, frame}
 use Rattle.journal.specs.Recalls.{Fails, Recalls, StopsAt, Takes, TakesAll}
 use Rattle.journal.specs.declared.damage.Damage.{Damage}
 
@@ -94,11 +95,30 @@ front_is : (ps : List (Bor (List ℕ))) (start : KeptParts) (n : ℕ) (d : Damag
 front_is ps start n d s =
     texts_taken n ps ∙ ap (take n) s.are ∙ take_at s.front (s.next ∷ s.later) n s.count
 
+pub recalled_all : (bytes : List ℕ) (ps : List (Bor (List ℕ))) (rest : List ℕ)
+    (start kept : KeptParts) (n used : ℕ) → Splits bytes (texts ps) rest
+    → TakesAll (texts ps) start kept → n ≡ length ps → used ≡ length (flat_map frame (texts ps))
+    → Recalls start bytes n used None kept
+recalled_all bytes ps rest start kept n used split took count size = record {
+  payloads = texts ps;
+  rest = rest;
+  splits = split;
+  recalled = record {
+    front = texts ps;
+    later = [];
+    are = sym (append-nil (texts ps));
+    count = length-map ps (λ (p : Bor (List ℕ)). p.now) ∙ sym count;
+    took = took;
+    ends = refl;
+  };
+  size = size;
+}
+
 pub recalled_part : (bytes : List ℕ) (ps : List (Bor (List ℕ))) (rest : List ℕ)
-    (start kept : KeptParts) (n : ℕ) (d : Damage) → Splits bytes (texts ps) rest
+    (start kept : KeptParts) (n used : ℕ) (d : Damage) → Splits bytes (texts ps) rest
     → StopsAt (texts ps) start n d → TakesAll (texts (take n ps)) start kept
-    → Recalls start bytes n (Some d) kept
-recalled_part bytes ps rest start kept n d split s took =
+    → used ≡ length (flat_map frame (texts (take n ps))) → Recalls start bytes n used (Some d) kept
+recalled_part bytes ps rest start kept n used d split s took size =
     let front = subst (λ qs. TakesAll qs start kept) (front_is ps start n d s) took in
     let same : s.kept ≡ kept = takes_same s.front start s.kept kept s.took front in
     record {
@@ -113,6 +133,7 @@ recalled_part bytes ps rest start kept n d split s took =
         took = front;
         ends = subst (λ k. Fails s.next k d) same s.fails;
       };
+      size = size ∙ ap (λ (qs : List (List ℕ)). length (flat_map frame qs)) (front_is ps start n d s);
     }
 
 pub no_second : (ps : List (Bor (List ℕ))) (start : KeptParts) (n m : ℕ) (d e : Damage)

@@ -1,3 +1,4 @@
+pub mod Header
 pub mod Kept
 pub mod Reading
 pub mod Recalls

@@ -1,8 +1,10 @@
 -- What is recalled of a journal.
-use Rattle.std.specs.Prelude.{◌≡◌, ◌⊎◌, ◌++◌, ℕ, List, [], ◌∷◌, Option, None, Some, Ok, Err, length}
+use Rattle.std.specs.Prelude.{◌≡◌, ◌⊎◌, ◌+◌, ◌++◌, ℕ, List, [], ◌∷◌, Option, None, Some, Ok, Err, length}
+use Rattle.std.specs.List.{flat_map}
 use Rattle.journal.specs.Kept.{KeptParts, after_all, after_batch, kept_parts}
-use Rattle.frames.specs.Frames.{Splits}
+use Rattle.frames.specs.Frames.{Splits, frame}
 use Rattle.history.specs.Messages.{AreKeptBefore, Messages}
+use Rattle.journal.specs.Header.{IsPart, header}
 use Rattle.journal.specs.Records.{IsBatch, RecordParts}
 use Rattle.journal.specs.declared.damage.Damage.{Damage}
 use Rattle.journal.specs.declared.damage.Damage.TheVariants as damage
@@ -68,13 +70,37 @@ pub record IsRecalled (payloads : List (List ℕ)) (start : KeptParts) (batches 
   pub took : TakesAll front start kept
   pub ends : EndsBy later kept damage
 
--- the same of bytes: of the payloads of their frames
-pub record Recalls (start : KeptParts) (bytes : List ℕ) (batches : ℕ) (damage : Option Damage)
+-- the same of bytes: of the payloads of their frames, of which those that count have so many bytes
+pub record Recalls (start : KeptParts) (bytes : List ℕ) (batches used : ℕ) (damage : Option Damage)
     (kept : KeptParts) : Type 0 where
   pub payloads : List (List ℕ)
   pub rest : List ℕ
   pub splits : Splits bytes payloads rest
   pub recalled : IsRecalled payloads start batches damage kept
+  pub size : used ≡ length (flat_map frame recalled.front)
+
+-- the same of a file: of the bytes behind the header, which counts too
+pub record RecallsBehind (start : KeptParts) (bytes : List ℕ) (batches used : ℕ)
+    (damage : Option Damage) (kept : KeptParts) : Type 0 where
+  pub more : List ℕ
+  pub behind : ℕ
+  pub are : bytes ≡ frame header ++ more
+  pub recalls : Recalls start more batches behind damage kept
+  pub size : used ≡ length (frame header) + behind
+
+-- of a part of the header nothing is recalled
+pub record RecallsNothing (start : KeptParts) (bytes : List ℕ) (batches used : ℕ)
+    (damage : Option Damage) (kept : KeptParts) : Type 0 where
+  pub part : IsPart bytes
+  pub start_kept : kept ≡ start
+  pub no_batches : batches ≡ 0
+  pub none_used : used ≡ 0
+  pub no_damage : damage ≡ None
+
+abbrev pub RecallsFile : KeptParts → List ℕ → ℕ → ℕ → Option Damage → KeptParts → Type 0
+RecallsFile start bytes batches used damage kept =
+    RecallsBehind start bytes batches used damage kept
+    ⊎ RecallsNothing start bytes batches used damage kept
 
 -- this is kept after a beginning of these batches
 pub record IsAfterBeginning (batches : List (List RecordParts)) (start kept : KeptParts) : Type 0

@@ -3,6 +3,7 @@
 #![tactic(auto)]
 
 mod damage;
+mod header;
 mod kept;
 mod lines;
 mod number;
@@ -14,9 +15,9 @@ mod sizes;
 mod texts;
 
 pub use damage::Damage;
+pub use header::push_header;
 pub use kept::{Channel, Kept};
 pub use recalling::{Recalled, recall};
 pub use record::Record;
 pub use replaying::RecallError;
-pub use sizes::used_by;
 pub use texts::{PushError, push_batch};

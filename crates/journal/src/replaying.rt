@@ -19,6 +19,12 @@ pub enum RecallError {
     /// The capacity is 0 or above 10,000 messages.
     #[error("bad capacity")]
     BadCapacity,
+    /// The file does not begin with the first frame of a journal, or with a part of it.
+    #[error("not a journal")]
+    NotAJournal,
+    /// The first frame is that of another version.
+    #[error("a later version")]
+    LaterVersion,
     /// An allocation was refused.
     #[error("out of memory")]
     OutOfMemory,
@@ -68,6 +74,21 @@ fn redo_payload(alloc: Global, kept: &mut Kept, payload: &[u8]) -> Result<(), Re
     }
 }
 
+/// What is kept before any batch.
+pub fn nothing(alloc: Global, capacity: usize, first: u64) -> Result<Kept, RecallError>
+    ensures made { IfOk result (λ kept. kept_parts kept ≡ nothing capacity first) }
+    ensures bad { IsErrOf result RecallError.BadCapacity → is_capacity capacity ≡ false }
+    ensures ours { IsErrOf result RecallError.NotAJournal → ⊥ }
+    ensures known { IsErrOf result RecallError.LaterVersion → ⊥ }
+{
+    Ok(Kept {
+        history: History::new(alloc, capacity, first)?,
+        marks: Marks::new(alloc)?,
+        marked: Marks::new(alloc)?,
+        channels: Vec::new(alloc),
+    })
+}
+
 /// Does the batches of payloads again.
 pub fn redo_all(
     alloc: Global,
@@ -78,13 +99,10 @@ pub fn redo_all(
     ensures redone { IfOk result
         (IsRedone (map (λ p. p.now) payloads.entry.items) (nothing capacity first)) }
     ensures bad { IsErrOf result RecallError.BadCapacity → is_capacity capacity ≡ false }
+    ensures ours { IsErrOf result RecallError.NotAJournal → ⊥ }
+    ensures known { IsErrOf result RecallError.LaterVersion → ⊥ }
 {
-    let mut kept = Kept {
-        history: History::new(alloc, capacity, first)?,
-        marks: Marks::new(alloc)?,
-        marked: Marks::new(alloc)?,
-        channels: Vec::new(alloc),
-    };
+    let mut kept = nothing(alloc, capacity, first)?;
     let mut done: usize = 0;
     for payload in payloads {
         match redo_payload(alloc, &mut kept, payload) {

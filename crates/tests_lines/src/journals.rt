@@ -2,7 +2,7 @@
 
 use frames::push_frame;
 use history::Entry;
-use journal::{Damage, PushError, Recalled, Record, push_batch, recall, used_by};
+use journal::{Damage, PushError, RecallError, Recalled, Record, push_batch, push_header, recall};
 use std::alloc::Global;
 use std::process::Abort;
 use std::test::Fail;
@@ -13,6 +13,7 @@ const EACH_KIND: &str = "NEXT 1234\r\n\
     @time=2020-01-02T03:04:05.678Z :bob!b@h PRIVMSG #c :hi all\r\n\
     NAME laptop\r\n\
     MARK laptop 1233\r\n\
+    SEEN laptop 1240\r\n\
     GONE phone\r\n\
     ON #c\r\n\
     ON #d secret\r\n";
@@ -30,6 +31,7 @@ fn each_kind(alloc: Global) -> Result<Vec<Record>, Fail> {
     records.push(Record::Message(entry.ok_or("a message")?))?;
     records.push(Record::Name(bytes(alloc, "laptop")?))?;
     records.push(Record::Mark(bytes(alloc, "laptop")?, 1233))?;
+    records.push(Record::Seen(bytes(alloc, "laptop")?, 1240))?;
     records.push(Record::Gone(bytes(alloc, "phone")?))?;
     records.push(Record::On(bytes(alloc, "#c")?, None))?;
     records.push(Record::On(bytes(alloc, "#d")?, Some(bytes(alloc, "secret")?)))?;
@@ -40,7 +42,7 @@ fn is_its_text<R: AllocGlobal + Abort>(rt: &R, records: &[Record]) -> Result<(),
     let mut out = Vec::new(rt.alloc());
     push_batch(rt.alloc(), &mut out, records)?;
     assert!(rt; out.len() == 36 + EACH_KIND.len());
-    assert!(rt; out.starts_with(&[0, 0, 0, 135]) && out.ends_with(EACH_KIND.as_bytes()));
+    assert!(rt; out.starts_with(&[0, 0, 0, 153]) && out.ends_with(EACH_KIND.as_bytes()));
     Ok(())
 }
 
@@ -76,9 +78,10 @@ fn push(file: &mut Vec<u8>, text: &[u8]) -> Result<(), Fail> {
     Ok(push_frame(file, text)?)
 }
 
-/// A file with a frame for each text.
+/// A journal with a frame for each text behind its header.
 fn file_of(alloc: Global, texts: &[&str]) -> Result<Vec<u8>, Fail> {
     let mut file = Vec::new(alloc);
+    push_header(&mut file)?;
     for text in texts {
         push(&mut file, text.as_bytes())?;
     }
@@ -119,6 +122,18 @@ const FILES: &[(&[&str], usize, Option<Damage>)] = &[
         Some(Damage::BadNumber),
     ),
     (&["MARK pc 7\r\n", "GONE pc\r\n", "MARK pc 6\r\n"], 3, None),
+    (
+        &["MARK pc 7\r\n", "SEEN pc 9\r\n", "MARK pc 8\r\n"],
+        3,
+        None,
+    ),
+    (&["SEEN pc 9\r\n", "SEEN pc 8\r\nMARK pc 7\r\n"], 2, None),
+    (
+        &["MARK pc 7\r\n", "SEEN pc 5\r\n", "MARK pc 6\r\n"],
+        2,
+        Some(Damage::BadNumber),
+    ),
+    (&["SEEN pc\r\n"], 0, Some(Damage::NoRecord)),
 ];
 
 fn ends_so<R: AllocGlobal + Abort>(
@@ -146,7 +161,8 @@ fn has_each_kind<R: AllocGlobal + Abort>(rt: &R, file: &[u8]) -> Result<(), Fail
     assert!(rt; kept.history.len() == 1 && kept.history.number_of(0) == Some(1234));
     assert!(rt; kept.history.next_number() == Some(1235));
     assert!(rt; kept.marks.count() == 1 && kept.marks.at(1).is_none());
-    assert!(rt; kept.marks.at(0) == Some((b"laptop".as_slice(), Some(1233))));
+    assert!(rt; kept.marks.at(0) == Some((b"laptop".as_slice(), Some(1240))));
+    assert!(rt; kept.marked.at(0) == Some((b"laptop".as_slice(), Some(1233))));
     assert!(rt; kept.channels.len() == 2);
     Ok(())
 }
@@ -161,21 +177,27 @@ fn what_a_batch_says(rt: HostRuntime) -> Result<(), Fail> {
 }
 
 /// A file of two batches that is cut after so many bytes.
-fn is_cut<R: AllocGlobal + Abort>(rt: &R, file: &[u8], front: usize) -> Result<(), Fail> {
+fn is_cut<R: AllocGlobal + Abort>(
+    rt: &R,
+    file: &[u8],
+    header: usize,
+    front: usize,
+) -> Result<(), Fail> {
     let whole = file.len();
     for cut in 0..=whole {
-        let batches = if cut == whole {
-            2
+        let (batches, used) = if cut == whole {
+            (2, whole)
         } else if cut >= front {
-            1
+            (1, front)
+        } else if cut >= header {
+            (0, header)
         } else {
-            0
+            (0, 0)
         };
         let left = file.get(..cut).ok_or("a beginning")?;
         let recalled = recalled(rt.alloc(), left)?;
         assert!(rt; recalled.batches == batches && recalled.damage.is_none());
-        let used = used_by(rt.alloc(), left, batches)?;
-        assert!(rt; used == [0, front, whole][batches]);
+        assert!(rt; recalled.used == used);
     }
     Ok(())
 }
@@ -183,9 +205,62 @@ fn is_cut<R: AllocGlobal + Abort>(rt: &R, file: &[u8], front: usize) -> Result<(
 /// Of a file that was cut anywhere, the whole batches count.
 #[test]
 fn files_that_are_cut(rt: HostRuntime) -> Result<(), Fail> {
+    let header = file_of(rt.alloc(), &[])?;
     let front = file_of(rt.alloc(), &["NEXT 7\r\n"])?;
     let file = file_of(rt.alloc(), &["NEXT 7\r\n", "NAME pc\r\n"])?;
-    is_cut(&rt, &file, front.len())
+    is_cut(&rt, &file, header.len(), front.len())
+}
+
+fn is_a_header<R: AllocGlobal + Abort>(rt: &R, file: &[u8]) -> Result<(), Fail> {
+    assert!(rt; file.len() == 43);
+    assert!(rt; file.starts_with(&[0, 0, 0, 7]) && file.ends_with(b"bnc 1\r\n"));
+    Ok(())
+}
+
+/// A file begins with the format's name and its version.
+#[test]
+fn the_header_of_a_file(rt: HostRuntime) -> Result<(), Fail> {
+    is_a_header(&rt, &file_of(rt.alloc(), &[])?)
+}
+
+/// Texts of a first frame that is not ours, and as what that is refused.
+const OTHER_HEADERS: &[(&str, RecallError)] = &[
+    ("bnc 2\r\n", RecallError::LaterVersion),
+    ("bnc 10\r\n", RecallError::LaterVersion),
+    ("bnc 1\n", RecallError::LaterVersion),
+    ("BNC 1\r\n", RecallError::NotAJournal),
+    ("NEXT 1\r\n", RecallError::NotAJournal),
+    ("", RecallError::NotAJournal),
+];
+
+/// Other files.
+const OTHER_FILES: &[&str] = &["\0\0\0\u{8}", "[network]\nhost = \"irc.example\"\n"];
+
+fn is_refused_as<R: AllocGlobal + Abort>(
+    rt: &R,
+    file: &[u8],
+    error: RecallError,
+) -> Result<(), Fail> {
+    match recall(rt.alloc(), 500, 1, file) {
+        Ok(_) => Err("a refusal".into()),
+        Err(e) => {
+            assert!(rt; e == error);
+            Ok(())
+        }
+    }
+}
+
+#[test]
+fn files_that_begin_otherwise(rt: HostRuntime) -> Result<(), Fail> {
+    for (text, error) in OTHER_HEADERS {
+        let mut file = Vec::new(rt.alloc());
+        push(&mut file, text.as_bytes())?;
+        is_refused_as(&rt, &file, *error)?;
+    }
+    for text in OTHER_FILES {
+        is_refused_as(&rt, text.as_bytes(), RecallError::NotAJournal)?;
+    }
+    Ok(())
 }
 
 /// The text that admits so many names.
@@ -198,7 +273,7 @@ fn names(alloc: Global, count: usize) -> Result<Vec<u8>, Fail> {
 }
 
 fn one_name_too_many<R: AllocGlobal + Abort>(rt: &R) -> Result<(), Fail> {
-    let mut file = Vec::new(rt.alloc());
+    let mut file = file_of(rt.alloc(), &[])?;
     push(&mut file, &names(rt.alloc(), 64)?)?;
     assert!(rt; recalled(rt.alloc(), &file)?.kept.marks.count() == 64);
     push(&mut file, b"NAME other\r\n")?;

@@ -4,6 +4,24 @@ use Rattle.journal.specs.Kept.{kept_parts, nothing}
 use Rattle.journal.specs.Recalls.{FailsBy, StopsAt, TakesAll}
 use Rattle.journal.proofs.replaying.redo_all.Goals as goal
 
+pub loop-payload-init : goal.loop-payload-init
+loop-payload-init c =
+    let start : kept_parts c.in_ok-kept.kept ≡ nothing c.args.capacity c.args.first =
+    c.in_ok-kept.ensures.made in
+    let all = map (λ (p : Bor (List ℕ)). p.now) c.args.payloads.items in
+    let same : map (λ (p : Bor (List ℕ)). p.now) c.into_iter-payload-iterator.result.rest.items ≡ all =
+    search rules in
+    record {
+      count = search rules;
+      took = λ final t.
+          subst (λ k. TakesAll all k final) start
+          (subst (λ qs. TakesAll qs (kept_parts c.in_ok-kept.kept) final) same t);
+      stops = λ n d s.
+          subst (λ m. StopsAt all (nothing c.args.capacity c.args.first) m d) (omega arith)
+          (subst (λ k. StopsAt all k n d) start
+          (subst (λ qs. StopsAt qs (kept_parts c.in_ok-kept.kept) n d) same s));
+    }
+
 pub loop-payload-preserved : goal.loop-payload-preserved
 loop-payload-preserved c =
     let start = nothing c.args.capacity c.args.first in
