@@ -1,6 +1,6 @@
 -- The messages that are kept of each target, and what somebody missed of them.
 use Rattle.std.specs.Prelude.{ℕ, ◌+◌, ◌^◌, Bool, true, ◌&&◌, nat_le, nat_lt, if◌then◌else◌, List}
-use Rattle.std.specs.Prelude.{[], ◌≡◌, ◌<◌, IfSome, IsTrue}
+use Rattle.std.specs.Prelude.{[], ◌≡◌, ◌<◌, ◌≤◌, IfSome, IsTrue}
 use Rattle.std.specs.Prelude.{◌∷◌, ◌++◌, map, filter, length, reverse}
 use Rattle.std.proofs.Common.{Option, Some, None}
 use Rattle.std.specs.List.{AllByRecursion, enumerate_from}
@@ -87,6 +87,25 @@ pub record IsTied (capacity : ℕ) (kept : List (ℕ × EntryParts)) (next : Opt
   pub some : 0 < capacity
   pub same : rings ≡ record { capacity = capacity; rings = rings_of target_key kept }
   pub below : IfSome next (λ number. AllByRecursion (λ m. m.0 < number) kept)
+
+-- numbers rise, and from this one on
+abbrev pub RiseFrom : ℕ → List (ℕ × EntryParts) → Type 0
+RiseFrom n [] = Unit {0}
+RiseFrom n (m ∷ ms) = (n ≤ m.0) × RiseFrom (m.0 + 1) ms
+
+-- if these messages came behind those, each would be kept, and none would go for it
+abbrev pub AllStay : ℕ → List (ℕ × EntryParts) → List (ℕ × EntryParts) → Type 0
+AllStay capacity kept [] = Unit {0}
+AllStay capacity kept (m ∷ ms) =
+    (after_one_more target_key target_limit capacity (kept ++ m ∷ []) ≡ kept ++ m ∷ [])
+    × AllStay capacity (kept ++ m ∷ []) ms
+
+-- The messages of a history could come again: their numbers rise, below the next one, and in a
+-- history of this capacity all would be kept.
+pub record CanComeAgain (h : Messages) : Type 0 where
+  pub rise : RiseFrom 0 h.kept
+  pub below : IfSome h.next (λ number. AllByRecursion (λ m. m.0 < number) h.kept)
+  pub stay : AllStay h.capacity [] h.kept
 
 -- what a hub may begin with: messages that can be written, numbered below the first that it gives
 pub record AreKeptBefore (first : ℕ) (h : Messages) : Type 0 where

@@ -8,7 +8,7 @@ ghost use Rattle.std.specs.NonZero.{non_zero_usize_get};
 ghost use Rattle.std.specs.Option.{option_map_or, unwrap_or};
 ghost use Rattle.circular_buffer.specs.Buffer.{last_item};
 ghost use Rattle.history.specs.Entry.{IsWrittenEntry, entry_parts};
-ghost use Rattle.history.specs.Messages.{AreWrittenMessages, is_capacity, missed_by, no_messages};
+ghost use Rattle.history.specs.Messages.{AreWrittenMessages, CanComeAgain, is_capacity, missed_by, no_messages};
 ghost use Rattle.history.specs.Messages.{number_after, target_key, targets_held, with_message};
 ghost use Rattle.history.specs.Retained.{after_one_more};
 ghost use Rattle.history.specs.Rings.{all_taken, rings_of, taken};
@@ -333,6 +333,27 @@ impl<A: Allocator> History<A> {
             missed.push(entry)?;
         }
         Ok(missed)
+    }
+
+    /// What holds of the messages of each history.
+    fn can_come_again(&self)
+        ensures { CanComeAgain self.now }
+    {
+        let _count = self.targets.count();
+        let _order = self.kept.iter();
+    }
+
+    /// All messages with their numbers, oldest first. One growing allocation.
+    pub fn numbered<B: Allocator>(&self, alloc: B) -> Result<Vec<(u64, &Entry<A>), B>, OutOfMemory>
+        ensures all { IfOk result (λ all. map (λ m. (m.0, m.1.now)) all.items ≡ self.now.kept) }
+        ensures again { CanComeAgain self.now }
+    {
+        self.can_come_again();
+        let mut all = Vec::new(alloc);
+        for item in self.kept.iter() {
+            all.push((*item.0, item.1))?;
+        }
+        Ok(all)
     }
 
     /// The number of the last message; `None` where none was taken yet.

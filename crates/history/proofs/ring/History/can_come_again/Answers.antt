@@ -1,0 +1,8 @@
+use Rattle.history.proofs.ring.History.can_come_again.Goals as goal
+use Rattle.history.proofs.ComingAgain.{can_again}
+
+pub returns : goal.returns
+returns g c =
+    rw (← c.self.view_is) (can_again c.self.inside.capacity c.self.inside.kept.entries
+    c.self.inside.next c.self.inside.targets c.self.invariant c.iter-order.ensures.ordered
+    c.count-count.ensures.few c.count-count.ensures.each)
