@@ -1,0 +1,40 @@
+//! What the outer shell decides: who may log in, which networks are dialled and when, and who is
+//! told what at the end. Plain data and steps; no clock, socket, thread or lock.
+#![tactic(auto)]
+
+mod client;
+mod clients;
+mod dialling;
+mod door;
+mod ending;
+mod entering;
+mod event;
+mod finding;
+mod fleet;
+mod judging;
+mod limits;
+mod network;
+mod networks;
+mod note;
+mod outgrowing;
+mod refusals;
+mod reloading;
+mod running;
+mod search;
+mod step;
+mod steward;
+mod stopping;
+mod telling;
+mod times;
+
+pub use client::{Client, Stage};
+pub use door::{Admitted, Denied, Door, Entry};
+pub use event::{Answer, Event, Verdict, Why};
+pub use fleet::{Ended, Fleet, Turn};
+pub use limits::Limits;
+pub use network::{Network, Phase, Wanted};
+pub use note::{Note, Said};
+pub use refusals::Refusals;
+pub use running::run;
+pub use steward::{Steward, Stop, Terms};
+pub use times::Times;
