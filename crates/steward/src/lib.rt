@@ -1,7 +1,8 @@
 //! What the outer shell decides: who may log in, which networks are dialled and when, and who is
-//! told what at the end. Plain data and steps; no clock, socket, thread or lock.
+//! sent what at a reload and at the end. Plain data and steps, without clock, socket, thread or lock.
 #![tactic(auto)]
 
+mod address;
 mod client;
 mod clients;
 mod dialling;
@@ -13,6 +14,7 @@ mod finding;
 mod fleet;
 mod judging;
 mod limits;
+mod names;
 mod network;
 mod networks;
 mod note;
@@ -27,11 +29,13 @@ mod stopping;
 mod telling;
 mod times;
 
+pub use address::key_of;
 pub use client::{Client, Stage};
 pub use door::{Admitted, Denied, Door, Entry};
 pub use event::{Answer, Event, Verdict, Why};
 pub use fleet::{Ended, Fleet, Turn};
 pub use limits::Limits;
+pub use names::Names;
 pub use network::{Network, Phase, Wanted};
 pub use note::{Note, Said};
 pub use refusals::Refusals;

@@ -1,0 +1,54 @@
+-- What is left to say about a network that is removed or changed.
+use Rattle.std.proofs.Common.{◌≡◌, ◌≤◌, ◌∙◌, ℕ, Bool, true, false, not, nat_eq, cond, ◌&&◌, ◌||◌, List, refl, arith}
+use Rattle.std.proofs.lemmas.List.Sums.{sum_by-le-sum_by}
+use Rattle.steward.specs.declared.network.Network.{Network}
+use Rattle.steward.specs.Networks.{has_let_in, has_number, is_online_as, onlines}
+use Rattle.steward.specs.Partings.{is_left_at, is_outdated_at, lefts, outdated}
+use Rattle.steward.proofs.Counts.{bit}
+
+both_le : (b t : Bool) → bit (b && t) ≤ bit t
+both_le true t = omega arith
+both_le false t = omega arith
+
+outer_le : (a b t : Bool) → bit (a && b && t) ≤ bit t
+outer_le true true t = omega arith
+outer_le true false t = omega arith
+outer_le false b t = omega arith
+
+middle_le : (a b t : Bool) → bit (a && b && t) ≤ bit (a && t)
+middle_le true true t = omega arith
+middle_le true false t = omega arith
+middle_le false b t = omega arith
+
+middle_off : (a b t : Bool) → b ≡ false → bit (a && b && t) ≡ 0
+middle_off true true t e = cc
+middle_off true false t e = refl
+middle_off false b t e = refl
+
+neither : (a b : Bool) → a ≡ false → b ≡ false → (a || b) ≡ false
+neither false false e f = refl
+neither true b e f = cc
+neither false true e f = cc
+
+pub left_numbered : (n : ℕ) (z : Network) → bit (is_left_at n z) ≤ bit (has_number n z)
+left_numbered n z = both_le z.is_left (nat_eq z.number n)
+
+pub outdated_numbered : (n : ℕ) (z : Network) → bit (is_outdated_at n z) ≤ bit (has_number n z)
+outdated_numbered n z = outer_le (has_let_in z.phase) (z.is_left || z.is_changed) (nat_eq z.number n)
+
+-- without a connection that has let us in there is none by settings of before
+pub outdated-le : (n : ℕ) (xs : List Network) → outdated n xs ≤ onlines n xs
+outdated-le n xs =
+    sum_by-le-sum_by (λ z. bit (is_outdated_at n z)) (λ z. bit (is_online_as n z)) xs (λ z. middle_le (has_let_in z.phase) (z.is_left || z.is_changed) (nat_eq z.number n))
+
+pub not_outdated : (n : ℕ) (x : Network) → x.is_left ≡ false → x.is_changed ≡ false →
+    bit (is_outdated_at n x) ≡ 0
+not_outdated n x e f =
+    middle_off (has_let_in x.phase) (x.is_left || x.is_changed) (nat_eq x.number n) (neither x.is_left x.is_changed e f)
+
+pub not_left : (n : ℕ) (x : Network) → x.is_left ≡ false → bit (is_left_at n x) ≡ 0
+not_left n x e = rw e refl
+
+pub unchanged_mark : (b : Bool) → not b ≡ true → b ≡ false
+unchanged_mark true e = cc
+unchanged_mark false e = refl
