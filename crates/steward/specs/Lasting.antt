@@ -1,0 +1,35 @@
+-- What lasts whatever happens, and what begins no more after a stop.
+use Rattle.std.specs.Prelude.{◌≡◌, ◌≤◌, ℕ, is_some, true}
+use Rattle.steward.specs.declared.event.Answer.{Answer}
+use Rattle.steward.specs.declared.event.Answer.TheVariants as answer
+use Rattle.steward.specs.declared.steward.Steward.{Steward}
+
+-- the terms and all limits
+abbrev pub IsBound : Steward → Steward → Type 0
+IsBound old new = (new.terms ≡ old.terms) × (new.door.limits ≡ old.door.limits) ×
+    (new.fleet.times ≡ old.fleet.times)
+
+-- these, the count of settings and the stop
+abbrev pub IsSame : Steward → Steward → Type 0
+IsSame old new = (new.settings ≡ old.settings) × (new.stop ≡ old.stop) × IsBound old new
+
+-- the terms and all limits stay, settings are counted up, and a stop stays as it is
+abbrev pub Lasts : Steward → Steward → Type 0
+Lasts old new = (old.settings ≤ new.settings) × (is_some old.stop ≡ true → new.stop ≡ old.stop) ×
+    IsBound old new
+
+-- whether something begins by an answer, as a login, a session, a connection, a network or other
+-- settings: 1 or 0
+abbrev pub begins : Answer → ℕ
+begins (answer.Serve client) = 1
+begins (answer.ServeInPlaceOf client gone) = 1
+begins (answer.LetIn client network) = 1
+begins (answer.Dial network) = 1
+begins (answer.Welcome network) = 1
+begins (answer.BeginAnew network) = 1
+begins answer.Reloaded = 1
+begins _ = 0
+
+-- after a stop nothing begins
+abbrev pub EndsFirst : Answer → Steward → Type 0
+EndsFirst a old = is_some old.stop ≡ true → begins a ≡ 0
