@@ -1,5 +1,5 @@
 -- What lasts from event to event.
-use Rattle.std.proofs.Common.{◌≡◌, ◌≤◌, ◌∙◌, is_some, true, ap, arith}
+use Rattle.std.proofs.Common.{◌≡◌, ◌∙◌, is_some, true, ap, arith}
 use Rattle.steward.specs.declared.steward.Steward.{Steward}
 use Rattle.steward.specs.Lasting.{Lasts}
 

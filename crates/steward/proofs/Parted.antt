@@ -1,9 +1,9 @@
 -- What is left to say about a network that is removed or changed.
-use Rattle.std.proofs.Common.{◌≡◌, ◌≤◌, ◌∙◌, ℕ, Bool, true, false, not, nat_eq, cond, ◌&&◌, ◌||◌, List, refl, arith}
+use Rattle.std.proofs.Common.{◌≡◌, ◌≤◌, ℕ, Bool, true, false, not, nat_eq, ◌&&◌, ◌||◌, List, refl, arith}
 use Rattle.std.proofs.lemmas.List.Sums.{sum_by-le-sum_by}
 use Rattle.steward.specs.declared.network.Network.{Network}
 use Rattle.steward.specs.Networks.{has_let_in, has_number, is_online_as, onlines}
-use Rattle.steward.specs.Partings.{is_left_at, is_outdated_at, lefts, outdated}
+use Rattle.steward.specs.Partings.{is_left_at, is_outdated_at, outdated}
 use Rattle.steward.proofs.Counts.{bit}
 
 both_le : (b t : Bool) → bit (b && t) ≤ bit t
