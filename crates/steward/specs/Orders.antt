@@ -12,6 +12,7 @@ use Rattle.steward.specs.declared.steward.Steward.{Steward}
 use Rattle.steward.specs.Clients.{opened_in}
 use Rattle.steward.specs.Endings.{IsLost}
 use Rattle.steward.specs.Networks.{has_number, others, served, times_wanted}
+use Rattle.steward.specs.Partings.{IsOpenIn}
 use Rattle.steward.specs.Reloads.{Keeps, gone_by}
 use Rattle.steward.specs.Turns.{IsTurn}
 
@@ -59,7 +60,8 @@ IsBegunAnew (answer.BeginAnew network) number bytes old new = (network ≡ numbe
     (opened_in number new.door.clients.items ≡ 0) ×
     (others number new.fleet.networks.items ≡ others number old.fleet.networks.items)
 IsBegunAnew (answer.Tell client reason) number bytes old new = (reason ≡ why.Anew) ×
-    (old.stop ≡ None) × (old.terms.budget < bytes) × (new.fleet ≡ old.fleet)
+    (old.stop ≡ None) × (old.terms.budget < bytes) × (new.fleet ≡ old.fleet) ×
+    IsOpenIn client number old.door.clients.items
 IsBegunAnew answer.Nothing number bytes old new = (is_some old.stop ≡ true × (new ≡ old)) ⊎
     ((bytes ≤ old.terms.budget) × (new ≡ old)) ⊎
     (count_by (has_number number) old.fleet.networks.items ≡ 0)

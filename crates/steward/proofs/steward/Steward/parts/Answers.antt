@@ -1,10 +1,10 @@
-use Rattle.std.proofs.Common.{◌∙◌, ap, arith, inl}
+use Rattle.std.proofs.Common.{◌∙◌, ap, arith, inl, inr, refl}
 use Rattle.steward.specs.declared.fleet.Fleet.{Fleet}
 use Rattle.steward.specs.Networks.{has_number, onlines}
-use Rattle.steward.specs.Partings.{is_left_at, is_outdated_at, lefts}
+use Rattle.steward.specs.Partings.{is_changed_at, is_left_at, is_outdated_at, lefts}
 use Rattle.steward.proofs.Counts.{count-position_none, searched}
 use Rattle.steward.proofs.Fleets.{none_such, only, stands}
-use Rattle.steward.proofs.Parted.{left_numbered, not_left, not_outdated, outdated-le, outdated_numbered, unchanged_mark}
+use Rattle.steward.proofs.Parted.{changed_numbered, is_changed_one, is_left_one, left_numbered, not_left, not_outdated, outdated-le, outdated_numbered, unchanged_mark}
 use Rattle.steward.proofs.steward.Steward.parts.Goals as goal
 
 pub returns-in_default-clause-parted : goal.returns-in_default-clause-parted
@@ -29,3 +29,13 @@ returns-else-part-clause-parted c =
     let e = outdated-le c.args.network c.part.new.self.networks.items in
     let n = only (is_left_at c.args.network) c.args.network _ _ _ _ (left_numbered c.args.network) s c.args.self.now.fleet.within in
     (omega (arith, o, p, e), inl (l ∙ (n ∙ not_left c.args.network c.index-one.result.now c.if-one.false)))
+
+pub remove-requires : goal.remove-requires
+remove-requires c =
+    let s = stands c.args.network c.args.self.now.fleet.networks.items c.in-Some.place c.index-one.result.now (searched (has_number c.args.network) c.place_of_network.ensures c.deref.ensures.value c.in-Some.is) c.index-one.ensures in
+    record { left = only (is_left_at c.args.network) c.args.network _ _ _ _ (left_numbered c.args.network) s c.args.self.now.fleet.within ∙ is_left_one c.args.network c.index-one.result.now c.if-one.true s.named }
+
+pub returns-then-part-clause-parted : goal.returns-then-part-clause-parted
+returns-then-part-clause-parted c =
+    let s = stands c.args.network c.args.self.now.fleet.networks.items c.in-Some.place c.index-one.result.now (searched (has_number c.args.network) c.place_of_network.ensures c.deref.ensures.value c.in-Some.is) c.index-one.ensures in
+    (refl, inr (only (is_changed_at c.args.network) c.args.network _ _ _ _ (changed_numbered c.args.network) s c.args.self.now.fleet.within ∙ is_changed_one c.args.network c.index-one.result.now c.if-not-one.false s.named))
