@@ -1,4 +1,4 @@
--- Why a login that is right is not let in.
+-- What becomes of logins that were judged, and why.
 use Rattle.std.specs.Prelude.{◌≡◌, ◌≤◌, ◌⊎◌, ℕ, count_by, is_some, true}
 use Rattle.std.specs.List.{Any}
 use Rattle.steward.specs.declared.event.Answer.{Answer}
@@ -8,7 +8,7 @@ use Rattle.steward.specs.declared.event.Verdict.TheVariants as verdict
 use Rattle.steward.specs.declared.event.Why.{Why}
 use Rattle.steward.specs.declared.event.Why.TheVariants as why
 use Rattle.steward.specs.declared.steward.Steward.{Steward}
-use Rattle.steward.specs.Clients.{is_seated_as, open_as, sessions}
+use Rattle.steward.specs.Clients.{is_seated_as, open_as, sessions, waiting}
 use Rattle.steward.specs.Networks.{is_served_as, served}
 
 -- no network is served under the name, or the one that is has as many sessions as it may have
@@ -34,8 +34,18 @@ IsRightFor answer.Nothing number name old = (is_some old.stop ≡ true) ⊎
     (count_by (is_seated_as number) old.door.clients.items ≡ 0)
 IsRightFor _ number name old = ⊥
 
+-- the login of this number, which is wrong, waits for its answer, or is closed without one if as many
+-- wait as may; nothing is done only if its seat is gone
+abbrev pub IsWrongFor : Answer → ℕ → Steward → Type 0
+IsWrongFor (answer.AnswerAt client time) number old = client ≡ number
+IsWrongFor (answer.Drop client) number old = (client ≡ number) ×
+    (old.door.limits.late ≤ waiting old.door.clients.items)
+IsWrongFor answer.Nothing number old =
+    count_by (is_seated_as number) old.door.clients.items ≡ 0
+IsWrongFor _ number old = ⊥
+
 -- the same of a login that was judged by the settings of now
 abbrev pub IsChosen : Verdict → Answer → ℕ → ℕ → Steward → Type 0
 IsChosen (verdict.Right name) a number settings old =
     settings ≡ old.settings → IsRightFor a number name old
-IsChosen verdict.Wrong a number settings old = Unit {0}
+IsChosen verdict.Wrong a number settings old = settings ≡ old.settings → IsWrongFor a number old
