@@ -1,8 +1,10 @@
 -- What lasts whatever happens, and what begins no more after a stop.
-use Rattle.std.specs.Prelude.{◌≡◌, ◌≤◌, ℕ, is_some, true}
+use Rattle.std.specs.Prelude.{◌≡◌, ◌+◌, ◌≤◌, ℕ, is_some, true}
 use Rattle.steward.specs.declared.event.Answer.{Answer}
 use Rattle.steward.specs.declared.event.Answer.TheVariants as answer
 use Rattle.steward.specs.declared.steward.Steward.{Steward}
+use Rattle.steward.specs.Doors.{is_one}
+use Rattle.steward.specs.Networks.{onlines}
 
 -- the terms and all limits
 abbrev pub IsBound : Steward → Steward → Type 0
@@ -33,3 +35,17 @@ begins _ = 0
 -- after a stop nothing begins
 abbrev pub EndsFirst : Answer → Steward → Type 0
 EndsFirst a old = is_some old.stop ≡ true → begins a ≡ 0
+
+-- whether the network of a number is sent QUIT by an answer, and whether it is welcome: 1 or 0
+abbrev pub quits : ℕ → Answer → ℕ
+quits n (answer.Quit network reason) = is_one n network
+quits n _ = 0
+
+abbrev pub welcomed : ℕ → Answer → ℕ
+welcomed n (answer.Welcome network) = is_one n network
+welcomed n _ = 0
+
+-- a network is sent QUIT only if it was welcome and was not sent it since
+abbrev pub IsQuitOnce : Answer → Steward → Steward → Type 0
+IsQuitOnce a old new = (n : ℕ) → quits n a + onlines n new.fleet.networks.items ≤
+    welcomed n a + onlines n old.fleet.networks.items
