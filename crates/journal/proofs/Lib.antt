@@ -5,3 +5,4 @@ pub mod Files
 pub mod FrameSizes
 pub mod Headers
 pub mod InOrder
+pub mod Snapshots

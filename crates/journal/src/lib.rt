@@ -12,6 +12,7 @@ mod record;
 mod redoing;
 mod replaying;
 mod sizes;
+mod snapshotting;
 mod texts;
 
 pub use damage::Damage;
@@ -20,4 +21,5 @@ pub use kept::{Channel, Kept};
 pub use recalling::{Recalled, recall};
 pub use record::Record;
 pub use replaying::RecallError;
+pub use snapshotting::snapshot;
 pub use texts::{PushError, push_batch};
