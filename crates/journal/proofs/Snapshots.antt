@@ -1,6 +1,5 @@
 -- After the records of a snapshot all of it is kept.
 use Rattle.std.proofs.Common.{◌≡◌, ◌∙◌, ◌+◌, ◌-◌, ◌^◌, ◌<◌, ◌≤◌, ◌++◌, arith, ℕ, List, [], ◌∷◌}
-use Rattle.std.proofs.Common.{Bool}
 use Rattle.std.proofs.Common.{Option, Some, None, Result, Ok, Err, T, true, false, refl, sym, ap}
 use Rattle.std.proofs.Common.{subst, inl, inr, append-nil, append_assoc, length, ltb, map}
 use Rattle.std.proofs.Common.{Bor, drop, suc, zero}

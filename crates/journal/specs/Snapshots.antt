@@ -5,7 +5,7 @@ use Rattle.std.specs.FinMap as fin
 use Rattle.history.specs.Entry.{EntryParts}
 use Rattle.history.specs.Marks.{NameMarks}
 use Rattle.history.specs.Messages.{Messages}
-use Rattle.journal.specs.Kept.{KeptParts, after_batch, nothing}
+use Rattle.journal.specs.Kept.{after_batch, nothing}
 use Rattle.journal.specs.Records.{RecordParts, mark, message, name, next, on}
 
 -- the next number, where it is not the one that is expected
