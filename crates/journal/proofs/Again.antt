@@ -1,5 +1,7 @@
 -- What is written is read again.
-use Rattle.std.proofs.Common.{◌≡◌, ◌<◌, ◌≤◌, ◌^◌, ◌+◌, ◌-◌, ◌*◌, ◌/◌, ◌%◌, ◌∙◌, ◌++◌, ℕ, List, [], ◌∷◌, Some, None, refl, sym, ap, arith, append-nil, append_assoc, decimal, map}
+use Rattle.std.proofs.Common.{◌≡◌, ◌<◌, ◌≤◌, ◌^◌, ◌+◌, ◌-◌, ◌*◌, ◌/◌, ◌%◌, ◌∙◌, ◌++◌, ℕ, List, []}
+use Rattle.std.proofs.Common.{◌∷◌, Some, None, refl, sym, ap, arith, append-nil, append_assoc}
+use Rattle.std.proofs.Common.{decimal, map}
 use Rattle.std.specs.Prelude.{IsTrue}
 use Rattle.std.specs.List.{AllByRecursion}
 use Rattle.std.proofs.lemmas.Bool.Decides.{nat_tests}
@@ -8,7 +10,8 @@ use Rattle.irc_line.proofs.WrittenStream.{written-lines}
 use Rattle.irc_line.specs.Lines.{lines_of}
 use Rattle.irc_line.specs.Writing.{is_writable}
 use Rattle.journal.specs.Reading.{number_in, number_on, record_of, records_in, records_on}
-use Rattle.journal.specs.Records.{AreSound, IsBatch, IsSound, RecordParts, gone, line_for, mark, message, name, next, on, payload_of, seen}
+use Rattle.journal.specs.Records.{AreSound, IsBatch, IsSound, RecordParts, gone, line_for, mark}
+use Rattle.journal.specs.Records.{message, name, next, on, payload_of, seen}
 
 -- ---- numbers
 

@@ -1,5 +1,6 @@
 -- A hub can go on from what was kept.
-use Rattle.std.proofs.Common.{◌≡◌, ◌<◌, ◌≤◌, ◌+◌, ◌^◌, ℕ, List, [], ◌∷◌, Option, Some, Result, Ok, Err, refl, sym, ap, subst, arith, inl, inr, true, ltb, ◌∙◌}
+use Rattle.std.proofs.Common.{◌≡◌, ◌<◌, ◌≤◌, ◌+◌, ◌^◌, ℕ, List, [], ◌∷◌, Option, Some, Result, Ok}
+use Rattle.std.proofs.Common.{Err, refl, sym, ap, subst, arith, inl, inr, true, ltb, ◌∙◌}
 use Rattle.std.specs.Prelude.{IfOk, IsTrue}
 use Rattle.std.specs.List.{AllByRecursion}
 use Rattle.std.proofs.lemmas.Bool.{lt-ltb}
@@ -8,8 +9,10 @@ use Rattle.history.proofs.LastMessages.{all_kept}
 use Rattle.history.specs.Entry.{EntryParts, IsWrittenEntry, is_message_command}
 use Rattle.history.specs.Marks.{NameMarks}
 use Rattle.history.specs.Messages.{AreKeptBefore, Messages, no_messages, with_message}
-use Rattle.journal.specs.Kept.{KeptParts, after, after_each, skipped, then_after, with_history, with_names, with_next}
-use Rattle.journal.specs.Records.{AreSound, IsRight, IsSound, RecordParts, gone, mark, message, name, next, on, seen}
+use Rattle.journal.specs.Kept.{KeptParts, after, after_each, skipped, then_after, with_history}
+use Rattle.journal.specs.Kept.{with_names, with_next}
+use Rattle.journal.specs.Records.{AreSound, IsRight, IsSound, RecordParts, gone, mark, message}
+use Rattle.journal.specs.Records.{name, next, on, seen}
 use Rattle.journal.specs.Recalls.{CanBegin, RecallsFile, Takes, TakesAll}
 use Rattle.journal.specs.declared.damage.Damage.{Damage}
 

@@ -1,5 +1,7 @@
 -- What is recalled of a journal that was written: a beginning of its batches.
-use Rattle.std.proofs.Common.{◌≡◌, ◌∙◌, ◌^◌, ◌<◌, ◌++◌, ℕ, List, [], ◌∷◌, Option, Some, None, Result, Ok, Err, refl, sym, ap, subst, suc, inl, inr, append-nil, append_assoc, length, map, take, drop}
+use Rattle.std.proofs.Common.{◌≡◌, ◌∙◌, ◌^◌, ◌<◌, ◌++◌, ℕ, List, [], ◌∷◌, Option, Some, None}
+use Rattle.std.proofs.Common.{Result, Ok, Err, refl, sym, ap, subst, suc, inl, inr, append-nil}
+use Rattle.std.proofs.Common.{append_assoc, length, map, take, drop}
 use Rattle.std.specs.Prelude.{IfOk}
 use Rattle.std.specs.List.{AllByRecursion}
 use Rattle.std.proofs.lemmas.List.{take-append-drop, length-map}
@@ -9,7 +11,8 @@ use Rattle.journal.proofs.Again.{one_batch}
 use Rattle.journal.proofs.InOrder.{no_fault, none_stops, takes_one, takes_same}
 use Rattle.journal.specs.Kept.{KeptParts, after_all, after_batch, then_after}
 use Rattle.journal.specs.Records.{AreBatches, AreSound, RecordParts, journal_of, payload_of}
-use Rattle.journal.specs.Recalls.{EndsBy, Fails, IsAfterBeginning, IsRecalled, Recalls, Takes, TakesAll}
+use Rattle.journal.specs.Recalls.{EndsBy, Fails, IsAfterBeginning, IsRecalled, Recalls, Takes}
+use Rattle.journal.specs.Recalls.{TakesAll}
 use Rattle.journal.specs.declared.damage.Damage.{Damage}
 
 abbrev Batches : Type 0
@@ -147,7 +150,8 @@ all_done ps start kept wanted n d t r = go d r.later r.ends r.are where
 
 pub whole_recalled : (start kept wanted : KeptParts) (bytes torn : List ℕ) (m used : ℕ)
     (d : Option Damage) (bs : Batches) → AreBatches bs → frame_at torn ≡ None
-    → bytes ≡ journal_of bs ++ torn → after_all bs start ≡ Ok wanted → Recalls start bytes m used d kept
+    → bytes ≡ journal_of bs ++ torn → after_all bs start ≡ Ok wanted
+    → Recalls start bytes m used d kept
     → (kept ≡ wanted) × (d ≡ None) × (m ≡ length bs)
 whole_recalled start kept wanted bytes torn m used d bs all none are done r =
     let split = subst (λ (b : List ℕ). Splits b r.payloads r.rest) are r.splits in

@@ -1,5 +1,7 @@
 -- What is recalled of a file that was written.
-use Rattle.std.proofs.Common.{◌≡◌, ◌∙◌, ◌+◌, ◌-◌, ◌^◌, ◌<◌, ◌++◌, arith, ℕ, List, [], Option, Some, None, Ok, refl, sym, ap, subst, inl, inr, append_assoc, length, map, take, drop}
+use Rattle.std.proofs.Common.{◌≡◌, ◌∙◌, ◌+◌, ◌-◌, ◌^◌, ◌<◌, ◌++◌, arith, ℕ, List, [], Option, Some}
+use Rattle.std.proofs.Common.{None, Ok, refl, sym, ap, subst, inl, inr, append_assoc, length, map}
+use Rattle.std.proofs.Common.{take, drop}
 use Rattle.std.proofs.lemmas.Bool.{cases_lt}
 use Rattle.std.proofs.lemmas.List.{drop_at, length-append, length-map, length-take, take_at}
 use Rattle.std.specs.List.{flat_map}
@@ -38,7 +40,8 @@ cut_file start kept bytes m used d bs n all are (inl r) =
           let more : r.more ≡ take (n - length (frame header)) (journal_of bs) =
           rest_same (frame header) r.more (take (n - length (frame header)) (journal_of bs))
           (front ∙ take_past (frame header) (journal_of bs) n le) in
-          cut_recalled start kept r.more m r.behind d bs (n - length (frame header)) all more r.recalls
+          cut_recalled start kept r.more m r.behind d bs (n - length (frame header)) all more
+          r.recalls
     ]
 cut_file start kept bytes m used d bs n all are (inr r) = record {
   front = [];
@@ -76,7 +79,8 @@ used_of start kept bytes more m used d bs all are r is =
 
 used_all : (bs : Batches) (used size : ℕ) → used ≡ length (frame header) + size
     → size ≡ length (journal_of bs) → used ≡ length (file_of bs)
-used_all bs used size is same = omega (arith, is, same, length-append (frame header) (journal_of bs))
+used_all bs used size is same =
+    omega (arith, is, same, length-append (frame header) (journal_of bs))
 
 pub whole_file : (start kept wanted : KeptParts) (bytes torn : List ℕ) (m used : ℕ)
     (d : Option Damage) (bs : Batches) → AreBatches bs → frame_at torn ≡ None
@@ -85,7 +89,8 @@ pub whole_file : (start kept wanted : KeptParts) (bytes torn : List ℕ) (m used
     → (kept ≡ wanted) × (d ≡ None) × (m ≡ length bs) × (used ≡ length (file_of bs))
 whole_file start kept wanted bytes torn m used d bs all none are done (inl r) =
     let more = behind_of bytes torn r.more bs are r.are in
-    let w = whole_recalled start kept wanted r.more torn m r.behind d bs all none more done r.recalls in
+    let w = whole_recalled start kept wanted r.more torn m r.behind d bs all none more done r.recalls
+    in
     let size = used_of start kept r.more torn m r.behind d bs all more r.recalls w.2 in
     (w.0, w.1, w.2, used_all bs used r.behind r.size size)
 whole_file start kept wanted bytes torn m used d bs all none are done (inr r) =
@@ -99,7 +104,8 @@ pub damaged_file : (start kept wanted : KeptParts) (bytes bad more : List ℕ) (
 damaged_file start kept wanted bytes bad more m used d bs why all fits are done fails (inl r) =
     let text = frame bad ++ more in
     let behind = behind_of bytes text r.more bs are r.are in
-    let w = damaged_recalled start kept wanted r.more bad more m r.behind d bs why all fits behind done fails r.recalls in
+    let w = damaged_recalled start kept wanted r.more bad more m r.behind d bs why all fits behind
+    done fails r.recalls in
     let size = used_of start kept r.more text m r.behind d bs all behind r.recalls w.2 in
     (w.0, w.1, w.2, used_all bs used r.behind r.size size)
 damaged_file start kept wanted bytes bad more m used d bs why all fits are done fails (inr r) =

@@ -1,5 +1,6 @@
 -- How many bytes frames have.
-use Rattle.std.proofs.Common.{◌≡◌, ◌∙◌, ◌+◌, ◌^◌, ◌<◌, ◌++◌, arith, ℕ, List, ◌∷◌, Bor, sym, ap, length, map, take, drop}
+use Rattle.std.proofs.Common.{◌≡◌, ◌∙◌, ◌+◌, ◌^◌, ◌<◌, ◌++◌, arith, ℕ, List, ◌∷◌, Bor, sym, ap}
+use Rattle.std.proofs.Common.{length, map, take, drop}
 use Rattle.std.specs.List.{flat_map}
 use Rattle.std.proofs.lemmas.List.{length-append, take-append-drop, take-map}
 use Rattle.std.proofs.lemmas.List.Concat.{flat_map-append}

@@ -1,5 +1,6 @@
 -- What a file begins with tells whether it is a journal.
-use Rattle.std.proofs.Common.{◌≡◌, ◌∙◌, ◌+◌, ◌-◌, ◌^◌, ◌<◌, ◌≤◌, ◌++◌, arith, ℕ, List, [], Option, true, false, Some, None, sym, ap, inl, inr, length, take, append-nil}
+use Rattle.std.proofs.Common.{◌≡◌, ◌∙◌, ◌+◌, ◌-◌, ◌^◌, ◌<◌, ◌≤◌, ◌++◌, arith, ℕ, List, [], Option}
+use Rattle.std.proofs.Common.{true, false, Some, None, sym, ap, inl, inr, length, take, append-nil}
 use Rattle.std.proofs.lemmas.Bool.{cases_lt}
 use Rattle.std.proofs.lemmas.List.{length-append, length-take-le, take-append-le, take_all}
 use Rattle.std.proofs.lemmas.List.Concat.{flat_map-append}
@@ -97,7 +98,8 @@ behind_short start kept bytes more m size d are r =
     ap (flat_map frame) r.recalled.are ∙ flat_map-append frame r.recalled.front r.recalled.later in
     let all : length more ≡ length (flat_map frame r.payloads) + length r.rest =
     ap length r.splits.parts ∙ length-append (flat_map frame r.payloads) r.rest in
-    let both : length (flat_map frame r.payloads) ≡ length front + length (flat_map frame r.recalled.later) =
+    let both : length (flat_map frame r.payloads)
+    ≡ length front + length (flat_map frame r.recalled.later) =
     ap length halves ∙ length-append front (flat_map frame r.recalled.later) in
     let total : length bytes ≡ length (frame header) + length more =
     ap length are ∙ length-append (frame header) more in

@@ -1,5 +1,6 @@
 -- Payloads are done in order, and in one way.
-use Rattle.std.proofs.Common.{◌≡◌, ◌∙◌, ◌+◌, ◌++◌, arith, ℕ, List, [], ◌∷◌, Some, Ok, Err, refl, sym, ap, subst, inl, inr}
+use Rattle.std.proofs.Common.{◌≡◌, ◌∙◌, ◌+◌, ◌++◌, arith, ℕ, List, [], ◌∷◌, Some, Ok, Err, refl}
+use Rattle.std.proofs.Common.{sym, ap, subst, inl, inr}
 use Rattle.journal.proofs.Again.{one_batch}
 use Rattle.journal.specs.Kept.{KeptParts, after_batch}
 use Rattle.journal.specs.Records.{RecordParts}
@@ -133,7 +134,8 @@ recalled_part bytes ps rest start kept n used d split s took size =
         took = front;
         ends = subst (λ k. Fails s.next k d) same s.fails;
       };
-      size = size ∙ ap (λ (qs : List (List ℕ)). length (flat_map frame qs)) (front_is ps start n d s);
+      size = size
+          ∙ ap (λ (qs : List (List ℕ)). length (flat_map frame qs)) (front_is ps start n d s);
     }
 
 pub no_second : (ps : List (Bor (List ℕ))) (start : KeptParts) (n m : ℕ) (d e : Damage)

@@ -1,5 +1,6 @@
 -- What a file begins with.
-use Rattle.std.specs.Prelude.{◌≡◌, ◌<◌, ◌^◌, ◌++◌, ℕ, List, [], ◌∷◌, codes, length, nat_eq, take, true}
+use Rattle.std.specs.Prelude.{◌≡◌, ◌<◌, ◌^◌, ◌++◌, ℕ, List, [], ◌∷◌, codes, length, nat_eq, take}
+use Rattle.std.specs.Prelude.{true}
 use Rattle.std.specs.List.{starts_with}
 use Rattle.frames.specs.Frames.{frame}
 use Rattle.journal.specs.Records.{RecordParts, journal_of}

@@ -1,5 +1,6 @@
 -- What a journal says, and its text: a record is a line of IRC, a batch is some records.
-use Rattle.std.specs.Prelude.{◌≡◌, ◌<◌, ◌^◌, ◌++◌, ℕ, List, [], ◌∷◌, Option, None, Some, Vec, IsTrue}
+use Rattle.std.specs.Prelude.{◌≡◌, ◌<◌, ◌^◌, ◌++◌, ℕ, List, [], ◌∷◌, Option, None, Some, Vec}
+use Rattle.std.specs.Prelude.{IsTrue}
 use Rattle.std.specs.Prelude.{codes, decimal, length, map}
 use Rattle.std.specs.List.{AllByRecursion, flat_map}
 use Rattle.std.specs.Option.{option_map}

@@ -9,7 +9,8 @@ loop-payload-init c =
     let start : kept_parts c.in_ok-kept.kept ≡ nothing c.args.capacity c.args.first =
     c.in_ok-kept.ensures.made in
     let all = map (λ (p : Bor (List ℕ)). p.now) c.args.payloads.items in
-    let same : map (λ (p : Bor (List ℕ)). p.now) c.into_iter-payload-iterator.result.rest.items ≡ all =
+    let same : map (λ (p : Bor (List ℕ)). p.now) c.into_iter-payload-iterator.result.rest.items
+    ≡ all =
     search rules in
     record {
       count = search rules;
