@@ -5,4 +5,5 @@ pub mod Files
 pub mod FrameSizes
 pub mod Headers
 pub mod InOrder
+pub mod InParts
 pub mod Snapshots

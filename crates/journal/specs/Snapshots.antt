@@ -2,11 +2,12 @@
 use Rattle.std.specs.Prelude.{◌≡◌, ◌≤◌, ◌+◌, ◌++◌, ℕ, List, [], ◌∷◌, Option, None, Some, Ok}
 use Rattle.std.specs.Prelude.{if◌then◌else◌, map, nat_eq}
 use Rattle.std.specs.FinMap as fin
+use Rattle.std.specs.List.{AllByRecursion}
 use Rattle.history.specs.Entry.{EntryParts}
 use Rattle.history.specs.Marks.{NameMarks}
 use Rattle.history.specs.Messages.{Messages}
 use Rattle.journal.specs.Kept.{after_batch, nothing}
-use Rattle.journal.specs.Records.{RecordParts, mark, message, name, next, on}
+use Rattle.journal.specs.Records.{RecordParts, gone, mark, message, name, next, on, seen}
 
 -- the next number, where it is not the one that is expected
 abbrev pub next_to : ℕ → ℕ → List RecordParts
@@ -51,3 +52,16 @@ GivesBack records last h marks channels =
     (first : ℕ) → first ≤ first_of h.kept last → fin.len marks ≤ 64
     → after_batch records (nothing h.capacity first)
     ≡ Ok (record { history = h; marks = marks; marked = marks; channels = channels })
+
+-- records that say nothing of channels
+abbrev pub IsNoChannel : RecordParts → Type 0
+IsNoChannel (next number) = Unit {0}
+IsNoChannel (message e) = Unit {0}
+IsNoChannel (name x) = Unit {0}
+IsNoChannel (mark x number) = Unit {0}
+IsNoChannel (seen x number) = Unit {0}
+IsNoChannel (gone x) = Unit {0}
+IsNoChannel (on channel key) = ⊥
+
+abbrev pub AreNoChannels : List RecordParts → Type 0
+AreNoChannels rs = AllByRecursion IsNoChannel rs

@@ -5,6 +5,7 @@
 mod damage;
 mod header;
 mod kept;
+pub mod laws;
 mod lines;
 mod number;
 mod recalling;
