@@ -1,6 +1,7 @@
 -- The messages that are kept would all be kept if they came again.
 use Rattle.history.proofs.Words
-use Words.{◌++◌, ◌+◌, ◌<◌, ◌∷◌, ◌≡◌, ◌≤◌, AllByRecursion, EntryParts, List, Option, [], after_one_more}
+use Words.{◌++◌, ◌+◌, ◌<◌, ◌∷◌, ◌≡◌, ◌≤◌, AllByRecursion, EntryParts, List, Option, []}
+use Words.{after_one_more}
 use Words.{ap, append-nil, arith, bytes_eq, filter, filter-append, is_to, keys_of, length}
 use Words.{length-append, length-filter_both, length-map, nat_cmp, nat_lt, nat_tests, not, refl}
 use Words.{reverse, rings_of, sym, target_key, targets, true, ℕ, ◌∙◌}
