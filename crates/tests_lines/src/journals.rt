@@ -2,7 +2,9 @@
 
 use frames::push_frame;
 use history::Entry;
-use journal::{Damage, PushError, RecallError, Recalled, Record, push_batch, push_header, recall};
+use journal::{
+    Damage, PushError, RecallError, Recalled, Record, push_batch, push_header, recall, snapshot,
+};
 use std::alloc::Global;
 use std::process::Abort;
 use std::test::Fail;
@@ -259,6 +261,36 @@ fn files_that_begin_otherwise(rt: HostRuntime) -> Result<(), Fail> {
     }
     for text in OTHER_FILES {
         is_refused_as(&rt, text.as_bytes(), RecallError::NotAJournal)?;
+    }
+    Ok(())
+}
+
+/// A batch with all that is kept, as a snapshot says it.
+const ALL_KEPT: &str = "NEXT 7\r\n\
+    @time=2020-01-02T03:04:05.678Z :bob!b@h PRIVMSG #c :hi all\r\n\
+    @time=2020-01-02T03:04:06.678Z :bob!b@h PRIVMSG #c :again\r\n\
+    NEXT 12\r\n\
+    @time=2020-01-02T03:04:07.678Z :bob!b@h NOTICE Me :hi\r\n\
+    NEXT 14\r\n\
+    NAME laptop\r\n\
+    MARK pc 8\r\n\
+    ON #c\r\n\
+    ON #d secret\r\n";
+
+fn is_said_again<R: AllocGlobal + Abort>(rt: &R, text: &str) -> Result<(), Fail> {
+    let file = file_of(rt.alloc(), &[text])?;
+    let kept = recalled(rt.alloc(), &file)?.kept;
+    let records = snapshot(rt.alloc(), &kept.history, &kept.marks, &kept.channels)?;
+    let mut again = file_of(rt.alloc(), &[])?;
+    push_batch(rt.alloc(), &mut again, &records.ok_or("a number is left")?)?;
+    assert!(rt; again.as_slice() == file.as_slice());
+    Ok(())
+}
+
+#[test]
+fn snapshots(rt: HostRuntime) -> Result<(), Fail> {
+    for text in ["NEXT 1\r\n", "NEXT 9\r\nNAME pc\r\n", ALL_KEPT] {
+        is_said_again(&rt, text)?;
     }
     Ok(())
 }
