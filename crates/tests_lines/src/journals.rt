@@ -268,9 +268,9 @@ fn files_that_begin_otherwise(rt: HostRuntime) -> Result<(), Fail> {
 /// A batch with all that is kept, as a snapshot says it.
 const ALL_KEPT: &str = "NEXT 7\r\n\
     @time=2020-01-02T03:04:05.678Z :bob!b@h PRIVMSG #c :hi all\r\n\
-    @time=2020-01-02T03:04:06.678Z :bob!b@h PRIVMSG #c :again\r\n\
+    @time=2020-01-02T03:04:06.678Z :bob!b@h PRIVMSG #c :hi again\r\n\
     NEXT 12\r\n\
-    @time=2020-01-02T03:04:07.678Z :bob!b@h NOTICE Me :hi\r\n\
+    @time=2020-01-02T03:04:07.678Z :bob!b@h NOTICE Me :hi you\r\n\
     NEXT 14\r\n\
     NAME laptop\r\n\
     MARK pc 8\r\n\
