@@ -1,7 +1,6 @@
 //! Where workers stand, and what time it is.
 
 use client_caps::Moment;
-use std::sync::Wait;
 
 /// Where a worker stands.
 #[derive(Clone, Copy, Debug, PartialEq, Eq)]
@@ -26,15 +25,9 @@ pub enum Point {
 pub trait Gate {
     /// Returns once the worker may go on.
     fn pass(&self, point: Point);
-
-    /// Asked of the thread that reads, once it has put lines: whether they were taken into the hub
-    /// here, so that the pump may sleep on. If not, the pump is woken.
-    fn took_lines<R: Wait>(&self, _rt: &R) -> bool {
-        false
-    }
 }
 
-/// A gate that holds nobody, and leaves all lines to the pump.
+/// A gate that holds nobody.
 #[derive(Clone, Copy)]
 pub struct FreeGate;
 

@@ -37,7 +37,7 @@ pub use outlet_ring::RingOutlet;
 pub use patience::Patience;
 pub use pumping::{Permission, Permit, PumpEnd, REFUSALS, REFUSED_REST, Refusals, pump_loop};
 pub use queued::{Counted, Queued};
-pub use reading::{ReadEnd, Reading, put_lines, read_in};
+pub use reading::{PumpsBeside, ReadEnd, Reading, put_lines, read_beside, read_in};
 pub use slowness::WRITE_CALL;
 pub use stack::small_thread;
 pub use turns::Turns;

@@ -8,6 +8,7 @@ ghost use Rattle.hub_threads.specs.Rings.{put_of};
 
 use crate::gate::{Clock, Gate, Point};
 use crate::inlet_ring::InletEnd;
+use crate::worker::Worker;
 use client_caps::Moment;
 use irc_line::{InputEnd, Line, LineTaker, ReadPoint, Splitter, read_lines};
 use net_view::Item;
@@ -88,17 +89,34 @@ impl From<ReadPoint> for Point {
     }
 }
 
+/// Takes lines into a hub beside its pump.
+pub trait PumpsBeside {
+    /// Asked once lines were put: whether they were taken into the hub here, so that its pump may
+    /// sleep on. If not, the pump is woken.
+    fn took_lines<R: Wait>(&self, rt: &R) -> bool;
+}
+
+/// Leaves all lines to the pump.
+struct LeavesLines;
+
+impl PumpsBeside for LeavesLines {
+    fn took_lines<R: Wait>(&self, _rt: &R) -> bool {
+        false
+    }
+}
+
 /// What puts the lines of a network into the end of an inlet, each with the moment at which it was
 /// read.
 #[derive(Drop)]
-struct Inflow<'a, G, C, R> {
+struct Inflow<'a, G, C, B, R> {
     rt: &'a R,
     end: InletEnd,
     gate: &'a G,
     clock: &'a C,
+    beside: &'a B,
 }
 
-impl<G: Gate, C: Clock, R: Wait> LineTaker<Infallible> for Inflow<'_, G, C, R> {
+impl<G: Gate, C: Clock, B: PumpsBeside, R: Wait> LineTaker<Infallible> for Inflow<'_, G, C, B, R> {
     ghost use Rattle.std.specs.Prelude.{◌≡◌, ◌++◌, map};
     ghost use Rattle.net_view.specs.Arrival.{Received};
     ghost use Rattle.hub_ends.specs.Came.{arrivals};
@@ -112,7 +130,7 @@ impl<G: Gate, C: Clock, R: Wait> LineTaker<Infallible> for Inflow<'_, G, C, R> {
     #[tactic(auto, using(crate::proofs::ReadLemmas::arrived))]
     fn take_lines(&mut self, lines: Vec<Line>) -> Option<Infallible> {
         put_unrung(self.rt, &mut self.end, lines, self.clock.now());
-        if !self.gate.took_lines(self.rt) {
+        if !self.beside.took_lines(self.rt) {
             self.end.wake_pump();
         }
         None
@@ -147,9 +165,29 @@ fn lost<C: Clock, R: Wait>(rt: &R, end: InletEnd, ended: ReadEnd, clock: &C) -> 
     Reading { end, ended }
 }
 
-/// Reads a network to its end, and puts its lines into the end of an inlet, in order, behind what
+/// Reads a network to its end, by what puts its lines.
+fn read_by<I: Read, G: Gate, C: Clock, B: PumpsBeside, R: Wait>(
+    alloc: Global,
+    reader: &mut I,
+    splitter: Splitter,
+    inflow: Inflow<'_, G, C, B, R>,
+) -> Reading
+    ensures { IsReadIn splitter (put_of inflow.entry.end) (put_of result.end)
+        (I.remaining reader.old) (I.remaining reader.new) result.ended }
+{
+    let (rt, clock) = (inflow.rt, inflow.clock);
+    let mut inflow = inflow;
+    let mut splitter = splitter;
+    let Ok(mut buffer) = vec![in alloc; 0; PIECE] else {
+        return lost(rt, inflow.end, ReadEnd::OutOfMemory, clock);
+    };
+    let read = read_lines(alloc, &mut splitter, &mut inflow, reader, &mut buffer);
+    lost(rt, inflow.end, why(read), clock)
+}
+
+/// Reads a network to its end, and puts its lines into the end of an inlet, in order, after what
 /// the splitter holds, each with the moment at which it was read; then one loss. Of a piece that is
-/// refused no line is put. Where the ring is full it sleeps until there is room.
+/// refused no line is put. If the ring is full it sleeps until there is room.
 ///
 /// It reads at most `irc_line::READ_LIMIT` times. A read that is interrupted is tried again.
 pub fn read_in<'a, I: Read, G: Gate, C: Clock, R: Wait>(
@@ -164,16 +202,34 @@ pub fn read_in<'a, I: Read, G: Gate, C: Clock, R: Wait>(
     ensures { IsReadIn splitter (put_of end) (put_of result.end)
         (I.remaining reader.old) (I.remaining reader.new) result.ended }
 {
-    let mut splitter = splitter;
-    let Ok(mut buffer) = vec![in alloc; 0; PIECE] else {
-        return lost(rt, end, ReadEnd::OutOfMemory, clock);
-    };
-    let mut inflow = Inflow {
+    let inflow = Inflow {
         rt,
         end,
         gate,
         clock,
+        beside: &LeavesLines,
     };
-    let read = read_lines(alloc, &mut splitter, &mut inflow, reader, &mut buffer);
-    lost(rt, inflow.end, why(read), clock)
+    read_by(alloc, reader, splitter, inflow)
+}
+
+/// Reads a network to its end, as [`read_in`] does; after each piece its lines may be taken into the
+/// hub by this thread.
+pub fn read_beside<I: Read, G: Gate, C: Clock, B: PumpsBeside, R: Wait>(
+    worker: &Worker<'_, R, G, C>,
+    reader: &mut I,
+    splitter: Splitter,
+    end: InletEnd,
+    beside: &B,
+) -> Reading
+    ensures { IsReadIn splitter (put_of end) (put_of result.end)
+        (I.remaining reader.old) (I.remaining reader.new) result.ended }
+{
+    let inflow = Inflow {
+        rt: &worker.rt,
+        end,
+        gate: worker.gate,
+        clock: worker.clock,
+        beside,
+    };
+    read_by(worker.alloc, reader, splitter, inflow)
 }

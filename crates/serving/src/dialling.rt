@@ -7,7 +7,6 @@ use crate::event::Event;
 use crate::keeping::{Input, Keeping};
 use crate::limits::Limits;
 use crate::link::Link;
-use crate::network_gate::NetworkGate;
 use crate::network_input::NetworkInput;
 use crate::recalling::Recalling;
 use crate::shared::{Served, Shared};
@@ -71,15 +70,15 @@ fn come_in<R: Wait + Clock + Net<Listener = TcpListener, Stream = TcpStream>>(
     }
 }
 
-/// What a connection to a network is served with: its two ends, and its gate.
+/// What a connection to a network is served with: its two ends, and the gate that shuts it when
+/// nothing more can be written.
 fn ends_of<'a, R: Wait + Clock>(
     rt: &'a R,
     alloc: Global,
     connection: &'a Connection,
     served: &Served<'_>,
-) -> io::Result<(Duplex<Input<'a, R>, Connection>, NetworkGate)> {
-    let closing = HangingUp::on(connection.share()?);
-    let gate = NetworkGate::new(closing, served.station.slot())?;
+) -> io::Result<(Duplex<Input<'a, R>, Connection>, HangingUp)> {
+    let gate = HangingUp::on(connection.share()?);
     let reader = Recalling::new(alloc, NetworkInput::start(rt, connection, &served.limits)?);
     let writer = connection.share()?;
     Ok((Duplex { reader, writer }, gate))

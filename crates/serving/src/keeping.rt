@@ -120,6 +120,10 @@ impl<'a, R: Wait + Clock> Keeper<Input<'a, R>, Connection> for Keeping<'a, R> {
         true
     }
 
+    fn took_lines<T: Wait>(&self, rt: &T) -> bool {
+        self.served.station.slot().pump_beside(rt)
+    }
+
     fn no_thread(&mut self) {
         let retry = self.served.retry();
         self.tell(&Event::NoWriter { retry });

@@ -20,7 +20,6 @@ mod kept;
 mod limits;
 mod link;
 mod log;
-mod network_gate;
 mod network_input;
 mod pace;
 mod paced;

@@ -1,6 +1,8 @@
 //! A thread that reads a network, and has the hub take lines itself while the pump sleeps.
 
-use hub_threads::{Beside, Gate, Network, Point, ReadEnd, SharedBell, Turns, read_in};
+use hub_threads::{
+    Beside, FreeGate, Network, PumpsBeside, ReadEnd, SharedBell, Turns, Worker, read_beside,
+};
 use irc_line::Splitter;
 use quick_view::QuickView;
 use std::alloc::Global;
@@ -76,43 +78,39 @@ fn lines_are_taken_beside_a_pump_that_sleeps(rt: HostRuntime) -> Result<(), Fail
     Ok(())
 }
 
-/// A gate that counts how often it is asked for lines, and takes none.
+/// Counts how often it is asked to take lines, and takes none.
 #[derive(Drop)]
 struct Asked(AtomicU64);
 
-impl Gate for Asked {
-    fn pass(&self, _point: Point) {}
-
+impl PumpsBeside for Asked {
     fn took_lines<R: Wait>(&self, _rt: &R) -> bool {
         self.0.fetch_add(1, Ordering::SeqCst);
         false
     }
 }
 
-/// How often a gate is asked while these pieces are read.
-fn times_asked<R: Wait>(rt: &R, alloc: Global, pieces: &[&[u8]]) -> Result<u64, Fail> {
+/// How often it is asked while these pieces are read.
+fn times_asked<R: Wait + Copy>(rt: R, alloc: Global, pieces: &[&[u8]]) -> Result<u64, Fail> {
     let Stage { end, .. } = quick_stage(alloc, 1, 8)?;
-    let gate = Asked(AtomicU64::new(0));
+    let asked = Asked(AtomicU64::new(0));
     let mut reader = Pieces::new(alloc, pieces)?;
-    let reading = read_in(
+    let worker = Worker {
         rt,
         alloc,
-        &mut reader,
-        Splitter::new(alloc),
-        end,
-        &gate,
-        &Still,
-    );
+        gate: &FreeGate,
+        clock: &Still,
+    };
+    let reading = read_beside(&worker, &mut reader, Splitter::new(alloc), end, &asked);
     match reading.ended {
-        ReadEnd::EndOfInput => Ok(gate.0.load(Ordering::SeqCst)),
+        ReadEnd::EndOfInput => Ok(asked.0.load(Ordering::SeqCst)),
         _ => Err("not read to its end")?,
     }
 }
 
-/// The gate is asked once for each piece that is read.
+/// It is asked once for each piece that is read.
 #[test]
-fn a_reader_offers_each_piece_to_its_gate(rt: HostRuntime) -> Result<(), Fail> {
+fn a_reader_offers_each_piece_to_what_pumps_beside(rt: HostRuntime) -> Result<(), Fail> {
     let pieces: [&[u8]; 2] = [b":s 001 Me :hi\r\n:s 002 Me :a\r\n", b"PING :x\r\n"];
-    assert!(rt; times_asked(&rt, rt.alloc(), &pieces)? == 2);
+    assert!(rt; times_asked(rt, rt.alloc(), &pieces)? == 2);
     Ok(())
 }

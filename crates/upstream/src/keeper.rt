@@ -5,6 +5,7 @@ ghost use Rattle.std.specs.Io.KnownBytes.{Appends};
 
 use irc_line::Line;
 use std::io::{Read, Write};
+use std::sync::Wait;
 
 /// Who watches a connection to a network: a program's limits and log. `I` reads from the network,
 /// `W` writes to it. No lock is held during these calls.
@@ -20,6 +21,12 @@ pub trait Keeper<I: Read, W: Write> {
         ensures read { I.remaining reader.new ≡ I.remaining reader.old }
         ensures sent { (bytes : List ℕ) × Appends (W.contents writer.old) (W.contents writer.new)
             bytes };
+
+    /// Asked after each piece that was read, once its lines are in the hub's inlet: whether they were
+    /// taken into the hub here, so that its pump may sleep on. If not, the pump is woken.
+    fn took_lines<R: Wait>(&self, _rt: &R) -> bool {
+        false
+    }
 
     /// There is no thread to write with, so the connection is given up.
     fn no_thread(&mut self);

@@ -12,11 +12,12 @@ use crate::keeper::Keeper;
 use crate::link::Link;
 use bnc_config::NetworkConfig;
 use hub_threads::{
-    Clock, Gate, InletEnd, ReadEnd, Reading, Stopper, Worker, WriteFault, Written, put_lines,
-    read_in, spawn_stoppable,
+    Clock, Gate, InletEnd, PumpsBeside, ReadEnd, Reading, Stopper, Worker, WriteFault, Written,
+    put_lines, read_beside, spawn_stoppable,
 };
 use std::alloc::Global;
 use std::io::{Read, Write};
+use std::marker::PhantomData;
 use std::sync::Wait;
 use std::thread::Threads;
 
@@ -110,6 +111,20 @@ fn register_over<I: Read, W: Write>(
     Ok(live.into_parts())
 }
 
+/// Takes lines into the hub as a keeper does.
+#[derive(Drop)]
+struct ByKeeper<'a, X, I, W> {
+    keeper: &'a X,
+    // the ends of the connection that the keeper knows
+    kept: PhantomData<(I, W)>,
+}
+
+impl<I: Read, W: Write, X: Keeper<I, W>> PumpsBeside for ByKeeper<'_, X, I, W> {
+    fn took_lines<R: Wait>(&self, rt: &R) -> bool {
+        self.keeper.took_lines(rt)
+    }
+}
+
 /// Puts the lines from the welcome on, and reads the network to the connection's end.
 fn read_to_end<I: Read, W: Write, G: Gate, C: Clock, X: Keeper<I, W>, R: Wait>(
     worker: &Worker<'_, R, G, C>,
@@ -123,15 +138,13 @@ fn read_to_end<I: Read, W: Write, G: Gate, C: Clock, X: Keeper<I, W>, R: Wait>(
         (I.remaining reader.old) (I.remaining reader.new) result.ended }
 {
     let Welcomed { splitter, lines } = welcomed;
-    let Worker {
-        rt,
-        alloc,
-        gate,
-        clock,
-    } = worker;
     let mut inlet = inlet;
-    put_lines(rt, &mut inlet, lines, clock.now());
-    let reading = read_in(rt, *alloc, reader, splitter, inlet, *gate, *clock);
+    put_lines(&worker.rt, &mut inlet, lines, worker.clock.now());
+    let beside = ByKeeper {
+        keeper: &*keeper,
+        kept: PhantomData::<(I, W)>,
+    };
+    let reading = read_beside(worker, reader, splitter, inlet, &beside);
     stopper.stop();
     keeper.ended();
     reading

@@ -1,4 +1,4 @@
-use Rattle.hub_threads.proofs.reading.read_in.Goals as goal
+use Rattle.hub_threads.proofs.reading.read_by.Goals as goal
 use Rattle.hub_threads.{proofs.ReadLemmas.{not_read, read_in}, specs.Rings.put_of}
 
 pub returns-in_default : goal.returns-in_default
