@@ -5,11 +5,11 @@
 # demonstration. The first part that fails ends it, with its status.
 #
 # A crate gets one job, since each further one reads all libraries again for every few functions. So
-# many crates are checked at once as there are processors, and 5 GB of memory for each; RT_JOBS is
+# many crates are checked at once as there are processors, and 4.5 GB of memory for each; RT_JOBS is
 # another number.
 set -eu
 cd "$(dirname "$0")/.."
-at_once=$(awk '/^MemAvailable:/ { print int($2 / 5000000) }' /proc/meminfo)
+at_once=$(awk '/^MemAvailable:/ { print int($2 / 4500000) }' /proc/meminfo)
 if [ "$at_once" -gt "$(nproc)" ]; then at_once=$(nproc); fi
 if [ "$at_once" -lt 1 ]; then at_once=1; fi
 export RT_JOBS=${RT_JOBS:-$at_once}
