@@ -16,7 +16,7 @@ pub fn a_cut_leaves_a_beginning()
         Splits (take n (flat_map frame ps)) qs rest → (k : ℕ) × (qs ≡ take k ps) }
 {}
 
-/// What stands behind the frames takes none of them away, and adds none where no frame begins.
+/// Bytes after the frames take none of them away, and add none if they begin no frame.
 pub fn the_rest_takes_nothing()
     ensures more { (ps qs : List (List ℕ)) (torn rest : List ℕ) → ArePayloads ps →
         Splits (flat_map frame ps ++ torn) qs rest →

@@ -11,7 +11,7 @@ pub enum Damage {
     /// Its text is that of no records, as they are written.
     #[error("no record")]
     NoRecord,
-    /// A number is lower than one before it, or no number is left behind it.
+    /// A number is lower than one before it, or no number is left after it.
     #[error("bad number")]
     BadNumber,
     /// More than 64 client names are admitted.

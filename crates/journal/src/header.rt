@@ -28,7 +28,7 @@ pub fn push_header(out: &mut Vec<u8>) -> Result<(), OutOfMemory>
     push_frame(out, header())
 }
 
-/// What stands behind the header; `None` of a part of it.
+/// The bytes after the header; `None` if they end within it.
 pub fn behind_header(alloc: Global, bytes: &[u8]) -> Result<Option<&[u8]>, RecallError>
     ensures found { IfOk result (λ r. IfSome r (λ more. bytes.now ≡ frame header ++ more.now)) }
     ensures part { IfOk result (λ r. IfNone r (IsPart bytes.now)) }

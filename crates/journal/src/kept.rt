@@ -18,7 +18,7 @@ pub struct Kept {
     pub history: History,
     /// The client names, each with what it has seen.
     pub marks: Marks,
-    /// The same names, each with its last `MARK`, which counts where no `SEEN` came behind it.
+    /// The same names, each with its last `MARK`, which counts if no `SEEN` came after it.
     pub marked: Marks,
     /// The channels that we are on.
     pub channels: Vec<Channel>,

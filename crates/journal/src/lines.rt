@@ -58,7 +58,7 @@ fn message_line(alloc: Global, entry: &Entry) -> Result<Line, MakeError>
     Ok(line)
 }
 
-/// The line that a record is written as. `NotALine` comes exactly where it can't be written: a name
+/// The line that a record is written as. `NotALine` comes exactly if it can't be written: a name
 /// or a text that no line can hold there, or an entry that is no message.
 pub fn line_for(alloc: Global, item: &Record) -> Result<Line, MakeError>
     ensures made { IfOk result (λ line. line ≡ line_for (record_parts item.now)) }

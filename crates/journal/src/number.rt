@@ -3,7 +3,7 @@
 ghost use Rattle.std.specs.Prelude.{◌≡◌};
 ghost use Rattle.journal.specs.Reading.{number_in};
 
-/// The number of a text of digits; `None` for other texts, and where it has more than 64 bits.
+/// The number of a text of digits; `None` for other texts, and if it has more than 64 bits.
 pub fn number_in(text: &[u8]) -> Option<u64>
     ensures { result ≡ number_in text.now }
 {

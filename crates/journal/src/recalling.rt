@@ -27,9 +27,9 @@ pub struct Recalled {
     pub kept: Kept,
     /// How many batches count.
     pub batches: usize,
-    /// How many bytes of the file count, with its header: behind them it is to be cut.
+    /// How many bytes of the file count, with its header: after them it is to be cut.
     pub used: usize,
-    /// Why the next batch does not count; `None` where all do whose frames are whole.
+    /// Why the next batch does not count; `None` if all do whose frames are whole.
     pub damage: Option<Damage>,
 }
 
@@ -75,7 +75,7 @@ fn recall_frames(
     }
 }
 
-/// Recalls what stands behind the header of a file.
+/// Recalls the bytes after the header of a file.
 #[tactic(auto, using(crate::proofs::Headers::behind_short, crate::proofs::Headers::behind_is))]
 fn recall_behind(
     alloc: Global,
@@ -120,7 +120,7 @@ fn recall_file(
     }
 }
 
-/// Recalls a journal: what is kept after its batches, for a history of this capacity, where the
+/// Recalls a journal: what is kept after its batches, for a history of this capacity whose
 /// first message has this number. Of bytes that were cut anywhere, that is what was kept after a
 /// beginning of the batches; nothing is kept of a file that ends within its header. In a sound
 /// frame that is no batch, or whose records can't be done, recall ends, and says why.

@@ -24,7 +24,7 @@ fn copied(alloc: Global, entry: &Entry) -> Result<Entry, OutOfMemory>
     Entry::make(alloc, time, source, command, entry.target(), entry.text())
 }
 
-/// Adds the number of the next message, where it is not the one that is expected.
+/// Adds the number of the next message, if it is not the one that is expected.
 fn push_next(records: &mut Vec<Record>, expected: u64, number: u64) -> Result<(), OutOfMemory>
     ensures { OnOk result (parts_of_all records.new.items
         ≡ parts_of_all records.old.items ++ next_to expected number) }
@@ -35,7 +35,7 @@ fn push_next(records: &mut Vec<Record>, expected: u64, number: u64) -> Result<()
     Ok(())
 }
 
-/// The number of the first message, or the next number where there is none.
+/// The number of the first message, or the next number if there is none.
 fn first_number(messages: &[(u64, &Entry)], last: u64) -> u64
     ensures { result ≡ first_of (map (λ m. (m.0, m.1.now)) messages.now) last }
 {
@@ -146,7 +146,7 @@ fn push_channels(
     Ok(())
 }
 
-/// The records of all of it, where the next message has this number.
+/// The records of all of it, if the next message has this number.
 #[tactic(auto, using(crate::proofs::Snapshots::all_below))]
 fn all_records(
     alloc: Global,
@@ -167,10 +167,10 @@ fn all_records(
     Ok(records)
 }
 
-/// The records that say all that is kept, to be written behind a header: the messages, each with
-/// its number, the client names with their marks, and the channels that we are on. `None` comes
-/// exactly where the last number was given, behind which no journal can go on. It takes the memory
-/// of the messages once more.
+/// The records that say all that is kept, to be written after a header: the messages, each with its
+/// number, the client names with their marks, and the channels that we are on. `None` comes exactly
+/// if the last number was given, after which no journal can go on. It takes the memory of the
+/// messages once more.
 #[tactic(auto, using(crate::proofs::Snapshots::given_back))]
 pub fn snapshot(
     alloc: Global,

@@ -14,7 +14,7 @@ use irc_line::{Line, MakeError, OutOfMemory, lines_in};
 use std::alloc::{AllocError, Global};
 use thiserror::Error;
 
-/// The records that lines are; `None` where a line is none.
+/// The records of these lines; `None` if a line is none.
 fn read_records(alloc: Global, lines: &[Line]) -> Result<Option<Vec<Record>>, OutOfMemory>
     ensures { IfOk result (λ r. option_map (λ v. parts_of_all v.items) r ≡ records_in lines.now) }
 {
@@ -30,7 +30,7 @@ fn read_records(alloc: Global, lines: &[Line]) -> Result<Option<Vec<Record>>, Ou
     Ok(Some(records))
 }
 
-/// The text of a batch of these records. `NotALine` comes exactly where one can't be written.
+/// The text of a batch of these records. `NotALine` comes exactly if one can't be written.
 pub fn text_of(alloc: Global, records: &[Record]) -> Result<Vec<u8>, MakeError>
     ensures ok { IfOk result (λ text. IsBatch text.items (parts_of_all records.now)) }
     ensures not_a_line { IsErrOf result MakeError.NotALine
@@ -45,7 +45,7 @@ pub fn text_of(alloc: Global, records: &[Record]) -> Result<Vec<u8>, MakeError>
     Ok(text)
 }
 
-/// The records of a batch; `None` where the text is that of none.
+/// The records of a batch; `None` if the text is that of none.
 #[tactic(auto, using(crate::proofs::Again::batch_again, crate::proofs::Again::other_text))]
 pub fn read_batch(alloc: Global, payload: &[u8]) -> Result<Option<Vec<Record>>, OutOfMemory>
     ensures found { IfOk result (λ r. IfSome r (λ records.
