@@ -1,14 +1,14 @@
 //! The last messages to each target.
 
 ghost use Rattle.std.specs.Prelude.{ℕ, ◌≡◌, ◌↔◌, ◌<◌, ◌≤◌, ◌&&◌, IfOk, IsErrOf, IsTrue, None, OnErr, Some};
-ghost use Rattle.std.specs.Prelude.{◌++◌, ◌∷◌, [], OnOk, length, map, nat_eq, option_map};
+ghost use Rattle.std.specs.Prelude.{◌++◌, ◌∷◌, [], OnOk, filter, length, map, nat_eq, option_map};
 ghost use Rattle.std.specs.Prelude.{slice_get, false};
 ghost use Rattle.std.specs.List.{AllByRecursion};
 ghost use Rattle.std.specs.NonZero.{non_zero_usize_get};
 ghost use Rattle.std.specs.Option.{option_map_or, unwrap_or};
 ghost use Rattle.circular_buffer.specs.Buffer.{last_item};
 ghost use Rattle.history.specs.Entry.{IsWrittenEntry, entry_parts};
-ghost use Rattle.history.specs.Messages.{AreWrittenMessages, CanComeAgain, is_capacity, missed_by, no_messages};
+ghost use Rattle.history.specs.Messages.{AreWrittenMessages, CanComeAgain, is_capacity, is_missed, missed_by, no_messages};
 ghost use Rattle.history.specs.Messages.{number_after, target_key, targets_held, with_message};
 ghost use Rattle.history.specs.Retained.{after_one_more};
 ghost use Rattle.history.specs.Rings.{all_taken, rings_of, taken};
@@ -289,7 +289,8 @@ impl<A: Allocator> History<A> {
 
     /// Of how many targets messages are kept; at most 128.
     pub fn target_count(&self) -> usize
-        ensures { result ≡ targets_held self.now }
+        ensures count { result ≡ targets_held self.now }
+        ensures few { targets_held self.now ≤ 128 }
     {
         self.targets.count()
     }
@@ -335,8 +336,8 @@ impl<A: Allocator> History<A> {
         Ok(missed)
     }
 
-    /// What holds of the messages of each history.
-    fn can_come_again(&self)
+    /// Tells its caller what holds of the messages of every history. It does nothing.
+    pub fn can_come_again(&self)
         ensures { CanComeAgain self.now }
     {
         let _count = self.targets.count();
@@ -354,6 +355,27 @@ impl<A: Allocator> History<A> {
             all.push((*item.0, item.1))?;
         }
         Ok(all)
+    }
+
+    /// The messages numbered above the mark, or all if there is none, each with its number, oldest
+    /// first. The first of them is looked up, and only they are gone over. One growing allocation.
+    pub fn numbered_above<B: Allocator>(
+        &self,
+        alloc: B,
+        mark: Option<u64>,
+    ) -> Result<Vec<(u64, &Entry<A>), B>, OutOfMemory>
+        ensures { IfOk result (λ above. map (λ m. (m.0, m.1.now)) above.items
+            ≡ filter (is_missed mark) self.now.kept) }
+    {
+        let from = match mark {
+            Some(number) => Bound::Excluded(number),
+            None => Bound::Unbounded,
+        };
+        let mut above = Vec::new(alloc);
+        for item in self.kept.range((from, Bound::Unbounded)) {
+            above.push((*item.0, item.1))?;
+        }
+        Ok(above)
     }
 
     /// The number of the last message; `None` where none was taken yet.
