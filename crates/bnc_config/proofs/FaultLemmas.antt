@@ -62,7 +62,7 @@ users_of_tree earlier (tree ∷ trees) =
     search (either_of_tree, either_of_tree, keys_of_tree, twice_of_tree, networks_of_tree)
 
 first_of_tree : (tree : Members) → IsOfTree (first_fault tree)
-first_of_tree tree = search (either_of_tree, keys_of_tree, users_of_tree)
+first_of_tree tree = search (either_of_tree, keys_of_tree, key_of_tree, users_of_tree)
 
 -- the first fault of its tree is a text's fault
 pub fault_of_tree : (text : List ℕ) (tree : Members) (e : ConfigFault) → IsTree text tree

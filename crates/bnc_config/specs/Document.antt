@@ -1,7 +1,7 @@
 -- What a settings file means as a TOML tree, and its first fault. The format is our own choice.
 use Rattle.std.specs.Prelude.{◌≡◌, ◌⊎◌, ℕ, suc, Bool, true, false, ◌&&◌, nat_le, pos, List, [], ◌∷◌}
 use Rattle.std.specs.Prelude.{◌++◌, map, Option, Some, None, Result, Ok, Err, unwrap_or, is_some}
-use Rattle.std.specs.Prelude.{option_and_then, if◌then◌else◌, IsUtf8}
+use Rattle.std.specs.Prelude.{option_and_then, if◌then◌else◌, IsUtf8, max, ◌/◌}
 use Rattle.std.specs.List.{list_any}
 use Rattle.std.specs.Option.{option_or}
 use Rattle.std.specs.Result.{result_unwrap_or}
@@ -12,14 +12,15 @@ use Rattle.toml.specs.Data.{Data, string, integer, array, table, Items, no_items
 use Rattle.toml.specs.Data.{get_member, as_str, as_table}
 use Rattle.toml.specs.Parse.{parse_document}
 use Rattle.bnc_config.specs.Key.{word_of}
-use Rattle.bnc_config.specs.Settings.{Settings, UserSettings, NetworkSettings}
-use Rattle.bnc_config.specs.Text.{is_name, is_word, is_one_line, is_address, is_hexadecimal}
-use Rattle.bnc_config.specs.Text.{is_digest}
+use Rattle.bnc_config.specs.Settings.{Settings, OptionSettings, UserSettings, NetworkSettings}
+use Rattle.bnc_config.specs.Text.{is_name, is_word, is_one_line, is_path, is_address}
+use Rattle.bnc_config.specs.Text.{is_hexadecimal, is_digest}
 use Rattle.bnc_config.specs.declared.fault.ConfigFault.{ConfigFault}
 use Rattle.bnc_config.specs.declared.fault.ConfigFault.TheVariants.{NotToml, Missing, BadValue}
 use Rattle.bnc_config.specs.declared.fault.ConfigFault.TheVariants.{Twice, OutOfMemory}
 use Rattle.bnc_config.specs.declared.key.Key.{Key}
 use Rattle.bnc_config.specs.declared.key.Key.TheVariants.{Listen, History, Retry, User}
+use Rattle.bnc_config.specs.declared.key.Key.TheVariants.{Kept, Memory}
 use Rattle.bnc_config.specs.declared.key.Key.TheVariants.{UserName, UserSalt, UserPassword}
 use Rattle.bnc_config.specs.declared.key.Key.TheVariants.{UserNetwork}
 use Rattle.bnc_config.specs.declared.key.Key.TheVariants.{NetworkName, NetworkAddress, NetworkNick}
@@ -63,6 +64,7 @@ has_at_most most _ = false
 -- has none here
 abbrev pub allows_text : Key → List ℕ → Bool
 allows_text Listen = is_address
+allows_text Kept = is_path
 allows_text UserName = is_name
 allows_text NetworkName = is_name
 allows_text NetworkAddress = is_address
@@ -77,6 +79,7 @@ allows_text _ = λ text. false
 abbrev pub allows : Key → Data → Bool
 allows History = is_number_within 1 10000
 allows Retry = is_number_within 1 3600
+allows Memory = is_number_within 8 65536
 allows User = is_list_where is_table
 allows UserSalt = is_text_where is_hexadecimal
 allows UserPassword = is_text_where is_digest
@@ -88,6 +91,8 @@ allows key = is_text_where (allows_text key)
 abbrev pub is_optional : Key → Bool
 is_optional History = true
 is_optional Retry = true
+is_optional Kept = true
+is_optional Memory = true
 is_optional User = true
 is_optional UserNetwork = true
 is_optional NetworkPassword = true
@@ -109,9 +114,13 @@ abbrev pub keys_fault : List Key → Members → Option ConfigFault
 keys_fault [] tree = None
 keys_fault (key ∷ keys) tree = option_or (key_fault tree key) (keys_fault keys tree)
 
--- the keys of the top, of a user and of a network, in the order of the checks
+-- the keys of the top, those there that may be left out, and the keys of a user and of a network,
+-- in the order of the checks
 abbrev pub top_keys : List Key
-top_keys = Listen ∷ History ∷ Retry ∷ User ∷ []
+top_keys = Listen ∷ History ∷ Retry ∷ []
+
+abbrev pub option_keys : List Key
+option_keys = Kept ∷ Memory ∷ []
 
 abbrev pub user_keys : List Key
 user_keys = UserName ∷ UserSalt ∷ UserPassword ∷ UserNetwork ∷ []
@@ -167,9 +176,11 @@ users_fault earlier [] = None
 users_fault earlier (tree ∷ rest) =
     option_or (user_fault earlier tree) (users_fault (earlier ++ text_at UserName tree ∷ []) rest)
 
--- the first fault of a file: of the keys at its top, then of its users
+-- the first fault of a file: of the keys at its top, then of the list of its users, then of these
 abbrev pub first_fault : Members → Option ConfigFault
-first_fault tree = option_or (keys_fault top_keys tree) (users_fault [] (tables_at User tree))
+first_fault tree = option_or (keys_fault top_keys tree)
+    (option_or (keys_fault option_keys tree)
+    (option_or (key_fault tree User) (users_fault [] (tables_at User tree))))
 
 -- ---- what the file means
 
@@ -215,12 +226,25 @@ user_in tree = record {
   networks = map network_in (tables_at UserNetwork tree);
 }
 
+-- the memory of a network in MiB if the file does not say: 64, or a sixteenth of the history if that
+-- is more
+abbrev pub default_memory : ℕ → ℕ
+default_memory history = max 64 (history / 16)
+
+-- the options at the top, with a history of so many messages
+abbrev pub options_in : ℕ → Members → OptionSettings
+options_in history tree = record {
+  kept = optional_text_at Kept tree;
+  memory = number_at (default_memory history) Memory tree;
+}
+
 -- the settings that a file without a fault means; other keys are not looked at
 abbrev pub settings_in : Members → Settings
 settings_in tree = record {
   listen = text_at Listen tree;
   history = number_at 500 History tree;
   retry = number_at 30 Retry tree;
+  options = options_in (number_at 500 History tree) tree;
   users = map user_in (tables_at User tree);
 }
 

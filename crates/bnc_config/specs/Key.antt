@@ -2,6 +2,7 @@
 use Rattle.std.specs.Prelude.{ℕ, List, ◌++◌, codes}
 use Rattle.bnc_config.specs.declared.key.Key.{Key}
 use Rattle.bnc_config.specs.declared.key.Key.TheVariants.{Listen, History, Retry, User}
+use Rattle.bnc_config.specs.declared.key.Key.TheVariants.{Kept, Memory}
 use Rattle.bnc_config.specs.declared.key.Key.TheVariants.{UserName, UserSalt, UserPassword}
 use Rattle.bnc_config.specs.declared.key.Key.TheVariants.{UserNetwork}
 use Rattle.bnc_config.specs.declared.key.Key.TheVariants.{NetworkName, NetworkAddress, NetworkNick}
@@ -14,6 +15,8 @@ abbrev pub word_of : Key → List ℕ
 word_of Listen = codes "listen"
 word_of History = codes "history"
 word_of Retry = codes "retry"
+word_of Kept = codes "kept"
+word_of Memory = codes "memory"
 word_of User = codes "user"
 word_of UserName = codes "name"
 word_of UserSalt = codes "salt"
@@ -32,6 +35,8 @@ abbrev pub path_of : Key → List ℕ
 path_of Listen = word_of Listen
 path_of History = word_of History
 path_of Retry = word_of Retry
+path_of Kept = word_of Kept
+path_of Memory = word_of Memory
 path_of User = word_of User
 path_of UserName = codes "user." ++ word_of UserName
 path_of UserSalt = codes "user." ++ word_of UserSalt

@@ -6,7 +6,7 @@ use Rattle.std.specs.Option.{option_map_or}
 use Rattle.std.specs.Str.{bytes_eq}
 use Rattle.irc_names.specs.Nick.{is_nameable}
 use Rattle.sha2.specs.Sha256.{sha256}
-use Rattle.bnc_config.specs.Text.{is_address, is_name, is_one_line, is_word}
+use Rattle.bnc_config.specs.Text.{is_address, is_name, is_one_line, is_path, is_word}
 
 -- a network of a user
 pub record NetworkSettings : Type 0 where
@@ -25,11 +25,17 @@ pub record UserSettings : Type 0 where
   pub digest : List ℕ
   pub networks : List NetworkSettings
 
+-- what may be left out at the top: the folder of what is kept; the memory of a network in MiB
+pub record OptionSettings : Type 0 where
+  pub kept : Option (List ℕ)
+  pub memory : ℕ
+
 -- all settings: history in messages, retry in seconds
 pub record Settings : Type 0 where
   pub listen : List ℕ
   pub history : ℕ
   pub retry : ℕ
+  pub options : OptionSettings
   pub users : List UserSettings
 
 -- what the settings of a network are like, whatever file they come from
@@ -49,7 +55,14 @@ IsNetwork network = record {
 abbrev pub IsUser : UserSettings → Type 0
 IsUser user = IsTrue (is_name user.name)
 
--- what the settings at the top are like
+-- what the options at the top are like
+abbrev pub IsOptions : OptionSettings → Type 0
+IsOptions options = record {
+  kept : IfSome options.kept (λ path. IsTrue (is_path path));
+  memory : (8 ≤ options.memory) × (options.memory ≤ 65536);
+}
+
+-- what the other settings at the top are like
 abbrev pub IsTop : Settings → Type 0
 IsTop settings = record {
   listen : IsTrue (is_address settings.listen);

@@ -42,6 +42,10 @@ is_word (b ∷ bs) = not (b == 58) && not (list_any bars_word (b ∷ bs))
 abbrev pub is_one_line : List ℕ → Bool
 is_one_line text = not (list_any is_control text)
 
+-- the path of a file or a folder
+abbrev pub is_path : List ℕ → Bool
+is_path text = not (is_empty text) && is_one_line text
+
 -- a port: a number from 1 to 65535, in decimal digits
 abbrev pub is_port : List ℕ → Bool
 is_port text =

@@ -5,7 +5,7 @@ ghost use Rattle.std.specs.Char.{is_ascii_digit};
 ghost use Rattle.std.specs.List.{list_all, list_any};
 ghost use Rattle.bnc_config.specs.Document.{allows_text};
 ghost use Rattle.bnc_config.specs.Text.{bars_name, bars_word, is_address, is_control, is_name};
-ghost use Rattle.bnc_config.specs.Text.{is_port, is_word};
+ghost use Rattle.bnc_config.specs.Text.{is_path, is_port, is_word};
 
 use crate::Key;
 use irc_names::is_nameable;
@@ -62,6 +62,17 @@ fn is_word(text: &[u8]) -> bool
     }
 }
 
+/// Whether the text can be the path of a file or a folder: it is not empty and holds no control
+/// byte.
+fn is_path(text: &[u8]) -> bool
+    ensures { result ≡ is_path text.now }
+{
+    match text {
+        [] => false,
+        [_, ..] => !has_control(text),
+    }
+}
+
 /// Whether the text is a port, 1 to 65535 in decimal digits; zeros may stand in front.
 fn is_port(text: &str) -> bool
     ensures { result ≡ is_port text.now }
@@ -91,6 +102,7 @@ pub(crate) fn allows(key: Key, text: &str) -> bool
 {
     match key {
         Key::Listen | Key::NetworkAddress => is_address(text),
+        Key::Kept => is_path(text.as_bytes()),
         Key::UserName | Key::NetworkName => is_name(text.as_bytes()),
         Key::NetworkNick => is_nameable(text.as_bytes()),
         Key::NetworkUser | Key::NetworkPassword | Key::NetworkJoin => is_word(text.as_bytes()),

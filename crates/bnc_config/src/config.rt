@@ -1,13 +1,14 @@
 //! The settings as a whole.
 
-ghost use Rattle.std.specs.Prelude.{◌≡◌, ◌≤◌, ◌↔◌, IsTrue, MatchResult, length, option_map};
+ghost use Rattle.std.specs.Prelude.{◌≡◌, ◌≤◌, ◌↔◌, IfSome, IsTrue, MatchResult, length, option_map};
 ghost use Rattle.std.specs.Prelude.{option_copied};
 ghost use Rattle.bnc_config.specs.Document.{IsFaultOf, Means};
 ghost use Rattle.bnc_config.specs.Settings.{Matches, network_at, networks_at, place_of, user_at};
-ghost use Rattle.bnc_config.specs.Text.{is_address};
+ghost use Rattle.bnc_config.specs.Text.{is_address, is_path};
 
 use crate::digest::{are_equal, digest_of};
 use crate::networks::place_of_network;
+use crate::options::Options;
 use crate::table::{number_or, required_text, tables_at};
 use crate::users::{place_of_user, read_users};
 use crate::{ConfigFault, Key, NetworkConfig, Place, Text, UserConfig};
@@ -24,6 +25,7 @@ pub struct Config {
     listen: Text,
     history: usize,
     retry: u64,
+    options: Options,
     users: Vec<UserConfig>,
 }
 
@@ -36,6 +38,7 @@ impl Model for Config {
       listen = config.listen;
       history = config.history;
       retry = config.retry;
+      options = config.options;
       users = config.users.items;
     } };
 
@@ -43,6 +46,7 @@ impl Model for Config {
       listen = config.listen;
       history = config.history;
       retry = config.retry;
+      options = config.options;
       users = config.users.items;
     }) };
 }
@@ -60,13 +64,15 @@ impl Config {
             Err(_) => return Err(ConfigFault::NotToml),
         };
         let listen = required_text(alloc, &table, Key::Listen)?;
-        let history = number_or(&table, Key::History, 500, HISTORY_LIMIT)?;
-        let retry = number_or(&table, Key::Retry, 30, 3_600)?;
+        let history = number_or(&table, Key::History, 500, 1, HISTORY_LIMIT)?;
+        let retry = number_or(&table, Key::Retry, 30, 1, 3_600)?;
+        let options = Options::read(alloc, &table, history)?;
         let users = read_users(alloc, tables_at(&table, Key::User)?)?;
         Ok(Config {
             listen,
             history: history as usize,
             retry: u64::from(retry),
+            options,
             users,
         })
     }
@@ -96,6 +102,24 @@ impl Config {
         ensures within { (1 ≤ result) × (result ≤ 3600) }
     {
         self.retry
+    }
+
+    /// The folder in which messages are kept over a restart, relative to that of the settings file:
+    /// not empty, without control bytes. `None` if the file does not say.
+    pub fn kept(&self) -> Option<&str>
+        ensures value { option_map (λ path. path.now) result ≡ self.now.options.kept }
+        ensures clean { IfSome result (λ path. IsTrue (is_path path.now)) }
+    {
+        self.options.kept()
+    }
+
+    /// How many MiB a network may take: 8 to 65,536. If the file does not say, 64, or a sixteenth
+    /// of the history if that is more.
+    pub fn memory(&self) -> u32
+        ensures value { result ≡ self.now.options.memory }
+        ensures within { (8 ≤ result) × (result ≤ 65536) }
+    {
+        self.options.memory()
     }
 
     /// The users, in the order of the file.

@@ -15,6 +15,10 @@ pub enum Key {
     History,
     /// `retry`: the seconds between two dials after a loss, 1 to 3600.
     Retry,
+    /// `kept`: the folder in which messages are kept.
+    Kept,
+    /// `memory`: how many MiB a network may take, 8 to 65,536.
+    Memory,
     /// `user`: the list of users.
     User,
     /// `user.name`: what a client logs in as.
@@ -50,6 +54,8 @@ impl Key {
             Key::Listen => "listen",
             Key::History => "history",
             Key::Retry => "retry",
+            Key::Kept => "kept",
+            Key::Memory => "memory",
             Key::User => "user",
             Key::UserName => "user.name",
             Key::UserSalt => "user.salt",
@@ -73,6 +79,8 @@ impl Key {
             Key::Listen => "listen",
             Key::History => "history",
             Key::Retry => "retry",
+            Key::Kept => "kept",
+            Key::Memory => "memory",
             Key::User | Key::NetworkUser => "user",
             Key::UserName | Key::NetworkName => "name",
             Key::UserSalt => "salt",

@@ -8,6 +8,7 @@ mod fault;
 mod key;
 mod names;
 mod networks;
+mod options;
 mod place;
 mod table;
 mod text;

@@ -90,17 +90,18 @@ pub(crate) fn optional_text(
     }
 }
 
-/// The number at a key that may be left out, 1 to `most`, as the default is.
+/// The number at a key that may be left out, `least` to `most`, as the default is.
 pub(crate) fn number_or(
     table: &Table,
     key: Key,
     default: u32,
+    least: u32,
     most: u32,
 ) -> Result<u32, ConfigFault>
-    requires { (1 ≤ default) × (default ≤ most) }
-    ensures within { IfOk result (λ number. (1 ≤ number) × (number ≤ most)) }
+    requires { (least ≤ default) × (default ≤ most) }
+    ensures within { IfOk result (λ number. (least ≤ number) × (number ≤ most)) }
     ensures read { Reads (λ number. number) result
-        (fault_at key true (is_number_within 1 most)
+        (fault_at key true (is_number_within least most)
         (get_member (word_of key) (table_view table.now)))
         (number_at default key (table_view table.now)) }
 {
@@ -111,7 +112,7 @@ pub(crate) fn number_or(
         return Err(ConfigFault::BadValue(key));
     };
     match u32::try_from(number) {
-        Ok(number) if 1 <= number && number <= most => Ok(number),
+        Ok(number) if least <= number && number <= most => Ok(number),
         _ => Err(ConfigFault::BadValue(key)),
     }
 }

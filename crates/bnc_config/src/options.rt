@@ -1,0 +1,68 @@
+//! What may be left out at the top of the file.
+
+ghost use Rattle.std.specs.Prelude.{◌≡◌, ◌≤◌, IfSome, IsTrue, option_map};
+ghost use Rattle.toml.specs.View.{table_view};
+ghost use Rattle.bnc_config.specs.Document.{Reads, keys_fault, option_keys, options_in};
+ghost use Rattle.bnc_config.specs.Text.{is_path};
+
+use crate::table::{number_or, optional_text};
+use crate::{ConfigFault, Key, Text};
+use std::alloc::Global;
+use std::marker::Model;
+use toml::Table;
+
+/// The settings at the top that may be left out.
+#[derive(Debug, Drop)]
+pub(crate) struct Options {
+    kept: Option<Text>,
+    memory: u32,
+}
+
+impl Model for Options {
+    ghost use Rattle.bnc_config.specs.Settings.{IsOptions, OptionSettings};
+
+    ghost Value = { OptionSettings };
+
+    ghost view = { λ options. record {
+      kept = options.kept;
+      memory = options.memory;
+    } };
+
+    ghost invariant = { λ options. IsOptions (record {
+      kept = options.kept;
+      memory = options.memory;
+    }) };
+}
+
+impl Options {
+    /// The options that a file's top has, with a history of so many messages.
+    pub fn read(alloc: Global, table: &Table, history: u32) -> Result<Options, ConfigFault>
+        requires { history ≤ 10000 }
+        ensures { Reads (λ options. options) result
+            (keys_fault option_keys (table_view table.now))
+            (options_in history (table_view table.now)) }
+    {
+        let kept = optional_text(alloc, table, Key::Kept)?;
+        let memory = number_or(table, Key::Memory, u32::max(64, history / 16), 8, 65_536)?;
+        Ok(Options { kept, memory })
+    }
+
+    /// The folder in which messages are kept.
+    pub fn kept(&self) -> Option<&str>
+        ensures value { option_map (λ path. path.now) result ≡ self.now.kept }
+        ensures clean { IfSome result (λ path. IsTrue (is_path path.now)) }
+    {
+        match &self.kept {
+            Some(path) => Some(path.as_str()),
+            None => None,
+        }
+    }
+
+    /// How many MiB a network may take.
+    pub fn memory(&self) -> u32
+        ensures value { result ≡ self.now.memory }
+        ensures within { (8 ≤ result) × (result ≤ 65536) }
+    {
+        self.memory
+    }
+}
