@@ -96,8 +96,11 @@ step() {
     bip) bip -n -s "$at/bip" > "$at/log" 2>&1 & pass=ann:bc:net ;;
   esac
   pid=$!
-  timeout 240 "$out/load" 26660 26667 $pid "$pass" "$@" >> "$at/told.$which" 2>> "$at/faults" \
-    || echo "$which $*: failed" >&2
+  # a step that fails is a figure too: how often it did
+  if ! timeout 240 "$out/load" 26660 26667 $pid "$pass" "$@" >> "$at/told.$which" 2> "$at/fault"; then
+    echo "failed_$(tr ' ' _ <<< "$*") 1" >> "$at/told.$which"
+    sed "s/^/$which $*: /" "$at/fault" >> "$at/faults"
+  fi
   # one that has ended by itself is no fault of the script
   kill $pid 2> /dev/null && wait $pid 2> /dev/null || true
   sleep 0.5
@@ -130,13 +133,13 @@ for _ in $(seq "$rounds"); do
     esac
   done
 done
-[ ! -s "$at/faults" ] || grep panicked -A1 "$at/faults" | sort | uniq -c >&2
+[ ! -s "$at/faults" ] || sort "$at/faults" | uniq -c >&2
 
-# The medians of one column; of cuts, how many there were.
+# The medians of one column; of cuts and failures, how many there were.
 medians() {
   [ -e "$at/told.$1" ] || return 0
   sort -k1,1 -k2,2g "$at/told.$1" | awk -v which="$1" '
-    function tell() { if (n) print last, which, (last ~ /^cut/ ? n : seen[int((n + 1) / 2)]) }
+    function tell() { if (n) print last, which, (last ~ /^(cut|failed)/ ? n : seen[int((n + 1) / 2)]) }
     $1 != last { tell(); last = $1; n = 0 }
     { seen[++n] = $2 }
     END { tell() }'

@@ -4,6 +4,7 @@ use crate::Bouncer;
 use std::io::{Read, Write};
 use std::net::TcpStream;
 use std::sync::mpsc::Sender;
+use std::thread;
 use std::time::{Duration, Instant};
 
 /// How a line ends whose arrival is timed.
@@ -23,12 +24,23 @@ fn lists_in(text: &[u8]) -> usize {
         .count()
 }
 
+/// Connects to a bouncer, which may take up to half a minute until it listens.
+fn connect(port: u16) -> TcpStream {
+    for _ in 0..600 {
+        if let Ok(stream) = TcpStream::connect(("127.0.0.1", port)) {
+            return stream;
+        }
+        thread::sleep(Duration::from_millis(50));
+    }
+    panic!("nobody listens at port {port}");
+}
+
 impl Client {
     /// Logs in, with the capabilities, where there are any, and reads until the name lists of all
     /// channels came.
     pub fn attach(bouncer: &Bouncer, password: &str, set: &str, channels: usize) -> Client {
+        let mut stream = connect(bouncer.clients);
         let began = Instant::now();
-        let mut stream = TcpStream::connect(("127.0.0.1", bouncer.clients)).unwrap();
         stream.set_nodelay(true).unwrap();
         stream.set_read_timeout(Some(Duration::from_secs(60))).unwrap();
         let (request, end) = match set {

@@ -45,6 +45,12 @@ pub struct Bouncer {
 }
 
 fn main() {
+    // what went wrong is one line, which bench/table.sh shows
+    std::panic::set_hook(Box::new(|why| {
+        let text = why.to_string().replace('\n', " ");
+        eprintln!("load: {text}");
+        std::process::exit(1);
+    }));
     let words: Vec<String> = std::env::args().skip(1).collect();
     let words: Vec<&str> = words.iter().map(String::as_str).collect();
     match words[..] {

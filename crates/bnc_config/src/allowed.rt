@@ -42,7 +42,7 @@ fn has_digits_only(text: &[u8]) -> bool
 
 /// Whether the text can name a user or a network: it is not empty and holds no `/`, `@`, `:`, space
 /// or control byte, so that a login `user@client/network:password` can be cut.
-fn is_name(text: &[u8]) -> bool
+pub fn is_name(text: &[u8]) -> bool
     ensures { result ≡ is_name text.now }
 {
     match text {
@@ -53,7 +53,7 @@ fn is_name(text: &[u8]) -> bool
 
 /// Whether the text is a word without control bytes: not empty, with no space and no colon in
 /// front.
-fn is_word(text: &[u8]) -> bool
+pub fn is_word(text: &[u8]) -> bool
     ensures { result ≡ is_word text.now }
 {
     match text {
@@ -87,7 +87,7 @@ fn is_port(text: &str) -> bool
 }
 
 /// Whether the text is `HOST:PORT`, with a host that is not empty and holds no colon.
-fn is_address(text: &str) -> bool
+pub fn is_address(text: &str) -> bool
     ensures { result ≡ is_address text.now }
 {
     match text.split_once(':') {

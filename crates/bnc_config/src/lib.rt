@@ -14,6 +14,7 @@ mod table;
 mod text;
 mod users;
 
+pub use allowed::{is_address, is_name, is_word};
 pub use config::Config;
 pub use fault::ConfigFault;
 pub use key::Key;
