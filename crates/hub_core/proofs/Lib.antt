@@ -4,6 +4,7 @@ pub mod Walk
 pub mod FoundRoom
 pub mod Sets
 pub mod Kept
+pub mod Seats
 pub mod Running
 pub mod Splits
 pub mod Unread

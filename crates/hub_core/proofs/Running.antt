@@ -12,6 +12,7 @@ use Rattle.history.specs.{Entry.IsWrittenEntry, Marks.NameMarks, Messages.{AreKe
 use Rattle.hub_core.proofs.{Each.{each_append, each_sent}, Kept.{numbered_heard, numbered_said}}
 use Rattle.hub_core.proofs.Kept.{entry_is_message, filter_more, missed_are_messages, numbered_start}
 use Rattle.hub_core.proofs.{Kept.{pong_unsaid, puts_unsaid}, LostChannels.no_loss}
+use Rattle.hub_core.{proofs.Seats.{remain_sent, seated}, specs.Bounds.AreSeated}
 use Rattle.hub_core.specs.{Attaching.refusal_of, Given.with_caps, Online.{is_welcome, says_online}}
 use Rattle.hub_core.specs.{LostChannels.Joinings, Pumping.{Next, Takes}}
 use Rattle.hub_core.specs.Running.{EachAgrees, IsRunning}
@@ -133,9 +134,9 @@ module _ {alone : Bool} {h h' : HubState} {v : View} {online : Bool} {lost : Joi
 
   -- it is held
   pub holds_on : (w : View) (lost' : Joinings) → w ≡ v → lost' ≡ lost → h'.held ≡ Some x
-      → h'.sessions ≡ h.sessions → h'.history ≡ h.history → h'.first ≡ h.first
+      → h'.sessions ≡ h.sessions → h'.next ≡ h.next → h'.history ≡ h.history → h'.first ≡ h.first
       → h'.upstream.sent ≡ h.upstream.sent → IsRunning h' w online lost'
-  holds_on w lost' same still e s k f u = grind (arith, now, less_some)
+  holds_on w lost' same still e s n k f u = grind (arith, now, less_some)
 
 module _ {alone outlet : Bool} {h h' : HubState} {v : View} {online : Bool} {lost : Joinings}
     {cut : ℕ} (t : Takes alone outlet h cut h') (run : IsRunning h v online lost) where
@@ -159,6 +160,8 @@ module _ {alone outlet : Bool} {h h' : HubState} {v : View} {online : Bool} {los
         online_is = grind (arith, all, on, run.online_is, online_more (heard h) t.item.0);
         lost_is = rw all left;
         fit = rw all (fits run.fit t.sessions);
+        seated = let left = remain_sent outlet _ _ _ t.sessions in
+            rw t.others (seated left run.seated);
         numbered = let more = filter_more entry_for in
             grind (arith, t.held, less_none, taken, quiet, t.others, t.history, more, step);
       }
@@ -170,10 +173,10 @@ pub runs_with : {h : HubState} {v : View} {online : Bool} {lost : Joinings}
     (ss : List SessionState) (next : Option ℕ) (upstream : OutletState) (marks : NameMarks)
     → IsRunning h v online lost
     → filter_map content_said upstream.sent ≡ filter_map content_said h.upstream.sent
-    → EachFits (heard h) ss
+    → EachFits (heard h) ss → AreSeated next ss
     → IsRunning record h { sessions = ss; next = next; upstream = upstream; marks = marks } v online
     lost
-runs_with ss next upstream marks run u fit = grind arith
+runs_with ss next upstream marks run u fit seated = grind arith
 
 -- the burst is read as the view
 pub attached_fits : (alone : Bool) (h : HubState) (v : View) (online : Bool) {lost : Joinings}
@@ -208,10 +211,10 @@ pub said_on : (h : HubState) (v : View) (online : Bool) {lost : Joinings}
     → history ≡ with_entry h.history e → upstream.sent ≡ h.upstream.sent ++ p ∷ []
     → content_said p ≡ option_map content e → (IsSome e → IsSome h.history.next)
     → IfSome e (λ e. IsTrue (is_message_command e.command)) → IfSome e IsWrittenEntry
-    → EachFits (heard h) ss
+    → EachFits (heard h) ss → AreSeated h.next ss
     → IsRunning record h { sessions = ss; upstream = upstream; history = history; images = images }
     v online lost
-said_on h v online ss upstream history images e p run k u c some is written fit =
+said_on h v online ss upstream history images e p run k u c some is written fit seated =
     let step = numbered_said (entries_heard h) (contents_said h) h.first h.history run.numbered e some
     is written in
     grind (arith, filter_more content_said, step)

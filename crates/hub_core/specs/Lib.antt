@@ -1,5 +1,7 @@
 pub mod States
 pub mod Codes
+pub mod Bounds
+pub mod Forgetting
 pub mod Given
 pub mod Online
 pub mod Running

@@ -13,6 +13,7 @@ use Rattle.client_caps.specs.LateAttach.{as_received}
 use Rattle.history.specs.Entry.{EntryParts, is_message, is_message_command}
 use Rattle.history.specs.Messages.{AreKeptBefore, AreWrittenMessages, Messages, numbered}
 use Rattle.irc_support.specs.Text.{Text}
+use Rattle.hub_core.specs.Bounds.{AreSeated}
 use Rattle.hub_core.specs.Online.{is_online}
 use Rattle.hub_core.specs.LostChannels.{Joinings, lost_channels}
 use Rattle.hub_core.specs.Pumping.{entry_for, with_entry}
@@ -101,4 +102,5 @@ pub record IsRunning (h : HubState) (v : View) (online : Bool) (lost : Joinings)
   pub online_is : online ≡ is_online (heard h)
   pub lost_is : lost ≡ lost_channels (heard h)
   pub fit : EachFits (heard h) h.sessions
+  pub seated : AreSeated h.next h.sessions
   pub numbered : AreNumbered (entries_heard h) (contents_said h) h.first h.history

@@ -113,6 +113,7 @@ impl<V: NetworkView + Drop, I: Inlet, O: Outlet> Model for Hub<V, I, O> {
 
 impl<V: NetworkView + Drop, I: Inlet, O: Outlet> Hub<V, I, O> {
     ghost use Rattle.hub_core.specs.States.{view_now, heard, started, started_from};
+    ghost use Rattle.hub_core.specs.Bounds.{IsBounded};
     ghost use Rattle.hub_core.specs.Online.{is_online};
     ghost use Rattle.hub_core.specs.Running.{EachAgrees, IsRunning};
     ghost use Rattle.hub_core.specs.LostChannels.{joining, lost_channels};
@@ -238,8 +239,11 @@ impl<V: NetworkView + Drop, I: Inlet, O: Outlet> Hub<V, I, O> {
         ensures running { IsRunning self.now (view_now self.now) (is_online (heard self.now))
             (lost_channels (heard self.now)) }
         ensures agree { EachAgrees (view_now self.now) self.now.sessions }
+        ensures bounded { IsBounded self.now }
     {
-        let _ = &self.view;
+        let _names = self.marks.count();
+        let _targets = self.history.target_count();
+        self.history.can_come_again();
     }
 
     /// The outlet to the network.
@@ -276,6 +280,13 @@ impl<V: NetworkView + Drop, I: Inlet, O: Outlet> Hub<V, I, O> {
         ensures { result.now ≡ self.now.history }
     {
         &self.history
+    }
+
+    /// What each client name has seen.
+    pub fn marks(&self) -> &Marks
+        ensures { result.now ≡ self.now.marks }
+    {
+        &self.marks
     }
 
     /// How many channels are to be joined again: those that we were on when a connection was lost,

@@ -5,6 +5,7 @@
 mod attach;
 mod deliver;
 mod detach;
+mod forgetting;
 mod hub;
 mod image_table;
 mod incoming;
@@ -21,6 +22,7 @@ mod state_parts;
 mod upkeep;
 
 pub use attach::{AttachError, NoSession};
+pub use forgetting::ForgetFault;
 pub use history::CapacityError;
 pub use hub::{Hub, HubError, Pumped, Setup};
 pub use lost::LostChannel;

@@ -93,7 +93,6 @@ impl<V: NetworkView + Drop, I: Inlet, O: Outlet> Hub<V, I, O> {
     /// that they hold at most, or for none, in the order in which the sessions were attached.
     /// `OutOfMemory` is told where an allocation was refused. Nothing changes, but that more room
     /// may be known of.
-    #[tactic(auto, using(crate::proofs::Walk::fits_freed))]
     pub fn nearly_full(&mut self) -> Result<Vec<SessionId>, OutOfMemory>
         ensures hub { Frees O.alone self.old self.new }
         ensures numbers { IfOk result (λ numbers. numbers.items ≡ nearly_full self.new.sessions) }

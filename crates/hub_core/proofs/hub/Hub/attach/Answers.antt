@@ -2,6 +2,7 @@ use Rattle.hub_core.proofs.hub.Hub.attach.Goals as goal
 use Rattle.hub_core.proofs.hub.Hub.attach.Given
 use Rattle.{history.specs.Marks.mark_of, hub_core.proofs.FoundRoom.found_took}
 use Rattle.hub_core.proofs.{Running.{attached_fits, is_ready, runs_with}, Words.{◌++◌, ◌∙◌, ◌∷◌}}
+use Rattle.hub_core.{proofs.Seats.{seated_more, under_limit}, specs.Bounds.AreSeated}
 use Rattle.hub_core.proofs.Words.{◌≡◌, EachFits, HubState, None, Option, Session, SessionState, heard}
 use Rattle.hub_core.proofs.Words.{Some, Text, Took, [], hub_of, map, map-append, option_and_then}
 use Rattle.hub_core.{proofs.Words.{option_map, refl, state_of, view_now}, specs.Attaching.Attaches}
@@ -69,8 +70,15 @@ module _ (g : Given.Over) (c : goal.After-push_reserved g) where
       c.self.invariant.0 (rw c.self.invariant.0.view_is (is_ready old name parts.1)) c.requires.0
       c.requires.1 (rw (← c.self.invariant.0.view_is) at sent))
 
+  -- there was room for one more
+  seats : AreSeated c.number_after-self-inside.result (map state c.push_reserved.new.self.items)
+  seats =
+      rw (now, c.number_after-self-inside.ensures) (seated_more _ refl (under_limit old name parts.1)
+      (rw parts.0 at c.self.invariant.0.seated))
+
 pub invariant_of-self-2 : goal.invariant_of-self-2
-invariant_of-self-2 g c = (runs_with _ _ _ _ c.self.invariant.0 refl (fit g c), c.self.invariant.1)
+invariant_of-self-2 g c =
+    (runs_with _ _ _ _ c.self.invariant.0 refl (fit g c) (seats g c), c.self.invariant.1)
 
 pub returns-clause-ok : goal.returns-clause-ok
 returns-clause-ok g c = rw (← (c.self.view_is ∙ c.parts_for.ensures.same)) (attaches g c)

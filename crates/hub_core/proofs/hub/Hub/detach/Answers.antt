@@ -1,7 +1,7 @@
 use Rattle.hub_core.proofs.hub.Hub.detach.Goals as goal
 use Rattle.hub_core.proofs.hub.Hub.detach.Given
 use Rattle.hub_core.{proofs.Each.{each_at, each_without}, specs.Attaching.{Detaches, marked}}
-use Rattle.hub_core.proofs.{Running.runs_with, Splits.{around_of, lacks}, Words.{◌∙◌, ◌≡◌, ap, map}}
+use Rattle.hub_core.proofs.{Running.runs_with, Seats.{remain_without, seated}, Splits.{around_of, lacks}, Words.{◌∙◌, ◌≡◌, ap, map}}
 use Rattle.hub_core.proofs.Words.{◌++◌, Around, Fits, HubState, hub_of, map-append, refl, state_of}
 
 pub returns-in_default-clause-err : goal.returns-in_default-clause-err
@@ -46,8 +46,12 @@ module _ (g : Given.Over) (c : goal.Joined-gone-2 g) where
 
 pub invariant_of-self : goal.invariant_of-self
 invariant_of-self g c = (
-  runs_with _ _ _ _ c.self.invariant.0 refl (rw (now g c) (each_without (Fits _) (around g c).front
-      (around g c).here (around g c).back (rw (around g c).was at c.self.invariant.0.fit))),
+  let a = around g c in
+      runs_with _ _ _ _ c.self.invariant.0 refl
+      (rw (now g c) (each_without (Fits _) a.front a.here a.back
+      (rw a.was at c.self.invariant.0.fit)))
+      (rw (now g c) (seated (remain_without a.front a.here a.back)
+      (rw a.was at c.self.invariant.0.seated))),
   c.self.invariant.1,
 )
 

@@ -58,6 +58,6 @@ invariant_of-self-2 g c = (
   runs_with _ _ _ _ c.self.invariant.0
       (rw (forwards g c).upstream.sent (sent_more (old g c.self.inside).upstream.sent
       (sent_up c.args.line.now ∷ []) (unsaid c.args.line.now (sym c.if-is_for_all-2.ensures))))
-      c.self.invariant.0.fit,
+      c.self.invariant.0.fit c.self.invariant.0.seated,
   c.self.invariant.1,
 )

@@ -9,3 +9,12 @@ returns-clause-running g c =
 
 pub returns-clause-agree : goal.returns-clause-agree
 returns-clause-agree g c = rw (← c.self.view_is) (each_agrees _ _ c.self.invariant.0.fit)
+
+pub returns-clause-bounded : goal.returns-clause-bounded
+returns-clause-bounded g c =
+    rw (← c.self.view_is) (record {
+      sessions = c.self.invariant.0.seated;
+      names = c.count-names.ensures.few;
+      targets = c.target_count-targets.ensures.few;
+      messages = c.can_come_again.ensures;
+    })

@@ -30,7 +30,7 @@ pub invariant_of-self-2 : goal.invariant_of-self-2
 invariant_of-self-2 g c = (
   runs_with _ _ _ _ c.self.invariant.0
       (rw (took g c).sent (sent_more (old g c.self.inside).upstream.sent (life_asked ∷ []) refl))
-      c.self.invariant.0.fit,
+      c.self.invariant.0.fit c.self.invariant.0.seated,
   c.self.invariant.1,
 )
 

@@ -14,7 +14,7 @@ invariant_of-self-in-Err g c = (
   holds_on _
       record { taken = c.in-Some.ensures.taken; ahead = c.in-Some.ensures.ahead }
       c.self.invariant.0 _ _ refl (ap (shown joining) c.prepare_arrival.ensures.all) refl
-      c.prepare_arrival.ensures.states refl refl refl,
+      c.prepare_arrival.ensures.states refl refl refl refl,
   c.drop_if_short.ensures.kept _ c.self.invariant.1,
 )
 
@@ -23,7 +23,7 @@ invariant_of-self-in-Err-keep g c = (
   holds_on _
       record { taken = c.in-Some.ensures.taken; ahead = c.in-Some.ensures.ahead }
       c.self.invariant.0 _ _ refl (ap (shown joining) c.prepare_arrival.ensures.all) refl
-      c.prepare_arrival.ensures.states c.in-Err-keep.ensures.same refl refl,
+      c.prepare_arrival.ensures.states refl c.in-Err-keep.ensures.same refl refl,
   c.drop_if_short-in-Err-keep.ensures.kept _ c.self.invariant.1,
 )
 
@@ -42,7 +42,7 @@ invariant_of-self-in-Err-take g c = (
   holds_on _
       record { taken = c.in-Some.ensures.taken; ahead = c.in-Some.ensures.ahead }
       c.self.invariant.0 _ _ c.in-Err-take.ensures.kept
-      (ap (shown joining) c.prepare_arrival.ensures.all) refl c.prepare_arrival.ensures.states
+      (ap (shown joining) c.prepare_arrival.ensures.all) refl c.prepare_arrival.ensures.states refl
       (kept g c) refl refl,
   c.drop_if_short-in-Err-take.ensures.kept _ (rw c.in-Err-take.ensures.kept c.self.invariant.1),
 )

@@ -2,7 +2,8 @@ use Rattle.hub_core.specs.declared.hub.HubError.TheVariants as fault
 use Rattle.hub_core.proofs.hub.Hub.said.Goals as goal
 use Rattle.hub_core.proofs.hub.Hub.said.Given
 use Rattle.{client_caps.specs.Answers.asked, hub_core.proofs.Running.runs_with}
-use Rattle.hub_core.proofs.Splits.{answered_by, around_of, fits_answered, item_at, lacks}
+use Rattle.hub_core.proofs.{Seats.seated, Splits.{answered_by, around_of, fits_answered, item_at, lacks}}
+use Rattle.hub_core.proofs.Splits.{remain_answered}
 use Rattle.hub_core.proofs.Words.{Around, HubState, Inside, Session, SessionState, Some, ap, heard}
 use Rattle.hub_core.proofs.Words.{hub_of, inl, inr, is_some, map, position, refl, rules, state_of}
 use Rattle.hub_core.{proofs.Words.{with_sessions, ℕ, ◌==◌, ◌≡◌}, specs.Saying.{Responds, granted}}
@@ -71,7 +72,10 @@ invariant_of-self-in-Asks g c = (
       c.args.line.now c.in_ok-respond-in-Asks.field-0 _ c.self.invariant.0.view_is
       (c.answers_tell_nothing.ensures (g.V.NetworkView.view c.self.inside.view).own a.here.caps
       (is_some (granted (asked c.args.line.now) a.here.caps c.args.line.now)) c.args.line.now)
-      (rw a.was at c.self.invariant.0.fit) (responds g c)),
+      (rw a.was at c.self.invariant.0.fit) (responds g c))
+      (seated (remain_answered g.O.Outlet.alone (g.V.NetworkView.view c.self.inside.view) a.front
+      a.here a.back c.args.line.now c.in_ok-respond-in-Asks.field-0 _ (responds g c))
+      (rw a.was at c.self.invariant.0.seated)),
   c.self.invariant.1,
 )
 

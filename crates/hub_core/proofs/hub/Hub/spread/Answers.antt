@@ -1,6 +1,7 @@
 use Rattle.hub_core.proofs.hub.Hub.spread.Goals as goal
 use Rattle.hub_core.proofs.hub.Hub.spread.Given
 use Rattle.hub_core.proofs.{Kept.{entry_is_message, said_content}, Running.{online_owned, said_on}}
+use Rattle.hub_core.proofs.Seats.{remain_sent, seated}
 use Rattle.hub_core.proofs.{Unread.{each_fits_unread, given_unread, said_unread}, Words.{◌∷◌, ◌≡◌}}
 use Rattle.hub_core.proofs.Words.{Came, Delivered, Forwards, HubState, IsSome, Parts, Received}
 use Rattle.hub_core.proofs.Words.{Session, SessionState, Some, View, [], entry_for, given_but}
@@ -77,7 +78,8 @@ invariant_of-self-2 g c = (
       (given_but (Some c.args.id) (packet_for (view g c) x)) (old g c).sessions _
       (given_unread (Some c.args.id) (packet_for (view g c) x)
       (λ caps. said_unread (view g c) (own g c) c.args.moment.0 caps c.requires.message))
-      c.self.invariant.0.fit (delivered g c (view g c) refl)),
+      c.self.invariant.0.fit (delivered g c (view g c) refl))
+      (seated (remain_sent _ _ _ _ (delivered g c (view g c) refl)) c.self.invariant.0.seated),
   c.self.invariant.1,
 )
 

@@ -4,7 +4,8 @@ use Rattle.hub_core.proofs.{Running.runs_with, Words.{ap, content_said, filter_m
 pub invariant_of-self : goal.invariant_of-self
 invariant_of-self g c = (
   runs_with _ _ _ _ c.self.invariant.0
-      (ap (filter_map content_said) c.free.ensures.found.sent) c.self.invariant.0.fit,
+      (ap (filter_map content_said) c.free.ensures.found.sent) c.self.invariant.0.fit
+      c.self.invariant.0.seated,
   c.self.invariant.1,
 )
 

@@ -7,6 +7,7 @@ use Rattle.hub_core.proofs.Words.{Some, ap, get_or, hub_of, inl, inr, map, posit
 use Rattle.hub_core.proofs.Words.{set, state_of, sym, with_outlet, with_sessions, ℕ, ◌++◌, ◌==◌}
 use Rattle.{hub_core.proofs.Words.{◌∙◌, ◌∷◌, ◌≡◌}, hub_ends.specs.Memory.state_of as memory_state}
 use Rattle.hub_ends.specs.declared.memory_outlet.MemoryOutlet.{MemoryOutlet}
+use Rattle.hub_core.{proofs.{Seats.{remain_with, seated}, Words.Option}, specs.Bounds.AreSeated}
 use Rattle.irc_line.proofs.Outcomes.{on_err}
 
 abbrev state : Session MemoryOutlet → SessionState
@@ -36,6 +37,12 @@ module _ (g : Given.Over)
         rw now (each_with (Fits items) around.front around.here _ around.back
         (fits_same items around.here (memory_state o) sent closed here) all)
 
+    seats : {next : Option ℕ} → AreSeated next old.sessions
+        → AreSeated next (map state (set i.sessions.items place record s { outlet = o }))
+    seats all =
+        rw now (seated (remain_with around.front around.here _ around.back refl)
+        (rw around.was at all))
+
 pub returns-in_default-clause-ok : goal.returns-in_default-clause-ok
 returns-in_default-clause-ok g c =
     rw (← c.self.view_is)
@@ -45,7 +52,9 @@ pub invariant_of-self : goal.invariant_of-self
 invariant_of-self g c = (
   runs_with _ _ _ _ c.self.invariant.0 refl (fits g c.self.inside c.args.id _ _ _ c.in-Some.ensures
       c.index_mut.ensures.value _ c.drain.ensures.sent c.drain.ensures.closed
-      c.self.invariant.0.fit),
+      c.self.invariant.0.fit)
+      (seats g c.self.inside c.args.id _ _ _ c.in-Some.ensures c.index_mut.ensures.value
+      c.self.invariant.0.seated),
   c.self.invariant.1,
 )
 
@@ -53,7 +62,9 @@ pub invariant_of-self-2 : goal.invariant_of-self-2
 invariant_of-self-2 g c = (
   runs_with _ _ _ _ c.self.invariant.0 refl (fits g c.self.inside c.args.id _ _ _ c.in-Some.ensures
       c.index_mut.ensures.value _ c.drain.ensures.sent c.drain.ensures.closed
-      c.self.invariant.0.fit),
+      c.self.invariant.0.fit)
+      (seats g c.self.inside c.args.id _ _ _ c.in-Some.ensures c.index_mut.ensures.value
+      c.self.invariant.0.seated),
   c.self.invariant.1,
 )
 
