@@ -1,0 +1,3 @@
+pub mod Login
+pub mod Response
+pub mod Said
