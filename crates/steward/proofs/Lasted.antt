@@ -10,5 +10,5 @@ pub lasts_on : (a b c : Steward) → Lasts a b → Lasts b c → Lasts a c
 lasts_on a b c l m = (
   omega (arith, l.0, m.0),
   λ h. m.1 (stays_stopped a b l h) ∙ l.1 h,
-  (m.2.0 ∙ l.2.0, m.2.1 ∙ l.2.1, m.2.2 ∙ l.2.2),
+  (m.2.0 ∙ l.2.0, m.2.1 ∙ l.2.1),
 )

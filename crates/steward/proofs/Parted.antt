@@ -2,7 +2,7 @@
 use Rattle.std.proofs.Common.{◌≡◌, ◌≤◌, ℕ, Bool, true, false, not, nat_eq, ◌&&◌, ◌||◌, List, refl, arith, IfSome, None, Option, Some, get_or, sym}
 use Rattle.std.proofs.lemmas.List.Sums.{sum_by-le-sum_by}
 use Rattle.steward.specs.declared.network.Network.{Network}
-use Rattle.steward.specs.Networks.{has_let_in, has_number, is_online_as, onlines}
+use Rattle.steward.specs.Networks.{is_online_by, has_number, is_online_as, onlines}
 use Rattle.steward.specs.declared.client.Client.{Client}
 use Rattle.steward.specs.Clients.{is_open_in}
 use Rattle.steward.specs.Partings.{IsOpenIn, is_changed_at, is_left_at, is_outdated_at, outdated}
@@ -41,17 +41,17 @@ pub left_numbered : (n : ℕ) (z : Network) → bit (is_left_at n z) ≤ bit (ha
 left_numbered n z = both_le z.is_left (nat_eq z.number n)
 
 pub outdated_numbered : (n : ℕ) (z : Network) → bit (is_outdated_at n z) ≤ bit (has_number n z)
-outdated_numbered n z = outer_le (has_let_in z.phase) (z.is_left || z.is_changed) (nat_eq z.number n)
+outdated_numbered n z = outer_le (is_online_by z.phase) (z.is_left || z.is_changed) (nat_eq z.number n)
 
 -- without a connection that has let us in there is none by settings of before
 pub outdated-le : (n : ℕ) (xs : List Network) → outdated n xs ≤ onlines n xs
 outdated-le n xs =
-    sum_by-le-sum_by (λ z. bit (is_outdated_at n z)) (λ z. bit (is_online_as n z)) xs (λ z. middle_le (has_let_in z.phase) (z.is_left || z.is_changed) (nat_eq z.number n))
+    sum_by-le-sum_by (λ z. bit (is_outdated_at n z)) (λ z. bit (is_online_as n z)) xs (λ z. middle_le (is_online_by z.phase) (z.is_left || z.is_changed) (nat_eq z.number n))
 
 pub not_outdated : (n : ℕ) (x : Network) → x.is_left ≡ false → x.is_changed ≡ false →
     bit (is_outdated_at n x) ≡ 0
 not_outdated n x e f =
-    middle_off (has_let_in x.phase) (x.is_left || x.is_changed) (nat_eq x.number n) (neither x.is_left x.is_changed e f)
+    middle_off (is_online_by x.phase) (x.is_left || x.is_changed) (nat_eq x.number n) (neither x.is_left x.is_changed e f)
 
 pub not_left : (n : ℕ) (x : Network) → x.is_left ≡ false → bit (is_left_at n x) ≡ 0
 not_left n x e = rw e refl

@@ -9,6 +9,7 @@ use Rattle.steward.specs.declared.fleet.Ended.TheVariants as ended
 use Rattle.steward.specs.declared.fleet.Turn.TheVariants as turn
 use Rattle.steward.specs.declared.network.Wanted.{Wanted}
 use Rattle.steward.specs.declared.steward.Steward.{Steward}
+use Rattle.steward.specs.declared.times.Times.{Times}
 use Rattle.steward.specs.Clients.{opened_in}
 use Rattle.steward.specs.Endings.{IsLost}
 use Rattle.steward.specs.Networks.{has_number, others, served, times_wanted}
@@ -27,15 +28,22 @@ IsAnsweredLate _ number now old new = Unit {0}
 -- after a stop nothing is dialled
 abbrev pub IsAsked : Answer → ℕ → ℕ → Steward → Steward → Type 0
 IsAsked (answer.Dial network) number now old new = (network ≡ number) × (old.stop ≡ None) ×
-    IsTurn turn.Dial number now old.fleet.networks.items new.fleet.networks.items
+    IsTurn turn.Dial number now old.fleet.times.gap old.fleet.networks.items
+    new.fleet.networks.items
 IsAsked (answer.RestUntil time) number now old new =
-    IsTurn (turn.Rest time) number now old.fleet.networks.items new.fleet.networks.items
+    IsTurn (turn.Rest time) number now old.fleet.times.gap old.fleet.networks.items
+    new.fleet.networks.items ⊎
+    IsTurn (turn.Yield time) number now old.fleet.times.gap old.fleet.networks.items
+    new.fleet.networks.items
 IsAsked answer.WaitForOther number now old new =
-    IsTurn turn.Wait number now old.fleet.networks.items new.fleet.networks.items
+    IsTurn turn.Wait number now old.fleet.times.gap old.fleet.networks.items
+    new.fleet.networks.items
 IsAsked answer.Over number now old new = (is_some old.stop ≡ true) ⊎
-    IsTurn turn.Over number now old.fleet.networks.items new.fleet.networks.items
+    IsTurn turn.Over number now old.fleet.times.gap old.fleet.networks.items
+    new.fleet.networks.items
 IsAsked answer.Nothing number now old new =
-    IsTurn turn.Busy number now old.fleet.networks.items new.fleet.networks.items
+    IsTurn turn.Busy number now old.fleet.times.gap old.fleet.networks.items
+    new.fleet.networks.items
 IsAsked _ number now old new = ⊥
 
 -- what becomes of the network of this number once its connection has ended
@@ -68,11 +76,11 @@ IsBegunAnew answer.Nothing number bytes old new = (is_some old.stop ≡ true × 
 IsBegunAnew _ number bytes old new = ⊥
 
 -- the networks served are those of these settings, each name once; those that were there stand first,
--- each as the settings have it; after a stop nothing changes
-abbrev pub IsReloaded : Answer → List Wanted → ℕ → Steward → Steward → Type 0
-IsReloaded answer.Reloaded list now old new = (old.stop ≡ None) × (old.settings < new.settings) ×
-    (new.read_at ≡ now) ×
+-- each as the settings have it, and networks rest as these say; after a stop nothing changes
+abbrev pub IsReloaded : Answer → List Wanted → Times → ℕ → Steward → Steward → Type 0
+IsReloaded answer.Reloaded list times now old new = (old.stop ≡ None) × (old.settings < new.settings) ×
+    (new.read_at ≡ now) × (new.fleet.times ≡ times) ×
     ((name : ℕ) → served name new.fleet.networks.items ≡ min 1 (times_wanted name list)) ×
     Keeps (map (gone_by now list) old.fleet.networks.items) new.fleet.networks.items
-IsReloaded answer.Nothing list now old new = (is_some old.stop ≡ true) × (new ≡ old)
-IsReloaded _ list now old new = ⊥
+IsReloaded answer.Nothing list times now old new = (is_some old.stop ≡ true) × (new ≡ old)
+IsReloaded _ list times now old new = ⊥

@@ -8,11 +8,11 @@ use Rattle.steward.specs.declared.event.Why.TheVariants as why
 use Rattle.steward.specs.declared.network.Network.{Network}
 use Rattle.steward.specs.declared.steward.Steward.{Steward}
 use Rattle.steward.specs.Clients.{is_open_in, opened_in}
-use Rattle.steward.specs.Networks.{has_let_in}
+use Rattle.steward.specs.Networks.{is_online_by}
 
--- it has let us in, by settings that are not those of now, and was not sent QUIT
+-- its connection is by settings that are not those of now, and was not sent QUIT
 abbrev pub is_outdated_at : ℕ → Network → Bool
-is_outdated_at n x = has_let_in x.phase && (x.is_left || x.is_changed) && (x.number == n)
+is_outdated_at n x = is_online_by x.phase && (x.is_left || x.is_changed) && (x.number == n)
 
 abbrev pub is_left_at : ℕ → Network → Bool
 is_left_at n x = x.is_left && (x.number == n)

@@ -1,12 +1,16 @@
 //! Networks that are dialled, lost, reloaded and stopped.
 
-use crate::rows::{CAME, MOVED, NET, ONLINE, RENAMED, check, lost, right, steward};
+use crate::rows::{
+    CAME, MOVED, NET, ONLINE, OTHER, RENAMED, check, lost, right, settings, steward,
+};
 use std::test::Fail;
 use steward::Event;
 
 const ASKS: Event<'static> = Event::Asks { network: 0 };
 
 const ASKS_1: Event<'static> = Event::Asks { network: 1 };
+
+const CONNECTED: Event<'static> = Event::Connected { network: 0 };
 
 const PARTS: Event<'static> = Event::Parts { network: 0 };
 
@@ -16,7 +20,7 @@ fn a_renamed_network_waits_for_its_nick(rt: HostRuntime) -> Result<(), Fail> {
     let mut steward = steward(rt.alloc());
     check(&rt, &mut steward, &ONLINE)?;
     let rows = [
-        (10, Event::Settings(&[RENAMED]), "Reloaded"),
+        (10, settings(&[RENAMED]), "Reloaded"),
         (11, ASKS_1, "WaitForOther"),
         (12, PARTS, "Quit { network: 0, why: Removed }"),
         (13, ASKS_1, "WaitForOther"),
@@ -33,7 +37,7 @@ fn a_renamed_network_waits_for_its_nick(rt: HostRuntime) -> Result<(), Fail> {
 fn dials_that_fail_back_off(rt: HostRuntime) -> Result<(), Fail> {
     let mut steward = steward(rt.alloc());
     let rows = [
-        (0, Event::Settings(&[NET]), "Reloaded"),
+        (0, settings(&[NET]), "Reloaded"),
         (0, ASKS, "Dial { network: 0 }"),
         (0, lost(0), "EndedUntil { network: 0, time: 100 }"),
         (100, ASKS, "Dial { network: 0 }"),
@@ -44,12 +48,20 @@ fn dials_that_fail_back_off(rt: HostRuntime) -> Result<(), Fail> {
         (550, lost(0), "EndedUntil { network: 0, time: 800 }"),
         (799, ASKS, "RestUntil(800)"),
         (800, ASKS, "Dial { network: 0 }"),
+        (800, CONNECTED, "Register { network: 0 }"),
         (
             801,
             Event::Registered { network: 0 },
             "Welcome { network: 0 }",
         ),
-        (850, lost(0), "EndedUntil { network: 0, time: 950 }"),
+        (
+            850,
+            Event::Lost {
+                network: 0,
+                chance: 7,
+            },
+            "EndedUntil { network: 0, time: 950 }",
+        ),
     ];
     check(&rt, &mut steward, &rows)
 }
@@ -60,13 +72,14 @@ fn dials_that_fail_back_off(rt: HostRuntime) -> Result<(), Fail> {
 fn a_changed_network_is_dialled_anew(rt: HostRuntime) -> Result<(), Fail> {
     let mut steward = steward(rt.alloc());
     let rows = [
-        (0, Event::Settings(&[NET]), "Reloaded"),
+        (0, settings(&[NET]), "Reloaded"),
         (0, ASKS, "Dial { network: 0 }"),
         (10, lost(0), "EndedUntil { network: 0, time: 110 }"),
         (20, ASKS, "RestUntil(110)"),
-        (30, Event::Settings(&[MOVED]), "Reloaded"),
+        (30, settings(&[MOVED]), "Reloaded"),
         (30, PARTS, "Nothing"),
         (30, ASKS, "Dial { network: 0 }"),
+        (30, CONNECTED, "Register { network: 0 }"),
         (
             31,
             Event::Registered { network: 0 },
@@ -74,9 +87,9 @@ fn a_changed_network_is_dialled_anew(rt: HostRuntime) -> Result<(), Fail> {
         ),
         (32, CAME, "Serve { client: 0 }"),
         (32, right(0, 2, 7), "LetIn { client: 0, network: 0 }"),
-        (40, Event::Settings(&[MOVED]), "Reloaded"),
+        (40, settings(&[MOVED]), "Reloaded"),
         (40, PARTS, "Nothing"),
-        (50, Event::Settings(&[NET]), "Reloaded"),
+        (50, settings(&[NET]), "Reloaded"),
         (50, PARTS, "Quit { network: 0, why: Changed }"),
         (50, PARTS, "Nothing"),
         (60, lost(0), "EndedUntil { network: 0, time: 160 }"),
@@ -93,16 +106,16 @@ fn a_removed_network_parts(rt: HostRuntime) -> Result<(), Fail> {
     let rows = [
         (2, CAME, "Serve { client: 0 }"),
         (2, right(0, 1, 7), "LetIn { client: 0, network: 0 }"),
-        (10, Event::Settings(&[]), "Reloaded"),
+        (10, settings(&[]), "Reloaded"),
         (10, PARTS, "Tell { client: 0, why: Removed }"),
         (59, PARTS, "Wait"),
         (60, PARTS, "Quit { network: 0, why: Removed }"),
         (60, PARTS, "Nothing"),
         (70, lost(0), "EndedOver { network: 0 }"),
-        (80, Event::Settings(&[NET]), "Reloaded"),
+        (80, settings(&[NET]), "Reloaded"),
         (80, ASKS_1, "Dial { network: 1 }"),
-        (81, Event::Settings(&[]), "Reloaded"),
-        (82, Event::Registered { network: 1 }, "GiveUp"),
+        (81, settings(&[]), "Reloaded"),
+        (82, Event::Connected { network: 1 }, "GiveUp"),
     ];
     check(&rt, &mut steward, &rows)
 }
@@ -112,14 +125,14 @@ fn a_removed_network_parts(rt: HostRuntime) -> Result<(), Fail> {
 fn a_network_without_threads(rt: HostRuntime) -> Result<(), Fail> {
     let mut steward = steward(rt.alloc());
     let rows = [
-        (0, Event::Settings(&[NET]), "Reloaded"),
+        (0, settings(&[NET]), "Reloaded"),
         (
             0,
             Event::Unstarted { network: 0 },
             "Forgotten { network: 0 }",
         ),
         (0, Event::Unstarted { network: 0 }, "Nothing"),
-        (1, Event::Settings(&[NET]), "Reloaded"),
+        (1, settings(&[NET]), "Reloaded"),
         (1, ASKS_1, "Dial { network: 1 }"),
         (1, Event::Unstarted { network: 1 }, "Nothing"),
     ];
@@ -155,7 +168,7 @@ fn a_stop_comes_to_its_end(rt: HostRuntime) -> Result<(), Fail> {
         (10, Event::Stop, "Nothing"),
         (11, CAME, "TurnAway"),
         (11, right(0, 1, 7), "Nothing"),
-        (11, Event::Settings(&[]), "Nothing"),
+        (11, settings(&[]), "Nothing"),
         (
             11,
             Event::Keeps {
@@ -179,9 +192,59 @@ fn a_stop_comes_to_its_end(rt: HostRuntime) -> Result<(), Fail> {
 fn a_stop_with_nobody_there(rt: HostRuntime) -> Result<(), Fail> {
     let mut steward = steward(rt.alloc());
     let rows = [
-        (0, Event::Settings(&[NET]), "Reloaded"),
+        (0, settings(&[NET]), "Reloaded"),
         (10, Event::Stop, "Nothing"),
         (10, Event::Ends, "Exit"),
+    ];
+    check(&rt, &mut steward, &rows)
+}
+
+/// Of networks at one address the first is dialled at once, and the next 10 later.
+#[test]
+fn networks_at_one_address_are_dialled_apart(rt: HostRuntime) -> Result<(), Fail> {
+    let mut steward = steward(rt.alloc());
+    let rows = [
+        (0, settings(&[NET, OTHER]), "Reloaded"),
+        (0, ASKS, "Dial { network: 0 }"),
+        (0, ASKS_1, "RestUntil(10)"),
+        (10, ASKS_1, "Dial { network: 1 }"),
+        (
+            10,
+            Event::Lost {
+                network: 1,
+                chance: 29,
+            },
+            "EndedUntil { network: 1, time: 113 }",
+        ),
+    ];
+    check(&rt, &mut steward, &rows)
+}
+
+/// A removed network holds up its successor only while there is a connection; it is sent QUIT while
+/// it registers.
+#[test]
+fn a_network_that_is_removed_before_it_is_served(rt: HostRuntime) -> Result<(), Fail> {
+    let mut steward = steward(rt.alloc());
+    let rows = [
+        (0, settings(&[NET]), "Reloaded"),
+        (0, ASKS, "Dial { network: 0 }"),
+        (5, settings(&[RENAMED]), "Reloaded"),
+        (5, PARTS, "Nothing"),
+        (20, ASKS_1, "Dial { network: 1 }"),
+        (21, CONNECTED, "GiveUp"),
+        (22, lost(0), "EndedOver { network: 0 }"),
+        (
+            23,
+            Event::Connected { network: 1 },
+            "Register { network: 1 }",
+        ),
+        (24, settings(&[]), "Reloaded"),
+        (
+            25,
+            Event::Parts { network: 1 },
+            "Quit { network: 1, why: Removed }",
+        ),
+        (26, Event::Registered { network: 1 }, "GiveUp"),
     ];
     check(&rt, &mut steward, &rows)
 }

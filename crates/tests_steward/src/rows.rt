@@ -11,6 +11,7 @@ pub(crate) type Row = (u64, Event<'static>, &'static str);
 /// A network, by numbers for its name, its address and nick, and its settings.
 pub(crate) const NET: Wanted = Wanted {
     name: 7,
+    address: 700,
     holds: 70,
     settings: 1,
 };
@@ -18,6 +19,7 @@ pub(crate) const NET: Wanted = Wanted {
 /// The same by another name.
 pub(crate) const RENAMED: Wanted = Wanted {
     name: 8,
+    address: 700,
     holds: 70,
     settings: 1,
 };
@@ -25,11 +27,27 @@ pub(crate) const RENAMED: Wanted = Wanted {
 /// The same at another address.
 pub(crate) const MOVED: Wanted = Wanted {
     name: 7,
+    address: 701,
     holds: 71,
     settings: 1,
 };
 
-/// Two seats, one late answer, two sessions; networks rest 100 to 250; a denied login is answered
+/// Another network at the first address.
+pub(crate) const OTHER: Wanted = Wanted {
+    name: 9,
+    address: 700,
+    holds: 72,
+    settings: 1,
+};
+
+/// Networks rest 100 to 250, and dials at one address are 10 apart.
+pub(crate) const TIMES: Times = Times {
+    retry: 100,
+    most: 250,
+    gap: 10,
+};
+
+/// Two seats, one late answer, two sessions; a denied login is answered
 /// after 1,000; a removed network has 50 for its clients, and so have clients and networks at a stop.
 pub(crate) fn steward(alloc: Global) -> Steward {
     let limits = Limits {
@@ -38,10 +56,6 @@ pub(crate) fn steward(alloc: Global) -> Steward {
         late: 1,
         sessions: 2,
     };
-    let times = Times {
-        retry: 100,
-        most: 250,
-    };
     let terms = Terms {
         answer: 1_000,
         grace: 50,
@@ -49,7 +63,15 @@ pub(crate) fn steward(alloc: Global) -> Steward {
         rest: 50,
         budget: 1_000,
     };
-    Steward::new(alloc, limits, times, terms)
+    Steward::new(alloc, limits, TIMES, terms)
+}
+
+/// Settings that want these networks are read.
+pub(crate) fn settings(wanted: &'static [Wanted]) -> Event<'static> {
+    Event::Settings {
+        wanted,
+        times: TIMES,
+    }
 }
 
 /// A connection from address 1.
@@ -103,10 +125,22 @@ pub(crate) fn check<R: AllocGlobal + Abort>(
     Ok(())
 }
 
-/// A network that is served and online from time 1 on.
-pub(crate) const ONLINE: [Row; 3] = [
-    (0, Event::Settings(&[NET]), "Reloaded"),
+/// A network that is served from time 1 on.
+pub(crate) const ONLINE: [Row; 4] = [
+    (
+        0,
+        Event::Settings {
+            wanted: &[NET],
+            times: TIMES,
+        },
+        "Reloaded",
+    ),
     (0, Event::Asks { network: 0 }, "Dial { network: 0 }"),
+    (
+        0,
+        Event::Connected { network: 0 },
+        "Register { network: 0 }",
+    ),
     (
         1,
         Event::Registered { network: 0 },
