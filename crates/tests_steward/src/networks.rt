@@ -14,6 +14,8 @@ const CONNECTED: Event<'static> = Event::Connected { network: 0 };
 
 const PARTS: Event<'static> = Event::Parts { network: 0 };
 
+const PARTS_2: Event<'static> = Event::Parts { network: 2 };
+
 /// A network that is renamed is not dialled while its nick is held under the old name.
 #[test]
 fn a_renamed_network_waits_for_its_nick(rt: HostRuntime) -> Result<(), Fail> {
@@ -98,7 +100,7 @@ fn a_changed_network_is_dialled_anew(rt: HostRuntime) -> Result<(), Fail> {
 }
 
 /// A removed network: its client is told, has 50 to go, and then the network is sent QUIT; a dial
-/// that completes meanwhile is given up.
+/// that completes meanwhile is given up. The client of one that rests is told too.
 #[test]
 fn a_removed_network_parts(rt: HostRuntime) -> Result<(), Fail> {
     let mut steward = steward(rt.alloc());
@@ -116,6 +118,14 @@ fn a_removed_network_parts(rt: HostRuntime) -> Result<(), Fail> {
         (80, ASKS_1, "Dial { network: 1 }"),
         (81, settings(&[]), "Reloaded"),
         (82, Event::Connected { network: 1 }, "GiveUp"),
+        (83, lost(1), "EndedOver { network: 1 }"),
+        (84, settings(&[NET]), "Reloaded"),
+        (84, CAME, "Serve { client: 1 }"),
+        (84, right(1, 5, 7), "LetIn { client: 1, network: 2 }"),
+        (85, settings(&[]), "Reloaded"),
+        (85, Event::Asks { network: 2 }, "Over"),
+        (86, PARTS_2, "Tell { client: 1, why: Removed }"),
+        (86, PARTS_2, "Nothing"),
     ];
     check(&rt, &mut steward, &rows)
 }
