@@ -1,5 +1,5 @@
-//! Connections watched by the system, by socket options that std does not offer; and descriptors
-//! that nobody may have by accident.
+//! Connections watched by the system, by socket options that std does not offer; sockets that are
+//! woken and files that are waited for; and descriptors that nobody may have by accident.
 //!
 //! This is the one crate with `unsafe`: each call of the C library in it names its option and hands
 //! over a buffer of its own, and the statements of the kit's `libc` ask for no more.
@@ -8,9 +8,10 @@
 use libc::net as c;
 use std::fs::{File, OpenOptions};
 use std::io;
-use std::net::TcpStream;
+use std::net::{TcpListener, TcpStream};
 use std::os::fd::{AsRawFd, IntoRawFd};
 use std::rt::Files;
+use std::time::Duration;
 
 /// What the system is asked to find out about an idle connection.
 #[derive(Clone, Copy, Debug, PartialEq, Eq)]
@@ -87,19 +88,51 @@ pub fn watch_on(stream: &TcpStream) -> io::Result<Option<Watch>> {
     }))
 }
 
+/// Shuts a listening socket: `accept`, also one that waits, then fails. It takes no descriptor.
+pub fn shut_listener(listener: &TcpListener) -> io::Result<()> {
+    check(c::shutdown(listener.as_raw_fd(), c::SHUT_RD))
+}
+
+/// Waits until a file can be read or is at its end, but for no longer than this; whether it can. Also
+/// if the wait fails, so that the read that follows says why.
+pub fn is_readable(file: &File, time: Duration) -> bool {
+    let timeout = i32::try_from(time.as_millis()).unwrap_or(i32::MAX);
+    let mut files = [libc::types::pollfd {
+        fd: file.as_raw_fd(),
+        events: c::POLLIN,
+        revents: 0,
+    }];
+    c::poll(&mut files, timeout) != 0
+}
+
 /// Opens `/dev/null` as standard input, output and error, each that is closed: so no file or socket
 /// that is opened later gets its number, and what is written to it reaches nobody. It is for the
-/// start of a program, before anything else is opened.
+/// start of a program, before anything else is opened. A system without `/dev/null` will do if all
+/// three are open.
 pub fn fill_standard<R: Files<File = File>>(rt: &R) -> io::Result<()> {
     for _ in libc::STDIN_FILENO..=libc::STDERR_FILENO {
-        let file = OpenOptions::new()
+        let opened = OpenOptions::new()
             .read(true)
             .write(true)
-            .open(rt, "/dev/null")?;
+            .open(rt, "/dev/null");
+        let file = match opened {
+            Ok(file) => file,
+            Err(error) => return are_open(rt, error),
+        };
         if file.as_raw_fd() > libc::STDERR_FILENO {
             return Ok(());
         }
         let _ = file.into_raw_fd();
     }
     Ok(())
+}
+
+/// Whether standard input, output and error are open, so that what is opened now gets a higher number;
+/// else this error.
+fn are_open<R: Files<File = File>>(rt: &R, error: io::Error) -> io::Result<()> {
+    let root = OpenOptions::new().read(true).open(rt, "/")?;
+    if root.as_raw_fd() > libc::STDERR_FILENO {
+        return Ok(());
+    }
+    Err(error)
 }
