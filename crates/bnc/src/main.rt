@@ -9,14 +9,15 @@ mod serve;
 
 use crate::serve::serve_file;
 use commands::{
-    Command, Fault, WordsFault, check_file, explain_words, read_words, run_attach, run_view,
-    tell_bad_words, tell_fault,
+    Command, Fault, WordsFault, check_file, explain_words, print_password, read_words, run_attach,
+    run_view, send_control, setup_file, tell_bad_words, tell_fault,
 };
 use std::alloc::{AllocError, Global};
 use std::fs::File;
 use std::io::ErrorKind;
 use std::net::{Net, TcpListener, TcpStream};
 use std::process::ExitCode;
+use std::random::RandomSource;
 use std::rt::{Clock, Env, Files};
 use std::sync::Wait;
 use std::thread::Threads;
@@ -72,6 +73,7 @@ fn run<
         + Print
         + Eprint
         + Clock
+        + RandomSource
         + Wait
         + Threads
         + Net<Listener = TcpListener, Stream = TcpStream>
@@ -91,6 +93,9 @@ fn run<
             *history,
         ),
         Command::Check(path) => check_file(&rt, path.as_str()),
+        Command::Setup(path) => setup_file(&rt, path.as_str()),
+        Command::Password => print_password(&rt),
+        Command::Control(control) => send_control(&rt, control),
         Command::Serve(path) => serve_file(rt, path.as_str()),
     }
 }

@@ -5,8 +5,10 @@ use Rattle.clap.specs.Words.{fault_of, first_of, is_simple, is_simple_and_free, 
 use Rattle.{clap.specs.declared.error.kind.ErrorKind.ErrorKind, client_caps.specs.Caps.no_caps}
 use Rattle.client_caps.specs.{Request.request_of, declared.caps.Caps.Caps}
 use Rattle.commands.specs.Command.{AsksFor, IsAsked, IsAttach, IsCauseOf, IsCommandCause}
-use Rattle.commands.specs.Command.{IsCommandOf, IsExplained, IsHistory, IsOfKind, bnc_app, spaced}
+use Rattle.commands.specs.Command.{IsCommandOf, IsExplained, IsHistory, IsOfKind, IsTextCause}
+use Rattle.commands.specs.Command.{bnc_app, spaced}
 use Rattle.commands.specs.declared.words.Command.{Command, TheVariants.{Attach, View}}
+use Rattle.commands.specs.declared.words.Command.TheVariants.{Control as ControlIt}
 use Rattle.commands.specs.declared.words.WordsFault.{WordsFault, TheVariants.{Bad, Help}}
 use Rattle.{commands.specs.declared.words.WordsFault.TheVariants.OutOfMemory, std.proofs.Common.◌≡◌}
 use Rattle.std.proofs.Common.{◌⊎◌, Err, List, None, Ok, Option, Result, Some, arith, codes, inl}
@@ -25,7 +27,7 @@ is_free-bnc_app = refl
 abbrev both : {S A B : Type 0} → (S → A) → (S → B) → S → A × B
 both f g s = (f s, g s)
 
--- want of memory is no question for help or the version
+-- running out of memory is no question for help or the version
 memory_is_not_asked : (k : ErrorKind) → k ≡ kind.OutOfMemory → IsAsked k → ⊥
 memory_is_not_asked k memory asked = grind arith
 
@@ -40,11 +42,11 @@ cause_at app words k Bad same (inr among) is = inl (k, is.1, rw same at among)
 cause_at app words k OutOfMemory same found is = tt
 
 -- what a parse by the grammar entered
-pub asked_at : {S : Type 0} (app : App) (words : List Text) (o : Option S) (f : S → Text)
-    (g : S → List Row) (name : Text) (rows : List Row) → app ≡ bnc_app
+pub asked_at : {S : Type 0} {whole : App} (app : App) (words : List Text) (o : Option S) (f : S → Text)
+    (g : S → List Row) (name : Text) (rows : List Row) → app ≡ whole
     → option_map (both f g) o ≡ subcommand_of app words → Some name ≡ option_map f o
     → Some rows ≡ option_map {T = Text × List Row} (λ p. p.1) (option_map (both f g) o)
-    → subcommand_of bnc_app words ≡ Some (name, rows)
+    → subcommand_of whole words ≡ Some (name, rows)
 asked_at app words o f g name rows same given first second = grind arith
 
 -- an attach whose options ask for nothing asks for nothing
@@ -53,13 +55,47 @@ pub no_attach : (rows : List Row) → ((caps : Caps) (n : ℕ) → IsAttach rows
 no_attach rows none (Attach caps n) asks = none caps n asks.1
 no_attach rows none _ asks = cc
 
--- nor does a check or a serve without a file
-pub no_file : (name : Text) (rows : List Row) → (name ≡ codes "check") ⊎ (name ≡ codes "serve")
-    → None ≡ first_of (codes "file") rows → (command : Command) → IsCommandOf name rows command → ⊥
+-- the commands whose argument is a settings file alone
+abbrev pub HasFile : Text → Type 0
+HasFile name = (name ≡ codes "check") ⊎ ((name ≡ codes "serve") ⊎ (name ≡ codes "setup"))
+
+-- nor does one of these without a file
+no_file : (name : Text) (rows : List Row) → HasFile name
+    → first_of (codes "file") rows ≡ None → (command : Command) → IsCommandOf name rows command → ⊥
 no_file name rows (inl is) none View asks = cc
 no_file name rows (inl is) none _ asks = cc
-no_file name rows (inr is) none View asks = cc
-no_file name rows (inr is) none _ asks = cc
+no_file name rows (inr (inl is)) none View asks = cc
+no_file name rows (inr (inl is)) none _ asks = cc
+no_file name rows (inr (inr is)) none View asks = cc
+no_file name rows (inr (inr is)) none _ asks = cc
+
+pub file_cause : (name : Text) (rows : List Row) (fault : WordsFault) → HasFile name
+    → IsTextCause (first_of (codes "file") rows) fault → IsCommandCause name rows fault
+file_cause name rows Bad has none = no_file name rows has none
+file_cause name rows OutOfMemory has none = tt
+file_cause name rows (Help text) has none = absurd none
+
+-- nor does a control without a file or a word
+no_control : (rows : List Row)
+    → (first_of (codes "file") rows ≡ None) ⊎ (first_of (codes "word") rows ≡ None)
+    → (command : Command) → IsCommandOf (codes "control") rows command → ⊥
+no_control rows (inl none) (ControlIt control) asks = cc
+no_control rows (inr none) (ControlIt control) asks = cc
+no_control rows none _ asks = cc
+
+pub without_file : (rows : List Row) (fault : WordsFault)
+    → IsTextCause (first_of (codes "file") rows) fault
+    → IsCommandCause (codes "control") rows fault
+without_file rows Bad none = no_control rows (inl none)
+without_file rows OutOfMemory none = tt
+without_file rows (Help text) none = absurd none
+
+pub without_word : (rows : List Row) (fault : WordsFault)
+    → IsTextCause (first_of (codes "word") rows) fault
+    → IsCommandCause (codes "control") rows fault
+without_word rows Bad none = no_control rows (inr none)
+without_word rows OutOfMemory none = tt
+without_word rows (Help text) none = absurd none
 
 -- what the command asks for is what the words ask for
 pub words_ask : (words : List Text) (name : Text) (rows : List Row) (r : Result Command WordsFault)

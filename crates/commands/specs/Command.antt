@@ -1,6 +1,6 @@
 -- The command line, as `clap`'s contract names its grammar.
 use Rattle.std.specs.Prelude.{◌≡◌, ◌≢◌, ◌⊎◌, ◌≤◌, ◌==◌, ℕ, List, [], ◌∷◌, Option, Some, None, true}
-use Rattle.std.specs.Prelude.{codes, if◌then◌else◌, map, string_bytes}
+use Rattle.std.specs.Prelude.{codes, if◌then◌else◌, map, option_map, string_bytes}
 use Rattle.std.specs.Str.Parse.{IsNumeral, digits_value, without_leading_plus}
 use Rattle.clap.specs.Words.{App, IsAmong, Row, Rule, Text, fault_of, first_of, new_app, new_rule}
 use Rattle.clap.specs.Words.{subcommand_of, with_rule, with_subcommand}
@@ -12,21 +12,32 @@ use Rattle.commands.specs.declared.words.Command.{Command}
 use Rattle.client_caps.specs.declared.caps.Caps.{Caps}
 use Rattle.client_caps.specs.Caps.{no_caps}
 use Rattle.client_caps.specs.Request.{request_of}
-use Rattle.commands.specs.declared.words.Command.TheVariants.{Attach, Check, Serve, View}
+use Rattle.commands.specs.declared.words.Command.TheVariants.{Attach, Check, Control as ControlIt}
+use Rattle.commands.specs.declared.words.Command.TheVariants.{Password, Serve, Setup, View}
+use Rattle.commands.specs.declared.words.Control.{Control}
 use Rattle.commands.specs.declared.words.WordsFault.{WordsFault}
 use Rattle.commands.specs.declared.words.WordsFault.TheVariants.{Bad, Help, OutOfMemory}
 
+-- an argument that has to be there, and one that may be left out, each by its place
+abbrev pub required_rule : Text → Rule
+required_rule id = record (new_rule id) { required = true; action = Some Set; value_names = 1 }
+
+abbrev pub optional_rule : Text → Rule
+optional_rule id = record (new_rule id) { action = Some Set; value_names = 1 }
+
 -- FILE
 abbrev pub file_rule : Rule
-file_rule = record (new_rule (codes "file")) { required = true; action = Some Set; value_names = 1 }
+file_rule = required_rule (codes "file")
 
--- check FILE
-abbrev pub check_app : App
-check_app = with_rule (new_app (codes "check")) file_rule
+-- a command with FILE
+abbrev pub file_app : Text → App
+file_app name = with_rule (new_app name) file_rule
 
--- serve FILE
-abbrev pub serve_app : App
-serve_app = with_rule (new_app (codes "serve")) file_rule
+-- control FILE WORD [NETWORK [NAME]]
+abbrev pub control_app : App
+control_app =
+    with_rule (with_rule (with_rule (file_app (codes "control")) (required_rule (codes "word")))
+    (optional_rule (codes "network"))) (optional_rule (codes "name"))
 
 -- --caps LIST
 abbrev pub caps_rule : Rule
@@ -68,10 +79,16 @@ bare_app = let app = new_app (codes "bnc") in
       };
     }
 
+-- with the commands whose argument is a settings file
+abbrev pub file_apps : App
+file_apps =
+    with_subcommand (with_subcommand (with_subcommand bare_app (file_app (codes "serve")).top)
+    (file_app (codes "check")).top) (file_app (codes "setup")).top
+
 abbrev pub bnc_app : App
 bnc_app =
-    with_subcommand (with_subcommand (with_subcommand (with_subcommand bare_app view_app.top)
-    attach_app.top) check_app.top) serve_app.top
+    with_subcommand (with_subcommand (with_subcommand (with_subcommand file_apps
+    (new_app (codes "password")).top) control_app.top) view_app.top) attach_app.top
 
 -- LIST has the words of a request, with commas in place of spaces
 abbrev pub space_for_comma : ℕ → ℕ
@@ -96,6 +113,19 @@ IsAttach rows caps n = (list : Text)
     × (first_of (codes "history") rows ≡ Some text)
     × IsHistory text n
 
+-- the arguments are these of `control`
+abbrev pub IsControl : List Row → Control → Type 0
+IsControl rows control = (first_of (codes "file") rows ≡ Some (string_bytes control.file))
+    × (first_of (codes "word") rows ≡ Some (string_bytes control.word))
+    × (first_of (codes "network") rows ≡ option_map string_bytes control.network)
+    × (first_of (codes "name") rows ≡ option_map string_bytes control.name)
+
+-- why an argument that has to be there gives no text
+abbrev pub IsTextCause : Option Text → WordsFault → Type 0
+IsTextCause found Bad = found ≡ None
+IsTextCause found OutOfMemory = Unit {0}
+IsTextCause found (Help text) = ⊥
+
 -- the command of this name asks for this with these options and arguments
 abbrev pub IsCommandOf : Text → List Row → Command → Type 0
 IsCommandOf name rows View = name ≡ codes "view"
@@ -104,8 +134,12 @@ IsCommandOf name rows (Check file) =
     (name ≡ codes "check") × (first_of (codes "file") rows ≡ Some (string_bytes file))
 IsCommandOf name rows (Serve file) =
     (name ≡ codes "serve") × (first_of (codes "file") rows ≡ Some (string_bytes file))
+IsCommandOf name rows (Setup file) =
+    (name ≡ codes "setup") × (first_of (codes "file") rows ≡ Some (string_bytes file))
+IsCommandOf name rows Password = name ≡ codes "password"
+IsCommandOf name rows (ControlIt control) = (name ≡ codes "control") × IsControl rows control
 
--- why it asks for nothing; want of memory is a fault of no words
+-- why it asks for nothing; running out of memory is a fault of no words
 abbrev pub IsCommandCause : Text → List Row → WordsFault → Type 0
 IsCommandCause name rows Bad = (command : Command) → IsCommandOf name rows command → ⊥
 IsCommandCause name rows OutOfMemory = Unit {0}
@@ -121,7 +155,7 @@ AsksFor words command = (name : Text) × (rows : List Row)
 abbrev pub IsAsked : ErrorKind → Type 0
 IsAsked k = (k ≡ kind.DisplayHelp) ⊎ (k ≡ kind.DisplayVersion)
 
--- an error of this kind is told so; want of memory may be told of any
+-- an error of this kind is told so; running out of memory may be told of any
 abbrev pub IsOfKind : ErrorKind → WordsFault → Type 0
 IsOfKind k (Help text) = IsAsked k
 IsOfKind k Bad = (k ≢ kind.OutOfMemory) × (IsAsked k → ⊥)
@@ -136,7 +170,7 @@ abbrev pub IsAtFault : List Text → Type 0
 IsAtFault words = (k : ErrorKind) × (IsAsked k → ⊥) × IsAmong k (fault_of bnc_app words)
 
 -- the cause of a fault of the words: the grammar finds that they ask for help or the version, or
--- are at fault in another way, or they ask for nothing; want of memory is a fault of no words
+-- are at fault in another way, or they ask for nothing; running out of memory is a fault of no words
 abbrev pub IsCauseOf : List Text → WordsFault → Type 0
 IsCauseOf words (Help text) = AsksForText words
 IsCauseOf words Bad = IsAtFault words ⊎ ((command : Command) → AsksFor words command → ⊥)

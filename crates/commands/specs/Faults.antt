@@ -5,9 +5,9 @@ use Rattle.std.specs.declared.io.ErrorKind.TheVariants as kind
 use Rattle.bnc_config.specs.ConfigFault as config
 use Rattle.commands.specs.declared.fault.Fault.{Fault}
 use Rattle.commands.specs.declared.fault.Fault.TheVariants.{CannotListen, CannotRead}
-use Rattle.commands.specs.declared.fault.Fault.TheVariants.{CannotReadFile, CannotWrite}
-use Rattle.commands.specs.declared.fault.Fault.TheVariants.{LineTooLong, NotReady, OutOfMemory}
-use Rattle.commands.specs.declared.fault.Fault.TheVariants.{Settings}
+use Rattle.commands.specs.declared.fault.Fault.TheVariants.{CannotReadFile, CannotWrite, Exists}
+use Rattle.commands.specs.declared.fault.Fault.TheVariants.{LineTooLong, NoAnswer, NobodyReads}
+use Rattle.commands.specs.declared.fault.Fault.TheVariants.{NotReady, OutOfMemory, Settings}
 
 -- the text that a fault is told as
 abbrev pub text_of : Fault → List ℕ
@@ -15,7 +15,10 @@ text_of CannotListen = codes "cannot listen"
 text_of CannotRead = codes "cannot read"
 text_of (CannotReadFile why) = codes "cannot read\nbnc: " ++ string_bytes why
 text_of CannotWrite = codes "cannot write"
+text_of (Exists path) = string_bytes path ++ codes " exists"
 text_of LineTooLong = codes "line too long"
+text_of NoAnswer = codes "no answer"
+text_of (NobodyReads path) = codes "nobody reads " ++ string_bytes path
 text_of NotReady = codes "not ready"
 text_of OutOfMemory = codes "out of memory"
 text_of (Settings fault) = config.text_of fault

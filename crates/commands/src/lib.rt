@@ -1,12 +1,14 @@
-//! What `bnc` does but for serving, over readers and writers: `view`, `attach` and `check`; the
-//! words of its command line; and what is told of faults.
+//! What `bnc` does except serving: `view`, `attach`, `check`, `setup`, `password` and `control`; the
+//! words of its command line; and how faults are reported.
 #![tactic(auto)]
 
 mod attach;
 mod check;
+mod control;
 mod fault;
 mod input;
 mod report;
+mod setup;
 mod telling;
 mod view;
 mod warning;
@@ -14,9 +16,11 @@ mod words;
 
 pub use attach::{Attaching, attach_input, run_attach};
 pub use check::{check_file, run_check, settings_text};
+pub use control::send_control;
 pub use fault::Fault;
 pub use report::report_text;
+pub use setup::{print_password, setup_file};
 pub use telling::{tell_bad_words, tell_fault};
 pub use view::{Viewing, report_input, run_view};
 pub use warning::{warn_of_readers, warn_of_salts};
-pub use words::{Command, WordsFault, explain_words, read_words};
+pub use words::{Command, Control, WordsFault, explain_words, read_words};

@@ -1,16 +1,18 @@
 //! The command line.
 
-ghost use Rattle.std.specs.Prelude.{◌≡◌, ◌≢◌, ℕ, IfErr, IfNone, IfOk, IfSome, codes, false, map};
-ghost use Rattle.clap.specs.Words.{app_of, found_of, kind_of, rows_of, rule_of};
+ghost use Rattle.std.specs.Prelude.{◌≡◌, ◌≢◌, ℕ, IfErr, IfNone, IfOk, IfSome, Some, codes, false};
+ghost use Rattle.std.specs.Prelude.{map, option_map, string_bytes};
+ghost use Rattle.clap.specs.Words.{app_of, first_of, found_of, kind_of, rows_of, rule_of};
 ghost use Rattle.clap.specs.Words.{with_subcommand};
 ghost use Rattle.clap.specs.declared.error.kind.ErrorKind.TheVariants as kind;
 ghost use Rattle.client_caps.specs.Caps.{no_caps};
 ghost use Rattle.client_caps.specs.Request.{request_of};
 ghost use Rattle.commands.specs.Command.{AsksFor, IsAsked, IsCauseOf, IsExplained, IsOfKind};
 ghost use Rattle.commands.specs.Command.{bare_app};
-ghost use Rattle.commands.specs.Command.{IsCommandCause, IsCommandOf, IsHistory, attach_app};
-ghost use Rattle.commands.specs.Command.{bnc_app, caps_rule, check_app, file_rule, history_rule};
-ghost use Rattle.commands.specs.Command.{serve_app, space_for_comma, spaced};
+ghost use Rattle.commands.specs.Command.{IsCommandCause, IsCommandOf, IsHistory, IsTextCause};
+ghost use Rattle.commands.specs.Command.{attach_app, bnc_app, caps_rule, control_app, file_app};
+ghost use Rattle.commands.specs.Command.{file_rule, history_rule, optional_rule, required_rule};
+ghost use Rattle.commands.specs.Command.{space_for_comma, spaced};
 
 use clap::builder::ValueParser;
 use clap::error::ErrorKind;
@@ -25,13 +27,32 @@ use thiserror::Error;
 pub enum Command {
     /// `view`: to report what the standard input, a network's lines, says of the network.
     View,
-    /// `attach [--caps LIST] [--history N]`: to write what a client with these capabilities is sent
-    /// that comes behind the standard input, a network's lines, with the last N messages.
+    /// `attach [--caps LIST] [--history N]`: to write what a client with these capabilities gets that
+    /// attaches after the standard input, a network's lines, with the last N messages.
     Attach(Caps, usize),
     /// `check FILE`: to check a settings file.
     Check(String),
     /// `serve FILE`: to serve the clients of its users.
     Serve(String),
+    /// `setup FILE`: to ask what a settings file needs, and to write it.
+    Setup(String),
+    /// `password`: to print a user's lines of a password.
+    Password,
+    /// `control FILE WORD [NETWORK [NAME]]`: to control the program that serves a settings file.
+    Control(Control),
+}
+
+/// What `control` asks for: the settings file, and the words of the line for the program.
+#[derive(Debug, Drop)]
+pub struct Control {
+    /// The settings file.
+    pub file: String,
+    /// What the program is to do, as `reload`.
+    pub word: String,
+    /// The network that it is about, `USER/NETWORK`.
+    pub network: Option<String>,
+    /// The client name that it is about.
+    pub name: Option<String>,
 }
 
 /// Why the words ask for nothing.
@@ -92,7 +113,10 @@ fn caps_argument<'a>(alloc: Global) -> Arg<'a>
         .action(ArgAction::Set)
         .value_name("LIST")
         .default_value("")
-        .help("Capabilities of the client, with commas between them")
+        .help(
+            "Capabilities of the client, with commas between them: multi-prefix, extended-join, \
+             account-notify, away-notify, server-time, batch",
+        )
 }
 
 /// `--history N`.
@@ -117,6 +141,7 @@ fn bnc_grammar<'a>(alloc: Global) -> Result<clap::Command<'a>, AllocError>
         clap::Command::new(alloc, "bnc")
             .about("An IRC bouncer with late attach")
             .version("1")
+            .after_help("The manual is docs/bnc.1: man bnc, once it is installed.")
             .no_binary_name(true)
             .subcommand_required(true)
             .bin_name("bnc")?,
@@ -132,7 +157,7 @@ fn add_attach<'a>(
         ≡ with_subcommand (app_of command.entry) attach_app.top) }
 {
     let bare = clap::Command::new(alloc, "attach").about(
-        "Reads the lines of a network and writes what a client is sent that comes then",
+        "Reads a network's lines and writes what a client gets that attaches after them",
     );
     let with_caps = bare.arg(caps_argument(alloc))?;
     let attach = with_caps.arg(history_argument(alloc))?;
@@ -140,27 +165,72 @@ fn add_attach<'a>(
     Ok(added)
 }
 
-/// A command with `serve FILE` beneath it.
-fn add_serve<'a>(alloc: Global, command: clap::Command<'a>) -> Result<clap::Command<'a>, AllocError>
+/// A command with `NAME FILE` beneath it.
+fn add_file_command<'a>(
+    alloc: Global,
+    command: clap::Command<'a>,
+    name: &'a str,
+    about: &'a str,
+) -> Result<clap::Command<'a>, AllocError>
     ensures { IfOk result (λ added. app_of added
-        ≡ with_subcommand (app_of command.entry) serve_app.top) }
+        ≡ with_subcommand (app_of command.entry) (file_app name.now).top) }
 {
-    let serve = clap::Command::new(alloc, "serve")
-        .about("Stays on the networks of a settings file and serves their users' clients")
+    let file_command = clap::Command::new(alloc, name)
+        .about(about)
         .arg(file_argument(alloc))?;
-    let added = command.subcommand(serve)?;
+    let added = command.subcommand(file_command)?;
     Ok(added)
 }
 
-/// A command with `check FILE` beneath it.
-fn add_check<'a>(alloc: Global, command: clap::Command<'a>) -> Result<clap::Command<'a>, AllocError>
-    ensures { IfOk result (λ added. app_of added
-        ≡ with_subcommand (app_of command.entry) check_app.top) }
+/// WORD, what the program is to do.
+fn word_argument<'a>(alloc: Global) -> Arg<'a>
+    ensures rule { rule_of result ≡ required_rule (codes "word") }
+    ensures local { result.global ≡ false }
 {
-    let check = clap::Command::new(alloc, "check")
-        .about("Checks a settings file and counts its users and networks")
+    Arg::new(alloc, "word")
+        .required(true)
+        .action(ArgAction::Set)
+        .value_name("WORD")
+        .help("What it is to do: reload, status or stop")
+}
+
+/// NETWORK, which a word may be about.
+fn network_argument<'a>(alloc: Global) -> Arg<'a>
+    ensures rule { rule_of result ≡ optional_rule (codes "network") }
+    ensures local { result.global ≡ false }
+{
+    Arg::new(alloc, "network")
+        .action(ArgAction::Set)
+        .value_name("NETWORK")
+        .help("The network that it is about: USER/NETWORK")
+}
+
+/// NAME, the client's name that a word may be about.
+fn name_argument<'a>(alloc: Global) -> Arg<'a>
+    ensures rule { rule_of result ≡ optional_rule (codes "name") }
+    ensures local { result.global ≡ false }
+{
+    Arg::new(alloc, "name")
+        .action(ArgAction::Set)
+        .value_name("NAME")
+        .help("The name of a client that it is about")
+}
+
+/// A command with `control FILE WORD [NETWORK [NAME]]` beneath it.
+fn add_control<'a>(
+    alloc: Global,
+    command: clap::Command<'a>,
+) -> Result<clap::Command<'a>, AllocError>
+    ensures { IfOk result (λ added. app_of added
+        ≡ with_subcommand (app_of command.entry) control_app.top) }
+{
+    let with_file = clap::Command::new(alloc, "control")
+        .about("Has the program that serves a settings file do something")
         .arg(file_argument(alloc))?;
-    let added = command.subcommand(check)?;
+    let with_word = with_file.arg(word_argument(alloc))?;
+    let with_network = with_word.arg(network_argument(alloc))?;
+    let control = with_network.arg(name_argument(alloc))?;
+    let added = command.subcommand(control)?;
     Ok(added)
 }
 
@@ -169,13 +239,34 @@ fn grammar<'a>(alloc: Global) -> Result<clap::Command<'a>, AllocError>
     ensures { IfOk result (λ command. app_of command ≡ bnc_app) }
 {
     let bare = bnc_grammar(alloc)?;
+    let with_serve = add_file_command(
+        alloc,
+        bare,
+        "serve",
+        "Stays on the networks of a settings file and serves their users' clients",
+    )?;
+    let with_check = add_file_command(
+        alloc,
+        with_serve,
+        "check",
+        "Checks a settings file and counts its users and networks",
+    )?;
+    let with_setup = add_file_command(
+        alloc,
+        with_check,
+        "setup",
+        "Asks for a network, a nick, channels and a password, and writes a settings file",
+    )?;
+    let password = clap::Command::new(alloc, "password").about(
+        "Reads a password from standard input and prints its lines for a settings file",
+    );
+    let with_password = with_setup.subcommand(password)?;
+    let with_control = add_control(alloc, with_password)?;
     let view = clap::Command::new(alloc, "view").about(
         "Reads the lines of a network from standard input and reports what they say of it",
     );
-    let with_view = bare.subcommand(view)?;
-    let with_attach = add_attach(alloc, with_view)?;
-    let with_check = add_check(alloc, with_attach)?;
-    let bnc = add_serve(alloc, with_check)?;
+    let with_view = with_control.subcommand(view)?;
+    let bnc = add_attach(alloc, with_view)?;
     Ok(bnc)
 }
 
@@ -247,6 +338,48 @@ fn read_attach<'a>(alloc: Global, matches: &ArgMatches<'a>) -> Result<Command, W
     }
 }
 
+/// The text of an argument that has to be there.
+fn text_of<'a>(alloc: Global, matches: &ArgMatches<'a>, id: &str) -> Result<String, WordsFault>
+    ensures read { IfOk result (λ text.
+        first_of id.now (rows_of (found_of matches.now)) ≡ Some (string_bytes text)) }
+    ensures refused { IfErr result (IsTextCause (first_of id.now (rows_of (found_of matches.now)))) }
+{
+    match matches.get_str(id) {
+        Some(text) => Ok(String::from_str(alloc, text)?),
+        None => Err(WordsFault::Bad),
+    }
+}
+
+/// The text of an argument that may be left out.
+fn optional_text_of<'a>(
+    alloc: Global,
+    matches: &ArgMatches<'a>,
+    id: &str,
+) -> Result<Option<String>, WordsFault>
+    ensures read { IfOk result (λ text.
+        first_of id.now (rows_of (found_of matches.now)) ≡ option_map string_bytes text) }
+    ensures refused { IfErr result (λ fault. fault ≡ WordsFault.OutOfMemory) }
+{
+    match matches.get_str(id) {
+        Some(text) => Ok(Some(String::from_str(alloc, text)?)),
+        None => Ok(None),
+    }
+}
+
+/// What `control` asks for with these arguments.
+fn read_control<'a>(alloc: Global, matches: &ArgMatches<'a>) -> Result<Command, WordsFault>
+    ensures read { IfOk result (IsCommandOf (codes "control") (rows_of (found_of matches.now))) }
+    ensures refused { IfErr result (IsCommandCause (codes "control")
+        (rows_of (found_of matches.now))) }
+{
+    Ok(Command::Control(Control {
+        file: text_of(alloc, matches, "file")?,
+        word: text_of(alloc, matches, "word")?,
+        network: optional_text_of(alloc, matches, "network")?,
+        name: optional_text_of(alloc, matches, "name")?,
+    }))
+}
+
 /// What the command of this name asks for with these arguments.
 fn read_command<'a>(
     alloc: Global,
@@ -259,14 +392,11 @@ fn read_command<'a>(
     match name {
         "view" => Ok(Command::View),
         "attach" => read_attach(alloc, matches),
-        "check" => match matches.get_str("file") {
-            Some(file) => Ok(Command::Check(String::from_str(alloc, file)?)),
-            None => Err(WordsFault::Bad),
-        },
-        "serve" => match matches.get_str("file") {
-            Some(path) => Ok(Command::Serve(String::from_str(alloc, path)?)),
-            None => Err(WordsFault::Bad),
-        },
+        "check" => Ok(Command::Check(text_of(alloc, matches, "file")?)),
+        "serve" => Ok(Command::Serve(text_of(alloc, matches, "file")?)),
+        "setup" => Ok(Command::Setup(text_of(alloc, matches, "file")?)),
+        "password" => Ok(Command::Password),
+        "control" => read_control(alloc, matches),
         _ => Err(WordsFault::Bad),
     }
 }

@@ -1,6 +1,8 @@
-//! Tests alone: settings, the words of the command line, and inputs and outputs that fail.
+//! Tests only: settings, the words of the command line, and inputs and outputs that fail.
 #![tactic(auto)]
 
+#[cfg(test)]
+mod first_settings;
 #[cfg(test)]
 mod settings;
 #[cfg(test)]

@@ -80,6 +80,35 @@ fn files_and_commands_without_words(rt: HostRuntime) -> Result<(), Fail> {
     Ok(())
 }
 
+/// Whether a command sends `forget ann/net phone` to the program that serves `bnc.toml`.
+fn is_forget(command: &Command) -> bool {
+    match command {
+        Command::Control(control) => {
+            control.file.as_str() == "bnc.toml"
+                && control.word.as_str() == "forget"
+                && control
+                    .network
+                    .as_ref()
+                    .is_some_and(|network| network.as_str() == "ann/net")
+                && control
+                    .name
+                    .as_ref()
+                    .is_some_and(|name| name.as_str() == "phone")
+        }
+        _ => false,
+    }
+}
+
+#[test]
+fn setup_password_and_control(rt: HostRuntime) -> Result<(), Fail> {
+    let alloc = rt.alloc();
+    assert!(rt; matches!(read_words(alloc, &["setup", "a"]), Ok(Command::Setup(_))));
+    assert!(rt; matches!(read_words(alloc, &["password"]), Ok(Command::Password)));
+    let words = ["control", "bnc.toml", "forget", "ann/net", "phone"];
+    assert!(rt; is_forget(&read_words(alloc, &words)?));
+    Ok(())
+}
+
 /// Words with which nothing is wrong.
 static GOOD_WORDS: [&[&str]; 4] = [&["check", "a"], &["--help"], &["--version"], &["-V"]];
 

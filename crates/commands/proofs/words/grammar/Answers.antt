@@ -1,16 +1,28 @@
-use Rattle.std.proofs.Common.{◌≡◌, ap, ap₂, ◌∙◌, rules}
-use Rattle.clap.specs.Words.{App, app_of, with_subcommand}
-use Rattle.commands.specs.Command.{attach_app, check_app, serve_app, view_app}
+use Rattle.std.proofs.Common.{◌≡◌, ap, ap₂, codes, ◌∙◌, rules}
+use Rattle.clap.specs.Words.{App, app_of, new_app, with_subcommand}
+use Rattle.commands.specs.Command.{attach_app, control_app, file_app, file_apps, view_app}
 use Rattle.commands.proofs.words.grammar.Goals as goal
 
 pub returns : goal.returns
 returns c =
+    let serve_is =
+    c.in_ok-with_serve.ensures
+    ∙ ap (λ (a : App). with_subcommand a (file_app (codes "serve")).top) c.in_ok-bare.ensures in
+    let check_is =
+    c.in_ok-with_check.ensures
+    ∙ ap (λ (a : App). with_subcommand a (file_app (codes "check")).top) serve_is in
+    let files_are : app_of c.in_ok-with_setup.with_setup ≡ file_apps =
+    c.in_ok-with_setup.ensures
+    ∙ ap (λ (a : App). with_subcommand a (file_app (codes "setup")).top) check_is in
+    let password_is : app_of c.about-password.result ≡ new_app (codes "password") = search rules in
+    let password_too =
+    c.in_ok-with_password.ensures.shape (search rules)
+    ∙ ap₂ with_subcommand files_are (ap (λ (a : App). a.top) password_is) in
+    let control_too =
+    c.in_ok-with_control.ensures
+    ∙ ap (λ (a : App). with_subcommand a control_app.top) password_too in
     let view_is : app_of c.about-view.result ≡ view_app = search rules in
-    let both_is =
+    let view_too =
     c.in_ok-with_view.ensures.shape (search rules)
-    ∙ ap₂ with_subcommand c.in_ok-bare.ensures (ap (λ (a : App). a.top) view_is) in
-    let three_are =
-    c.in_ok-with_attach.ensures ∙ ap (λ (a : App). with_subcommand a attach_app.top) both_is in
-    let four_are =
-    c.in_ok-with_check.ensures ∙ ap (λ (a : App). with_subcommand a check_app.top) three_are in
-    c.in_ok-bnc.ensures ∙ ap (λ (a : App). with_subcommand a serve_app.top) four_are
+    ∙ ap₂ with_subcommand control_too (ap (λ (a : App). a.top) view_is) in
+    c.in_ok-bnc.ensures ∙ ap (λ (a : App). with_subcommand a attach_app.top) view_too
