@@ -2,10 +2,10 @@
 use Rattle.commands.specs.Report.{channel_lines, member_line, member_lines, text_of}
 use Rattle.{irc_line.specs.Lines.with_lf, net_view.specs.Readers.{MemberParts, channel_shown}}
 use Rattle.net_view.specs.{Readers.member_parts, Text.Text, View.{Channel, View}}
-use Rattle.{net_view.specs.Walks.member_parts_at, std.proofs.Common.{◌++◌, ◌+◌, ◌≡◌, List, [], ap}}
+use Rattle.{net_view.specs.Walks.member_parts_at, std.proofs.Common.{◌++◌, ◌+◌, ◌≡◌, List, []}}
 use Rattle.std.proofs.Common.{append-nil, append_assoc, arith, map, take, ℕ}
 use Rattle.std.{proofs.lemmas.{Grind.flat_map-append, Simd.map-map}, specs.FinMap.entries}
-use Rattle.std.specs.{List.flat_map, Option.{option_map, option_map_or}}
+use Rattle.std.specs.{List.flat_map, Option.{option_map_or}}
 use Rattle.welcome.proofs.Places.{flat_next}
 
 -- the lines of members

@@ -4,7 +4,7 @@ use Rattle.base64.specs.{Engines.standard, GeneralPurpose.{IsBytes, encode_of}}
 use Rattle.base64.specs.{Rfc4648.{encode_symbols, padding_len}, Tables.is_printable}
 use Rattle.irc_line.specs.{Line.is_line_byte, Writing.is_clean}
 use Rattle.std.proofs.Common.{List, [], arith, drop, length, refl, suc, true, zero, ℕ, ◌%◌, ◌*◌, ◌+◌, ◌/◌}
-use Rattle.std.proofs.Common.{◌++◌, ◌<◌, ◌∷◌, ◌≡◌}
+use Rattle.std.proofs.Common.{◌<◌, ◌∷◌, ◌≡◌}
 use Rattle.std.proofs.Common.{take}
 use Rattle.std.proofs.lemmas.{Bool.{Decides.nat_tests, and_parts}, List.Folds.list_all-append}
 use Rattle.std.specs.Prelude.{replicate, slice_index}

@@ -1,6 +1,6 @@
 -- What a login sends, and how it ends, after a list of lines of the network (IRCv3 sasl 3.1).
 use Rattle.std.specs.Prelude.{ℕ, Bool, true, false, ◌≡◌, ◌&&◌, ◌||◌, not, List, [], ◌∷◌, ◌++◌}
-use Rattle.std.specs.Prelude.{if◌then◌else◌, Option, Some, None}
+use Rattle.std.specs.Prelude.{if◌then◌else◌, Some, None}
 use Rattle.std.specs.List.{list_any}
 use Rattle.irc_line.specs.Line.{Parts}
 use Rattle.sasl.specs.Response.{Account, authenticate, cap_end, mechanism_of, response_lines}

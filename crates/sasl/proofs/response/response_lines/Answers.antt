@@ -1,6 +1,5 @@
 use Rattle.sasl.proofs.CleanLemmas.{clean_drop, clean_take}
 use Rattle.sasl.proofs.response.response_lines.Goals as goal
-use Rattle.sasl.specs.Response.{pieces_to}
 use Rattle.{irc_line.specs.Writing.is_clean, std.proofs.Common.{arith, suc, true, ◌*◌, ◌+◌, ◌≡◌}}
 
 pub piece_line-requires : goal.piece_line-requires
