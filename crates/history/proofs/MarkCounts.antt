@@ -1,7 +1,7 @@
 -- How many client names there are: never more than 64.
 use Rattle.std.specs.FinMap as fin
 use Rattle.history.specs.Marks.{NameMarks, bytes_cmp, with_mark}
-use Rattle.std.proofs.Common.{Bool, Option, arith, cond, false, refl, true, ℕ, ◌-◌, ◌+◌, ◌<◌, ◌≡◌, ◌≤◌}
+use Rattle.std.proofs.Common.{Bool, Option, arith, cond, false, refl, true, ℕ, ◌-◌, ◌<◌, ◌≡◌, ◌≤◌}
 use Rattle.std.{proofs.Common.{None, Some, List}, specs.Cmp.Lexicographic.nat_list_cmp_total}
 use Rattle.std.specs.Prelude.{if◌then◌else◌}
 

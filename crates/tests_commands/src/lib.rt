@@ -2,7 +2,7 @@
 #![tactic(auto)]
 
 #[cfg(test)]
-mod first_settings;
+mod answers;
 #[cfg(test)]
 mod settings;
 #[cfg(test)]

@@ -48,14 +48,14 @@ fn the_answers_make_a_file_that_can_be_read(rt: HostRuntime) -> Result<(), Fail>
     Ok(())
 }
 
+/// The lines of the password `bc` with the salt `a`.
+const LINES: &str = "salt = \"61\"
+password = \"ba7816bf8f01cfea414140de5dae2223b00361a396177a9cb410ff61f20015ad\"
+";
+
 #[test]
 fn a_password_has_two_lines(rt: HostRuntime) -> Result<(), Fail> {
     let lines = password_lines(rt.alloc(), b"a", b"bc")?;
-    assert!(rt;
-        lines.as_slice()
-            == b"salt = \"61\"
-password = \"ba7816bf8f01cfea414140de5dae2223b00361a396177a9cb410ff61f20015ad\"
-"
-    );
+    assert!(rt; lines.as_slice() == LINES.as_bytes());
     Ok(())
 }
