@@ -3,6 +3,7 @@
 ghost use Rattle.std.specs.Prelude.{◌≡◌, ◌<◌, [], IfOk, None, false, true};
 ghost use Rattle.std.specs.Sync.Mutex.{mutex_guard_value};
 ghost use Rattle.history.specs.Messages.{is_capacity};
+ghost use Rattle.hub_core.specs.Bounds.{IsBounded};
 ghost use Rattle.hub_core.specs.LostChannels.{lost_channels};
 ghost use Rattle.hub_core.specs.Online.{is_online};
 ghost use Rattle.hub_core.specs.Running.{EachAgrees, IsRunning};
@@ -99,13 +100,15 @@ impl<V: NetworkView + Drop> Network<V> {
     /// Waits for the lock. Through what it answers, the hub's own calls are made. Whenever the lock
     /// is free, what holds of every hub holds of this one: its view is that of what was taken, and
     /// each session's client knows from its lines what its capabilities let it know of all that came
-    /// since it attached or changed them; so these lines agree with the view.
+    /// since it attached or changed them; so these lines agree with the view. The hub has at most 64
+    /// sessions and 64 client names, and keeps messages to at most 128 targets.
     pub fn lock<R: Wait>(&self, rt: &R) -> MutexGuard<'_, Hub<V, RingInlet, RingOutlet>>
         ensures running { IsRunning (mutex_guard_value result) (view_now (mutex_guard_value result))
             (is_online (heard (mutex_guard_value result)))
             (lost_channels (heard (mutex_guard_value result))) }
         ensures agree { EachAgrees (view_now (mutex_guard_value result))
             (mutex_guard_value result).sessions }
+        ensures bounded { IsBounded (mutex_guard_value result) }
     {
         let hub = self.hub.lock(rt);
         hub.is_running();
