@@ -29,9 +29,12 @@ for page in README.md docs/SETTINGS.md docs/CLIENTS.md docs/TLS.md docs/OFFLINE.
   put 644 "$page" "/usr/share/doc/bnc/$(basename "$page")"
 done
 put 644 debian/copyright /usr/share/doc/bnc/copyright
-printf 'bnc (%s) unstable; urgency=medium\n\n  * The program of dist/, as it is in this commit.\n\n -- Buskaeri <bnc@localhost>  %s\n' \
+printf 'bnc (%s) unstable; urgency=medium\n\n  * The program of dist/, as it is in this commit.\n\n -- Buskaeri <maintainers@buskaeri.example>  %s\n' \
   "$version" "$(git log -1 --format=%cD)" | gzip -9 -n > "$at/changelog.gz"
 put 644 "$at/changelog.gz" /usr/share/doc/bnc/changelog.gz
+# the program stays byte for byte what the proofs made, so it is not stripped
+echo 'bnc: unstripped-binary-or-object *' > "$at/overrides"
+put 644 "$at/overrides" /usr/share/lintian/overrides/bnc
 
 mkdir "$at/root/DEBIAN"
 cat > "$at/root/DEBIAN/control" <<END
@@ -40,7 +43,7 @@ Version: $version
 Section: net
 Priority: optional
 Architecture: amd64
-Maintainer: Buskaeri <bnc@localhost>
+Maintainer: Buskaeri <maintainers@buskaeri.example>
 Installed-Size: $(du -sk "$at/root" | cut -f 1)
 Depends: libc6 (>= $glibc)
 Recommends: stunnel4
