@@ -9,8 +9,8 @@ const WRITTEN_BY_OTHERS: u32 = 0o022;
 
 /// Opens the FIFO `FILE.control` beside the settings file FILE. It is opened for writing too, so
 /// that it has no end while nobody else writes, and it is locked, so that `bnc control` finds that
-/// somebody reads. `None` if there is none, or if it is no FIFO that only its owner can write, or if
-/// another program has it locked; standard error then says so.
+/// somebody reads. `None` if there is none, or if it is no FIFO of the program's own user that nobody
+/// else can write, or if another program has it locked; standard error then says so.
 pub fn open_control<R: AllocGlobal + Files<File = File> + Eprint>(
     rt: &R,
     path: &str,
@@ -23,11 +23,12 @@ pub fn open_control<R: AllocGlobal + Files<File = File> + Eprint>(
         .ok()?;
     let found = file.metadata().ok()?;
     let is_private = found.file_type().is_fifo() && found.mode() & WRITTEN_BY_OTHERS == 0;
-    if is_private && file.try_lock().is_ok() {
+    let is_ours = found.uid() == keep::user_id();
+    if is_private && is_ours && file.try_lock().is_ok() {
         return Some(file);
     }
     let _ = eprintln!(rt;
-        "bnc: warning: {path} is not used: no FIFO that only its owner can write, or already in use"
+        "bnc: warning: {path} is not used: no FIFO that we own and only we can write, or in use"
     );
     None
 }

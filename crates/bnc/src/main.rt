@@ -9,9 +9,10 @@ mod serve;
 
 use crate::serve::serve_file;
 use commands::{
-    Command, Fault, WordsFault, check_file, explain_words, print_password, read_words, run_attach,
-    run_view, send_control, setup_file, tell_bad_words, tell_fault,
+    Command, Fault, WordsFault, check_file, explain_words, log_file, print_password, read_words,
+    run_attach, run_view, send_control, setup_file, tell_bad_words, tell_fault,
 };
+use journal_files::Disk;
 use std::alloc::{AllocError, Global};
 use std::fs::File;
 use std::io::ErrorKind;
@@ -74,6 +75,7 @@ fn run<
         + Eprint
         + Clock
         + RandomSource
+        + Disk
         + Wait
         + Threads
         + Net<Listener = TcpListener, Stream = TcpStream>
@@ -94,6 +96,7 @@ fn run<
         ),
         Command::Check(path) => check_file(&rt, path.as_str()),
         Command::Setup(path) => setup_file(&rt, path.as_str()),
+        Command::Log(path) => log_file(&rt, path.as_str()),
         Command::Password => print_password(&rt),
         Command::Control(control) => send_control(&rt, control),
         Command::Serve(path) => serve_file(rt, path.as_str()),

@@ -1,12 +1,13 @@
 -- Faults of a tree.
 use Rattle.bnc_config.specs.Document.{IsFaultOf, IsTree, fault_at, first_fault, keys_fault}
-use Rattle.bnc_config.specs.Document.{networks_fault, text_at, twice_fault, users_fault}
+use Rattle.bnc_config.specs.Document.{later_fault, networks_fault, sasl_fault, text_at}
+use Rattle.bnc_config.specs.Document.{twice_fault, users_fault}
 use Rattle.bnc_config.specs.declared.fault.ConfigFault.{ConfigFault, TheVariants.BadValue}
 use Rattle.bnc_config.specs.declared.fault.ConfigFault.TheVariants.{Missing, NotToml, OutOfMemory}
 use Rattle.bnc_config.specs.declared.{fault.ConfigFault.TheVariants.Twice, key.Key.Key}
 use Rattle.bnc_config.specs.declared.key.Key.TheVariants.{NetworkName, UserName}
-use Rattle.std.proofs.Common.{◌++◌, ◌∷◌, ◌≡◌, Bool, List, None, Option, Some, [], arith}
-use Rattle.{std.{proofs.Common.{if◌then◌else◌, ℕ}, specs.Option.option_or}, toml.specs.Data.Data}
+use Rattle.std.proofs.Common.{◌++◌, ◌∷◌, ◌≡◌, ◌⊎◌, Bool, List, None, Option, Some, [], arith}
+use Rattle.{std.{proofs.Common.{if◌then◌else◌, inl, inr, ℕ}, specs.Option.option_or}, toml.specs.Data.Data}
 use Rattle.toml.specs.Data.{Members}
 
 -- the fault, if there is one, is of a tree
@@ -47,12 +48,24 @@ twice_of_tree : (earlier : List (List ℕ)) (name : List ℕ) → IsOfTree (twic
 unfolding IsOfTree
 twice_of_tree earlier name = grind arith
 
+chosen_of_tree : (b : Bool) (p q : Option ConfigFault) → IsOfTree p → IsOfTree q
+    → IsOfTree (if b then p else q)
+unfolding IsOfTree
+chosen_of_tree b p q h k = grind arith
+
+sasl_of_tree : (tree : Members) → IsOfTree (sasl_fault tree)
+sasl_of_tree tree =
+    search (either_of_tree, chosen_of_tree, key_of_tree)
+
+later_of_tree : (tree : Members) → IsOfTree (later_fault tree)
+later_of_tree tree = search (either_of_tree, sasl_of_tree, keys_of_tree)
+
 networks_of_tree : (earlier : List (List ℕ)) (trees : List Members)
     → IsOfTree (networks_fault earlier trees)
 networks_of_tree earlier [] = none_of_tree
 networks_of_tree earlier (tree ∷ trees) =
     let rest = networks_of_tree (earlier ++ text_at NetworkName tree ∷ []) trees in
-    search (either_of_tree, keys_of_tree, twice_of_tree)
+    search (either_of_tree, keys_of_tree, later_of_tree, twice_of_tree)
 
 users_of_tree : (earlier : List (List ℕ)) (trees : List Members)
     → IsOfTree (users_fault earlier trees)
@@ -73,3 +86,22 @@ fault_of_tree text tree (Missing key) is fault = (tree, is, fault)
 fault_of_tree text tree (BadValue key) is fault = (tree, is, fault)
 fault_of_tree text tree (Twice name) is fault = (tree, is, fault)
 fault_of_tree text tree OutOfMemory is fault = tt
+
+-- ---- the first fault of a network: of its name, of its other keys, of its later ones, or that it
+-- is twice there
+
+module _ (name keys later twice : Option ConfigFault) (named : name ≡ None) where
+  pub network_keys_bad : {M : Type 0} (e : ConfigFault) → M ⊎ (option_or keys later ≡ Some e)
+      → M ⊎ (option_or (option_or name keys) (option_or later twice) ≡ Some e)
+  network_keys_bad e (inl memory) = inl memory
+  network_keys_bad e (inr bad) = inr (grind arith)
+
+  pub network_twice : {M : Type 0} (e : ConfigFault) → option_or keys later ≡ None
+      → M ⊎ (twice ≡ Some e)
+      → M ⊎ (option_or (option_or name keys) (option_or later twice) ≡ Some e)
+  network_twice e none (inl memory) = inl memory
+  network_twice e none (inr bad) = inr (grind arith)
+
+  pub network_good : option_or keys later ≡ None → twice ≡ None
+      → option_or (option_or name keys) (option_or later twice) ≡ None
+  network_good none new = grind arith

@@ -1,10 +1,11 @@
 -- The items of a list in a tree.
 use Rattle.bnc_config.specs.Document.{all_items, fault_at, is_list_where, is_table, is_text_where}
-use Rattle.bnc_config.specs.Document.{item_count, tables_of, texts_of}
+use Rattle.bnc_config.specs.Document.{is_text_or_list, item_count, tables_of, texts_in, texts_of}
 use Rattle.bnc_config.specs.declared.fault.ConfigFault.{ConfigFault, TheVariants.BadValue}
 use Rattle.{bnc_config.specs.declared.key.Key.Key, std.proofs.Common.{Bool, List, None, Option}}
 use Rattle.std.proofs.Common.{Some, [], append_assoc, arith, drop, false, get_or, inl, inr, length}
 use Rattle.std.proofs.Common.{map, refl, true, ℕ, ◌++◌, ◌+◌, ◌<◌, ◌∙◌, ◌∷◌, ◌≡◌, ◌≤◌, ◌⊎◌}
+use Rattle.std.proofs.lemmas.Bool.Decides.{nat_tests}
 use Rattle.std.{proofs.lemmas.List.map-append, specs.{List.list_all, Option.option_or}}
 use Rattle.toml.{proofs.Views.items_view-drop, specs.Data.{Data, Items, Members, array, as_array}}
 use Rattle.toml.specs.{Data.{as_table, item, no_items, table}, View.{items_view, view}}
@@ -102,3 +103,20 @@ texts_of_allowed test (item d items) h = grind (arith, texts_of_allowed test ite
 pub few_texts_of : (items : Items) → length (texts_of items) ≤ item_count items
 few_texts_of no_items = omega arith
 few_texts_of (item d items) = grind (arith, few_texts_of items)
+
+-- as many texts as items, if all are texts
+count_texts_of : (test : List ℕ → Bool) (items : Items)
+    → all_items (is_text_where test) items ≡ true → length (texts_of items) ≡ item_count items
+count_texts_of test no_items h = refl
+count_texts_of test (item d items) h = grind (arith, count_texts_of test items)
+
+-- the texts of a value that is one text which passes a test, or a list of one to eight
+module _ (test : List ℕ → Bool) (value : Data) (good : is_text_or_list test 8 value ≡ true) where
+  pub addresses_allowed : list_all test (texts_in value) ≡ true
+  addresses_allowed = grind (arith, nat_tests, texts_of_allowed test)
+
+  pub addresses_some : 1 ≤ length (texts_in value)
+  addresses_some = grind (arith, nat_tests, count_texts_of test)
+
+  pub addresses_few : length (texts_in value) ≤ 8
+  addresses_few = grind (arith, nat_tests, count_texts_of test)

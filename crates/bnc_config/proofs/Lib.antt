@@ -1,6 +1,10 @@
+pub mod AddressLemmas
+pub mod ChannelLemmas
 pub mod DigestLemmas
 pub mod FaultLemmas
 pub mod ItemsLemmas
 pub mod KeyLemmas
 pub mod NamesLemmas
+pub mod PairsLemmas
 pub mod PortLemmas
+pub mod TextLemmas

@@ -1,19 +1,22 @@
 -- What a settings file means as a TOML tree, and its first fault. The format is our own choice.
 use Rattle.std.specs.Prelude.{◌≡◌, ◌⊎◌, ℕ, suc, Bool, true, false, ◌&&◌, nat_le, pos, List, [], ◌∷◌}
 use Rattle.std.specs.Prelude.{◌++◌, map, Option, Some, None, Result, Ok, Err, unwrap_or, is_some}
-use Rattle.std.specs.Prelude.{option_and_then, if◌then◌else◌, IsUtf8, max, ◌/◌}
+use Rattle.std.specs.Prelude.{option_and_then, option_map, if◌then◌else◌, IsUtf8, max, ◌/◌, codes}
 use Rattle.std.specs.List.{list_any}
-use Rattle.std.specs.Option.{option_or}
+use Rattle.std.specs.Option.{option_map_or, option_or}
 use Rattle.std.specs.Result.{result_unwrap_or}
 use Rattle.std.specs.Str.{bytes_eq}
 use Rattle.hex.specs.Hex.{decode_of}
 use Rattle.irc_names.specs.Nick.{is_nameable}
 use Rattle.toml.specs.Data.{Data, string, integer, array, table, Items, no_items, item, Members}
-use Rattle.toml.specs.Data.{get_member, as_str, as_table}
+use Rattle.toml.specs.Data.{no_members, member, get_member, as_str, as_bool, as_table}
 use Rattle.toml.specs.Parse.{parse_document}
 use Rattle.bnc_config.specs.Key.{word_of}
 use Rattle.bnc_config.specs.Settings.{Settings, OptionSettings, UserSettings, NetworkSettings}
+use Rattle.bnc_config.specs.Settings.{ChannelKey, NetworkOptionSettings, SaslSettings}
 use Rattle.bnc_config.specs.Text.{is_name, is_word, is_one_line, is_path, is_address}
+use Rattle.bnc_config.specs.Text.{is_account_password, is_channel_key, is_ip, is_mechanism}
+use Rattle.bnc_config.specs.Command.{is_sent_at_connect}
 use Rattle.bnc_config.specs.Text.{is_hexadecimal, is_digest}
 use Rattle.bnc_config.specs.declared.fault.ConfigFault.{ConfigFault}
 use Rattle.bnc_config.specs.declared.fault.ConfigFault.TheVariants.{NotToml, Missing, BadValue}
@@ -21,12 +24,16 @@ use Rattle.bnc_config.specs.declared.fault.ConfigFault.TheVariants.{Twice, OutOf
 use Rattle.bnc_config.specs.declared.key.Key.{Key}
 use Rattle.bnc_config.specs.declared.key.Key.TheVariants.{Listen, History, Retry, User}
 use Rattle.bnc_config.specs.declared.key.Key.TheVariants.{Kept, Memory}
+use Rattle.bnc_config.specs.declared.key.Key.TheVariants.{ListenProxy, Proxies}
 use Rattle.bnc_config.specs.declared.key.Key.TheVariants.{UserName, UserSalt, UserPassword}
 use Rattle.bnc_config.specs.declared.key.Key.TheVariants.{UserNetwork}
 use Rattle.bnc_config.specs.declared.key.Key.TheVariants.{NetworkName, NetworkAddress, NetworkNick}
 use Rattle.bnc_config.specs.declared.key.Key.TheVariants.{NetworkUser}
 use Rattle.bnc_config.specs.declared.key.Key.TheVariants.{NetworkRealname, NetworkPassword}
-use Rattle.bnc_config.specs.declared.key.Key.TheVariants.{NetworkJoin}
+use Rattle.bnc_config.specs.declared.key.Key.TheVariants.{NetworkJoin, NetworkSasl}
+use Rattle.bnc_config.specs.declared.key.Key.TheVariants.{NetworkSaslUser, NetworkSaslPassword}
+use Rattle.bnc_config.specs.declared.key.Key.TheVariants.{NetworkOnConnect, NetworkJoinAfter}
+use Rattle.bnc_config.specs.declared.key.Key.TheVariants.{NetworkKeys, NetworkNicks, NetworkAway}
 
 -- ---- which values a key allows
 
@@ -60,11 +67,43 @@ abbrev pub has_at_most : ℕ → Data → Bool
 has_at_most most (array items) = nat_le (item_count items) most
 has_at_most most _ = false
 
--- the texts that a key, or each item of its list, allows: a key with no texts, or hexadecimal ones,
+-- a list of at most so many texts, each of which passes the test
+abbrev pub is_text_list : (List ℕ → Bool) → ℕ → Data → Bool
+is_text_list test most value = is_list_where (is_text_where test) value && has_at_most most value
+
+-- a text that passes the test, or a list of such texts, of one to so many
+abbrev pub is_text_or_list : (List ℕ → Bool) → ℕ → Data → Bool
+is_text_or_list test most (string text) = test text
+is_text_or_list test most (array items) =
+    all_items (is_text_where test) items
+    && (nat_le 1 (item_count items) && nat_le (item_count items) most)
+is_text_or_list test most _ = false
+
+abbrev pub all_members : (Data → Bool) → Members → Bool
+all_members test no_members = true
+all_members test (member name value members) = test value && all_members test members
+
+abbrev pub member_count : Members → ℕ
+member_count no_members = 0
+member_count (member name value members) = suc (member_count members)
+
+-- a table of at most so many texts, each of which passes the test, under any names
+abbrev pub is_text_table : (List ℕ → Bool) → ℕ → Data → Bool
+is_text_table test most (table members) =
+    nat_le (member_count members) most && all_members (is_text_where test) members
+is_text_table test most _ = false
+
+-- `true` or `false`
+abbrev pub is_flag : Data → Bool
+is_flag value = is_some (as_bool value)
+
+-- the texts that a key, or each item of its list or table, allows: a key with no texts, or hexadecimal ones,
 -- has none here
 abbrev pub allows_text : Key → List ℕ → Bool
 allows_text Listen = is_address
 allows_text Kept = is_path
+allows_text ListenProxy = is_address
+allows_text Proxies = is_ip
 allows_text UserName = is_name
 allows_text NetworkName = is_name
 allows_text NetworkAddress = is_address
@@ -73,18 +112,32 @@ allows_text NetworkUser = is_word
 allows_text NetworkRealname = is_one_line
 allows_text NetworkPassword = is_word
 allows_text NetworkJoin = is_word
+allows_text NetworkSasl = is_mechanism
+allows_text NetworkSaslUser = is_word
+allows_text NetworkSaslPassword = is_account_password
+allows_text NetworkOnConnect = is_sent_at_connect
+allows_text NetworkKeys = is_channel_key
+allows_text NetworkNicks = is_nameable
 allows_text _ = λ text. false
 
 -- the values that a key allows
 abbrev pub allows : Key → Data → Bool
+allows Listen = is_text_or_list is_address 8
 allows History = is_number_within 1 10000
 allows Retry = is_number_within 1 3600
 allows Memory = is_number_within 8 65536
+allows ListenProxy = is_text_or_list is_address 8
+allows Proxies = is_text_list is_ip 16
 allows User = is_list_where is_table
 allows UserSalt = is_text_where is_hexadecimal
 allows UserPassword = is_text_where is_digest
 allows UserNetwork = is_list_where is_table
-allows NetworkJoin = λ value. is_list_where (is_text_where is_word) value && has_at_most 64 value
+allows NetworkJoin = is_text_list is_word 64
+allows NetworkOnConnect = is_text_list is_sent_at_connect 16
+allows NetworkJoinAfter = is_number_within 0 60
+allows NetworkKeys = is_text_table is_channel_key 64
+allows NetworkNicks = is_text_list is_nameable 8
+allows NetworkAway = is_flag
 allows key = is_text_where (allows_text key)
 
 -- the keys that may be left out
@@ -93,10 +146,19 @@ is_optional History = true
 is_optional Retry = true
 is_optional Kept = true
 is_optional Memory = true
+is_optional ListenProxy = true
+is_optional Proxies = true
 is_optional User = true
 is_optional UserNetwork = true
 is_optional NetworkPassword = true
 is_optional NetworkJoin = true
+is_optional NetworkSasl = true
+is_optional NetworkSaslUser = true
+is_optional NetworkOnConnect = true
+is_optional NetworkJoinAfter = true
+is_optional NetworkKeys = true
+is_optional NetworkNicks = true
+is_optional NetworkAway = true
 is_optional _ = false
 
 -- ---- the first fault
@@ -114,13 +176,13 @@ abbrev pub keys_fault : List Key → Members → Option ConfigFault
 keys_fault [] tree = None
 keys_fault (key ∷ keys) tree = option_or (key_fault tree key) (keys_fault keys tree)
 
--- the keys of the top, those there that may be left out, and the keys of a user and of a network,
--- in the order of the checks
+-- the keys of the top, the later ones there, and the keys of a user and of a network and the later
+-- ones of that, in the order of the checks
 abbrev pub top_keys : List Key
 top_keys = Listen ∷ History ∷ Retry ∷ []
 
 abbrev pub option_keys : List Key
-option_keys = Kept ∷ Memory ∷ []
+option_keys = Kept ∷ Memory ∷ ListenProxy ∷ Proxies ∷ []
 
 abbrev pub user_keys : List Key
 user_keys = UserName ∷ UserSalt ∷ UserPassword ∷ UserNetwork ∷ []
@@ -129,6 +191,33 @@ abbrev pub network_keys : List Key
 network_keys =
     NetworkName ∷ NetworkAddress ∷ NetworkNick ∷ NetworkUser ∷ NetworkRealname ∷ NetworkPassword ∷
     NetworkJoin ∷ []
+
+abbrev pub network_option_keys : List Key
+network_option_keys =
+    NetworkOnConnect ∷ NetworkJoinAfter ∷ NetworkKeys ∷ NetworkNicks ∷ NetworkAway ∷ []
+
+abbrev pub optional_text_at : Key → Members → Option (List ℕ)
+optional_text_at key tree = option_and_then as_str (get_member (word_of key) tree)
+
+-- the mechanism is PLAIN
+abbrev pub has_plain : Members → Bool
+has_plain tree = option_map_or (bytes_eq (codes "PLAIN")) (optional_text_at NetworkSasl tree) false
+
+-- nothing may stand at the key
+abbrev pub barred_fault : Members → Key → Option ConfigFault
+barred_fault tree key = fault_at key true (λ _. false) (get_member (word_of key) tree)
+
+-- the first fault of the keys of a login by SASL: of its mechanism, then of the account's name and
+-- password, which PLAIN alone has
+abbrev pub sasl_fault : Members → Option ConfigFault
+sasl_fault tree = option_or (key_fault tree NetworkSasl)
+    (if has_plain tree
+    then option_or (key_fault tree NetworkSaslUser) (key_fault tree NetworkSaslPassword)
+    else option_or (barred_fault tree NetworkSaslUser) (barred_fault tree NetworkSaslPassword))
+
+-- the first fault of the later keys of a network: of a login by SASL, then of the options
+abbrev pub later_fault : Members → Option ConfigFault
+later_fault tree = option_or (sasl_fault tree) (keys_fault network_option_keys tree)
 
 -- the name stands earlier in the same list, byte for byte
 abbrev pub twice_fault : List (List ℕ) → List ℕ → Option ConfigFault
@@ -156,7 +245,8 @@ tables_at key tree = tables_of (items_of (get_member (word_of key) tree))
 -- name is an earlier one's
 abbrev pub network_fault : List (List ℕ) → Members → Option ConfigFault
 network_fault earlier tree =
-    option_or (keys_fault network_keys tree) (twice_fault earlier (text_at NetworkName tree))
+    option_or (keys_fault network_keys tree)
+    (option_or (later_fault tree) (twice_fault earlier (text_at NetworkName tree)))
 
 -- the first fault of networks, each after those before it
 abbrev pub networks_fault : List (List ℕ) → List Members → Option ConfigFault
@@ -176,16 +266,16 @@ users_fault earlier [] = None
 users_fault earlier (tree ∷ rest) =
     option_or (user_fault earlier tree) (users_fault (earlier ++ text_at UserName tree ∷ []) rest)
 
--- the first fault of a file: of the keys at its top, then of the list of its users, then of these
+-- the first fault of the list of users, then of these
+abbrev pub users_fault_at : Members → Option ConfigFault
+users_fault_at tree = option_or (key_fault tree User) (users_fault [] (tables_at User tree))
+
+-- the first fault of a file: of the keys at its top, then of its users
 abbrev pub first_fault : Members → Option ConfigFault
 first_fault tree = option_or (keys_fault top_keys tree)
-    (option_or (keys_fault option_keys tree)
-    (option_or (key_fault tree User) (users_fault [] (tables_at User tree))))
+    (option_or (keys_fault option_keys tree) (users_fault_at tree))
 
 -- ---- what the file means
-
-abbrev pub optional_text_at : Key → Members → Option (List ℕ)
-optional_text_at key tree = option_and_then as_str (get_member (word_of key) tree)
 
 -- the number at a key, and the default where there is none
 abbrev pub number_or : ℕ → Option Data → ℕ
@@ -203,9 +293,61 @@ texts_of (item _ items) = texts_of items
 abbrev pub texts_at : Key → Members → List (List ℕ)
 texts_at key tree = texts_of (items_of (get_member (word_of key) tree))
 
+-- the texts of a list, if the key stands
+abbrev pub optional_texts_at : Key → Members → Option (List (List ℕ))
+optional_texts_at key tree =
+    option_map (λ value. texts_of (items_of (Some value))) (get_member (word_of key) tree)
+
+-- one text, or the texts of a list
+abbrev pub texts_in : Data → List (List ℕ)
+texts_in (string text) = text ∷ []
+texts_in (array items) = texts_of items
+texts_in _ = []
+
+-- the addresses at a key
+abbrev pub addresses_at : Key → Members → List (List ℕ)
+addresses_at key tree = option_map_or texts_in (get_member (word_of key) tree) []
+
+-- the texts of a table under their names, in the order of the names' bytes
+abbrev pub pairs_of : Members → List ChannelKey
+pairs_of no_members = []
+pairs_of (member name (string text) members) = (name, text) ∷ pairs_of members
+pairs_of (member name _ members) = pairs_of members
+
+-- the members of a table, none where there is no table
+abbrev pub members_of : Option Data → Members
+members_of (Some (table members)) = members
+members_of _ = no_members
+
+abbrev pub channel_keys_at : Members → List ChannelKey
+channel_keys_at tree = pairs_of (members_of (get_member (word_of NetworkKeys) tree))
+
+-- the flag at a key, false where there is none
+abbrev pub flag_at : Key → Members → Bool
+flag_at key tree = unwrap_or (option_and_then as_bool (get_member (word_of key) tree)) false
+
 -- the bytes that the text at a key has in hexadecimal digits
 abbrev pub bytes_at : Key → Members → List ℕ
 bytes_at key tree = result_unwrap_or (decode_of (text_at key tree)) []
+
+-- the login by SASL of a network with this nick: the account's name is the nick if the file does
+-- not say
+abbrev pub sasl_of : List ℕ → Members → Option SaslSettings
+sasl_of nick tree = if has_plain tree
+    then Some (Some (
+      unwrap_or (optional_text_at NetworkSaslUser tree) nick,
+      text_at NetworkSaslPassword tree,
+    ))
+    else option_map (λ _. None) (optional_text_at NetworkSasl tree)
+
+abbrev pub network_options_in : Members → NetworkOptionSettings
+network_options_in tree = record {
+  on_connect = texts_at NetworkOnConnect tree;
+  join_after = number_at 3 NetworkJoinAfter tree;
+  keys = channel_keys_at tree;
+  nicks = optional_texts_at NetworkNicks tree;
+  away = flag_at NetworkAway tree;
+}
 
 abbrev pub network_in : Members → NetworkSettings
 network_in tree = record {
@@ -216,6 +358,8 @@ network_in tree = record {
   realname = text_at NetworkRealname tree;
   password = optional_text_at NetworkPassword tree;
   join = texts_at NetworkJoin tree;
+  sasl = sasl_of (text_at NetworkNick tree) tree;
+  options = network_options_in tree;
 }
 
 abbrev pub user_in : Members → UserSettings
@@ -236,12 +380,14 @@ abbrev pub options_in : ℕ → Members → OptionSettings
 options_in history tree = record {
   kept = optional_text_at Kept tree;
   memory = number_at (default_memory history) Memory tree;
+  listen_proxy = addresses_at ListenProxy tree;
+  proxies = optional_texts_at Proxies tree;
 }
 
 -- the settings that a file without a fault means; other keys are not looked at
 abbrev pub settings_in : Members → Settings
 settings_in tree = record {
-  listen = text_at Listen tree;
+  listens = addresses_at Listen tree;
   history = number_at 500 History tree;
   retry = number_at 30 Retry tree;
   options = options_in (number_at 500 History tree) tree;
@@ -276,3 +422,16 @@ abbrev pub AreCopied : Key → Items → Option (List (List ℕ)) → Type 0
 AreCopied key items None = all_items (is_text_where (allows_text key)) items ≡ false
 AreCopied key items (Some texts) =
     (all_items (is_text_where (allows_text key)) items ≡ true) × (texts ≡ texts_of items)
+
+-- copies of the texts of a value, one or a list of one to so many, where the key allows them all,
+-- else nothing
+abbrev pub AreAddresses : Key → ℕ → Data → Option (List (List ℕ)) → Type 0
+AreAddresses key most value None = is_text_or_list (allows_text key) most value ≡ false
+AreAddresses key most value (Some texts) =
+    (is_text_or_list (allows_text key) most value ≡ true) × (texts ≡ texts_in value)
+
+-- copies of the texts of a table with their names where they all are channels' keys, else nothing
+abbrev pub ArePairs : Members → Option (List ChannelKey) → Type 0
+ArePairs members None = all_members (is_text_where is_channel_key) members ≡ false
+ArePairs members (Some pairs) =
+    (all_members (is_text_where is_channel_key) members ≡ true) × (pairs ≡ pairs_of members)

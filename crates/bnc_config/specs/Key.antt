@@ -3,12 +3,16 @@ use Rattle.std.specs.Prelude.{ℕ, List, ◌++◌, codes}
 use Rattle.bnc_config.specs.declared.key.Key.{Key}
 use Rattle.bnc_config.specs.declared.key.Key.TheVariants.{Listen, History, Retry, User}
 use Rattle.bnc_config.specs.declared.key.Key.TheVariants.{Kept, Memory}
+use Rattle.bnc_config.specs.declared.key.Key.TheVariants.{ListenProxy, Proxies}
 use Rattle.bnc_config.specs.declared.key.Key.TheVariants.{UserName, UserSalt, UserPassword}
 use Rattle.bnc_config.specs.declared.key.Key.TheVariants.{UserNetwork}
 use Rattle.bnc_config.specs.declared.key.Key.TheVariants.{NetworkName, NetworkAddress, NetworkNick}
 use Rattle.bnc_config.specs.declared.key.Key.TheVariants.{NetworkUser}
 use Rattle.bnc_config.specs.declared.key.Key.TheVariants.{NetworkRealname, NetworkPassword}
-use Rattle.bnc_config.specs.declared.key.Key.TheVariants.{NetworkJoin}
+use Rattle.bnc_config.specs.declared.key.Key.TheVariants.{NetworkJoin, NetworkSasl}
+use Rattle.bnc_config.specs.declared.key.Key.TheVariants.{NetworkSaslUser, NetworkSaslPassword}
+use Rattle.bnc_config.specs.declared.key.Key.TheVariants.{NetworkOnConnect, NetworkJoinAfter}
+use Rattle.bnc_config.specs.declared.key.Key.TheVariants.{NetworkKeys, NetworkNicks, NetworkAway}
 
 -- the key's word in its table
 abbrev pub word_of : Key → List ℕ
@@ -17,6 +21,8 @@ word_of History = codes "history"
 word_of Retry = codes "retry"
 word_of Kept = codes "kept"
 word_of Memory = codes "memory"
+word_of ListenProxy = codes "listen_proxy"
+word_of Proxies = codes "proxies"
 word_of User = codes "user"
 word_of UserName = codes "name"
 word_of UserSalt = codes "salt"
@@ -29,6 +35,14 @@ word_of NetworkUser = codes "user"
 word_of NetworkRealname = codes "realname"
 word_of NetworkPassword = codes "password"
 word_of NetworkJoin = codes "join"
+word_of NetworkSasl = codes "sasl"
+word_of NetworkSaslUser = codes "sasl_user"
+word_of NetworkSaslPassword = codes "sasl_password"
+word_of NetworkOnConnect = codes "on_connect"
+word_of NetworkJoinAfter = codes "join_after"
+word_of NetworkKeys = codes "keys"
+word_of NetworkNicks = codes "nicks"
+word_of NetworkAway = codes "away"
 
 -- how a fault names the key: with the words of the tables that it stands in, and dots between
 abbrev pub path_of : Key → List ℕ
@@ -37,6 +51,8 @@ path_of History = word_of History
 path_of Retry = word_of Retry
 path_of Kept = word_of Kept
 path_of Memory = word_of Memory
+path_of ListenProxy = word_of ListenProxy
+path_of Proxies = word_of Proxies
 path_of User = word_of User
 path_of UserName = codes "user." ++ word_of UserName
 path_of UserSalt = codes "user." ++ word_of UserSalt
@@ -49,3 +65,11 @@ path_of NetworkUser = codes "user.network." ++ word_of NetworkUser
 path_of NetworkRealname = codes "user.network." ++ word_of NetworkRealname
 path_of NetworkPassword = codes "user.network." ++ word_of NetworkPassword
 path_of NetworkJoin = codes "user.network." ++ word_of NetworkJoin
+path_of NetworkSasl = codes "user.network." ++ word_of NetworkSasl
+path_of NetworkSaslUser = codes "user.network." ++ word_of NetworkSaslUser
+path_of NetworkSaslPassword = codes "user.network." ++ word_of NetworkSaslPassword
+path_of NetworkOnConnect = codes "user.network." ++ word_of NetworkOnConnect
+path_of NetworkJoinAfter = codes "user.network." ++ word_of NetworkJoinAfter
+path_of NetworkKeys = codes "user.network." ++ word_of NetworkKeys
+path_of NetworkNicks = codes "user.network." ++ word_of NetworkNicks
+path_of NetworkAway = codes "user.network." ++ word_of NetworkAway

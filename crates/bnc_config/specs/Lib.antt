@@ -1,3 +1,4 @@
+pub mod Command
 pub mod ConfigFault
 pub mod Digest
 pub mod Document

@@ -1,12 +1,36 @@
 -- What the settings are.
 use Rattle.std.specs.Prelude.{◌≡◌, ℕ, ◌≤◌, ◌++◌, List, [], Option, option_map, option_and_then}
-use Rattle.std.specs.Prelude.{position, sum_by, length, IsSomeAnd, IfSome, IsTrue}
+use Rattle.std.specs.Prelude.{position, sum_by, length, IsSomeAnd, IfSome, IsTrue, Bool}
+use Rattle.std.specs.Prelude.{unwrap_or}
 use Rattle.std.specs.List.{list_all, slice_get}
 use Rattle.std.specs.Option.{option_map_or}
 use Rattle.std.specs.Str.{bytes_eq}
+use Rattle.irc_names.specs.CaseMapping as names
 use Rattle.irc_names.specs.Nick.{is_nameable}
+use Rattle.irc_names.specs.declared.case_mapping.CaseMapping.TheVariants.{Ascii}
 use Rattle.sha2.specs.Sha256.{sha256}
-use Rattle.bnc_config.specs.Text.{is_address, is_name, is_one_line, is_path, is_word}
+use Rattle.bnc_config.specs.Text.{is_account_password, is_address, is_name, is_one_line, is_path}
+use Rattle.bnc_config.specs.Text.{is_channel_key, is_ip, is_word}
+use Rattle.bnc_config.specs.Command.{is_sent_at_connect}
+
+-- a login by SASL: the account and its password by PLAIN, neither by EXTERNAL
+abbrev pub SaslSettings : Type 0
+SaslSettings = Option (List ℕ × List ℕ)
+
+-- a channel's name and its key
+abbrev pub ChannelKey : Type 0
+ChannelKey = List ℕ × List ℕ
+
+-- what may be left out of a network beside its password, its channels and its login: the lines that
+-- are sent before the channels are joined, and the seconds from these to the channels; the keys of
+-- channels; further nicks, with which the wanted one is asked for again; whether an AWAY is sent
+-- again after a loss
+pub record NetworkOptionSettings : Type 0 where
+  pub on_connect : List (List ℕ)
+  pub join_after : ℕ
+  pub keys : List ChannelKey
+  pub nicks : Option (List (List ℕ))
+  pub away : Bool
 
 -- a network of a user
 pub record NetworkSettings : Type 0 where
@@ -17,6 +41,8 @@ pub record NetworkSettings : Type 0 where
   pub realname : List ℕ
   pub password : Option (List ℕ)
   pub join : List (List ℕ)
+  pub sasl : Option SaslSettings
+  pub options : NetworkOptionSettings
 
 -- a user: the digest is that of the salt's bytes followed by the password's
 pub record UserSettings : Type 0 where
@@ -25,18 +51,41 @@ pub record UserSettings : Type 0 where
   pub digest : List ℕ
   pub networks : List NetworkSettings
 
--- what may be left out at the top: the folder of what is kept; the memory of a network in MiB
+-- what may be left out at the top: the folder of what is kept; the memory of a network in MiB; the
+-- addresses for proxies; the addresses from which proxies may connect
 pub record OptionSettings : Type 0 where
   pub kept : Option (List ℕ)
   pub memory : ℕ
+  pub listen_proxy : List (List ℕ)
+  pub proxies : Option (List (List ℕ))
 
 -- all settings: history in messages, retry in seconds
 pub record Settings : Type 0 where
-  pub listen : List ℕ
+  pub listens : List (List ℕ)
   pub history : ℕ
   pub retry : ℕ
   pub options : OptionSettings
   pub users : List UserSettings
+
+-- what a login by SASL is like
+abbrev pub IsSasl : SaslSettings → Type 0
+IsSasl sasl = IfSome sasl
+    (λ account. IsTrue (is_word account.0) × IsTrue (is_account_password account.1))
+
+abbrev pub are_channel_keys : List ChannelKey → Bool
+are_channel_keys keys = list_all (λ (pair : ChannelKey). is_channel_key pair.1) keys
+
+-- what the options of a network are like
+abbrev pub IsNetworkOptions : NetworkOptionSettings → Type 0
+IsNetworkOptions options = record {
+  on_connect : IsTrue (list_all is_sent_at_connect options.on_connect);
+  few_lines : length options.on_connect ≤ 16;
+  join_after : options.join_after ≤ 60;
+  keys : IsTrue (are_channel_keys options.keys);
+  few_keys : length options.keys ≤ 64;
+  nicks : IfSome options.nicks
+      (λ nicks. IsTrue (list_all is_nameable nicks) × (length nicks ≤ 8));
+}
 
 -- what the settings of a network are like, whatever file they come from
 abbrev pub IsNetwork : NetworkSettings → Type 0
@@ -51,6 +100,22 @@ IsNetwork network = record {
   few : length network.join ≤ 64;
 }
 
+-- two networks are dialled alike: all is the same except their names, the channels to join and the
+-- options, which count from the next dial on
+abbrev pub AreDialledAlike : NetworkSettings → NetworkSettings → Type 0
+AreDialledAlike one other =
+    record one { name = other.name; join = other.join; options = other.options } ≡ other
+
+-- the key that a channel has: that of the first pair of its name, in letters of either case, since
+-- no CASEMAPPING of the network is known yet
+abbrev pub is_key_for : List ℕ → ChannelKey → Bool
+is_key_for channel pair = bytes_eq (names.key_of Ascii pair.0) (names.key_of Ascii channel)
+
+abbrev pub key_for : List ChannelKey → List ℕ → Option (List ℕ)
+key_for keys channel = option_and_then
+    (λ i. option_map (λ (pair : ChannelKey). pair.1) (slice_get keys i))
+    (position (is_key_for channel) keys)
+
 -- what a user is like, but for the networks, each of which is like a network
 abbrev pub IsUser : UserSettings → Type 0
 IsUser user = IsTrue (is_name user.name)
@@ -60,15 +125,24 @@ abbrev pub IsOptions : OptionSettings → Type 0
 IsOptions options = record {
   kept : IfSome options.kept (λ path. IsTrue (is_path path));
   memory : (8 ≤ options.memory) × (options.memory ≤ 65536);
+  listen_proxy : IsTrue (list_all is_address options.listen_proxy);
+  few_listens : length options.listen_proxy ≤ 8;
+  proxies : IfSome options.proxies
+      (λ proxies. IsTrue (list_all is_ip proxies) × (length proxies ≤ 16));
 }
 
 -- what the other settings at the top are like
 abbrev pub IsTop : Settings → Type 0
 IsTop settings = record {
-  listen : IsTrue (is_address settings.listen);
+  listens : IsTrue (list_all is_address settings.listens);
+  few_listens : (1 ≤ length settings.listens) × (length settings.listens ≤ 8);
   history : (1 ≤ settings.history) × (settings.history ≤ 10000);
   retry : (1 ≤ settings.retry) × (settings.retry ≤ 3600);
 }
+
+-- the first of the addresses for clients
+abbrev pub first_listen : Settings → List ℕ
+first_listen settings = unwrap_or (slice_get settings.listens 0) []
 
 -- the user at a place, from 0
 abbrev pub user_at : Settings → ℕ → Option UserSettings

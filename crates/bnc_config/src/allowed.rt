@@ -5,10 +5,15 @@ ghost use Rattle.std.specs.Char.{is_ascii_digit};
 ghost use Rattle.std.specs.List.{list_all, list_any};
 ghost use Rattle.bnc_config.specs.Document.{allows_text};
 ghost use Rattle.bnc_config.specs.Text.{bars_name, bars_word, is_address, is_control, is_name};
-ghost use Rattle.bnc_config.specs.Text.{is_path, is_port, is_word};
+ghost use Rattle.bnc_config.specs.Text.{is_account_password, is_bracketed, is_channel_key};
+ghost use Rattle.bnc_config.specs.Text.{is_colon_and_port, is_ip};
+ghost use Rattle.bnc_config.specs.Text.{is_host_and_port, is_ipv6_and_port, is_ipv6_byte};
+ghost use Rattle.bnc_config.specs.Text.{is_ipv6_text, is_mechanism, is_path, is_port, is_word};
 
 use crate::Key;
+use crate::command::is_sent_at_connect;
 use irc_names::is_nameable;
+use std::net::IpAddr;
 
 fn is_control(byte: u8) -> bool
     ensures { result ≡ is_control byte }
@@ -62,6 +67,37 @@ pub fn is_word(text: &[u8]) -> bool
     }
 }
 
+/// Whether the text is the mechanism of a login by SASL.
+fn is_mechanism(text: &str) -> bool
+    ensures { result ≡ is_mechanism text.now }
+{
+    text == "PLAIN" || text == "EXTERNAL"
+}
+
+/// Whether the text can be an account's password: 1 to 300 bytes without NUL.
+fn is_account_password(text: &[u8]) -> bool
+    ensures { result ≡ is_account_password text.now }
+{
+    1 <= text.len() && text.len() <= 300 && !text.contains(&0)
+}
+
+/// Whether the text can be a channel's key: a word without a comma.
+fn is_channel_key(text: &[u8]) -> bool
+    ensures { result ≡ is_channel_key text.now }
+{
+    is_word(text) && !text.contains(&b',')
+}
+
+/// Whether the text is an address of IPv4 or IPv6, without a port and without a zone.
+fn is_ip(text: &[u8]) -> bool
+    ensures { result ≡ is_ip text.now }
+{
+    match IpAddr::parse_ascii(text) {
+        Ok(_) => true,
+        Err(_) => false,
+    }
+}
+
 /// Whether the text can be the path of a file or a folder: it is not empty and holds no control
 /// byte.
 fn is_path(text: &[u8]) -> bool
@@ -86,9 +122,62 @@ fn is_port(text: &str) -> bool
     }
 }
 
+/// Whether the byte can stand in the text of an IPv6 address.
+fn is_ipv6_byte(byte: u8) -> bool
+    ensures { result ≡ is_ipv6_byte byte }
+{
+    matches!(byte, b'0'..=b'9' | b'a'..=b'f' | b'A'..=b'F' | b':' | b'.')
+}
+
+fn has_ipv6_bytes_only(text: &[u8]) -> bool
+    ensures { result ≡ list_all is_ipv6_byte text.now }
+{
+    text.iter().all(|byte| is_ipv6_byte(*byte))
+}
+
+/// Whether such bytes stand there, one at least.
+fn is_ipv6_text(text: &[u8]) -> bool
+    ensures { result ≡ is_ipv6_text text.now }
+{
+    match text {
+        [] => false,
+        [_, ..] => has_ipv6_bytes_only(text),
+    }
+}
+
+/// Whether the text is `:PORT`.
+fn is_colon_and_port(text: &str) -> bool
+    ensures { result ≡ is_colon_and_port text.now }
+{
+    match text.split_once(':') {
+        Some((before, port)) => before.is_empty() && is_port(port),
+        None => false,
+    }
+}
+
+/// Whether the text is `IPV6]:PORT`.
+fn is_ipv6_and_port(text: &str) -> bool
+    ensures { result ≡ is_ipv6_and_port text.now }
+{
+    match text.split_once(']') {
+        Some((host, rest)) => is_ipv6_text(host.as_bytes()) && is_colon_and_port(rest),
+        None => false,
+    }
+}
+
+/// Whether the text is `[IPV6]:PORT`.
+fn is_bracketed(text: &str) -> bool
+    ensures { result ≡ is_bracketed text.now }
+{
+    match text.split_once('[') {
+        Some((before, rest)) => before.is_empty() && is_ipv6_and_port(rest),
+        None => false,
+    }
+}
+
 /// Whether the text is `HOST:PORT`, with a host that is not empty and holds no colon.
-pub fn is_address(text: &str) -> bool
-    ensures { result ≡ is_address text.now }
+fn is_host_and_port(text: &str) -> bool
+    ensures { result ≡ is_host_and_port text.now }
 {
     match text.split_once(':') {
         Some((host, port)) => !host.is_empty() && is_port(port),
@@ -96,17 +185,33 @@ pub fn is_address(text: &str) -> bool
     }
 }
 
+/// Whether the text is `HOST:PORT`, with a host that is not empty and holds no colon, or
+/// `[IPV6]:PORT`, without a zone.
+#[tactic(auto, unfolding(crate::specs::Text::is_address))]
+pub fn is_address(text: &str) -> bool
+    ensures { result ≡ is_address text.now }
+{
+    is_host_and_port(text) || is_bracketed(text)
+}
+
 /// Whether the key allows this text, or a list at the key does.
 pub(crate) fn allows(key: Key, text: &str) -> bool
     ensures { result ≡ allows_text key text.now }
 {
     match key {
-        Key::Listen | Key::NetworkAddress => is_address(text),
+        Key::Listen | Key::ListenProxy | Key::NetworkAddress => is_address(text),
         Key::Kept => is_path(text.as_bytes()),
         Key::UserName | Key::NetworkName => is_name(text.as_bytes()),
-        Key::NetworkNick => is_nameable(text.as_bytes()),
-        Key::NetworkUser | Key::NetworkPassword | Key::NetworkJoin => is_word(text.as_bytes()),
+        Key::Proxies => is_ip(text.as_bytes()),
+        Key::NetworkNick | Key::NetworkNicks => is_nameable(text.as_bytes()),
+        Key::NetworkUser | Key::NetworkPassword | Key::NetworkJoin | Key::NetworkSaslUser => {
+            is_word(text.as_bytes())
+        }
         Key::NetworkRealname => !has_control(text.as_bytes()),
+        Key::NetworkSasl => is_mechanism(text),
+        Key::NetworkSaslPassword => is_account_password(text.as_bytes()),
+        Key::NetworkOnConnect => is_sent_at_connect(text.as_bytes()),
+        Key::NetworkKeys => is_channel_key(text.as_bytes()),
         _ => false,
     }
 }

@@ -2,18 +2,23 @@
 
 ghost use Rattle.std.specs.Prelude.{◌≡◌, ◌≤◌, ◌↔◌, IfSome, IsTrue, MatchResult, length, option_map};
 ghost use Rattle.std.specs.Prelude.{option_copied};
-ghost use Rattle.bnc_config.specs.Document.{IsFaultOf, Means};
-ghost use Rattle.bnc_config.specs.Settings.{Matches, network_at, networks_at, place_of, user_at};
-ghost use Rattle.bnc_config.specs.Text.{is_address, is_path};
+ghost use Rattle.std.specs.List.{list_all};
+ghost use Rattle.toml.specs.View.{table_view};
+ghost use Rattle.bnc_config.specs.Document.{IsFaultOf, Means, Reads, first_fault, settings_in};
+ghost use Rattle.bnc_config.specs.Settings.{Matches, first_listen, network_at, networks_at};
+ghost use Rattle.bnc_config.specs.Settings.{place_of, user_at};
+ghost use Rattle.bnc_config.specs.Text.{is_address, is_ip, is_path};
 
 use crate::digest::{are_equal, digest_of};
+use crate::lists::required_addresses;
 use crate::networks::place_of_network;
 use crate::options::Options;
-use crate::table::{number_or, required_text, tables_at};
-use crate::users::{place_of_user, read_users};
+use crate::table::number_or;
+use crate::users::{place_of_user, users_at};
 use crate::{ConfigFault, Key, NetworkConfig, Place, Text, UserConfig};
 use std::alloc::Global;
 use std::marker::Model;
+use toml::Table;
 
 /// How many messages a file may ask for: as many as a history can hold (`history::CAPACITY_LIMIT`,
 /// which this crate, below that one, can't name).
@@ -22,7 +27,7 @@ const HISTORY_LIMIT: u32 = 10_000;
 /// The settings that a file means.
 #[derive(Debug, Drop)]
 pub struct Config {
-    listen: Text,
+    listens: Vec<Text>,
     history: usize,
     retry: u64,
     options: Options,
@@ -35,7 +40,7 @@ impl Model for Config {
     ghost Value = { Settings };
 
     ghost view = { λ config. record {
-      listen = config.listen;
+      listens = config.listens.items;
       history = config.history;
       retry = config.retry;
       options = config.options;
@@ -43,7 +48,7 @@ impl Model for Config {
     } };
 
     ghost invariant = { λ config. IsTop (record {
-      listen = config.listen;
+      listens = config.listens.items;
       history = config.history;
       retry = config.retry;
       options = config.options;
@@ -52,6 +57,25 @@ impl Model for Config {
 }
 
 impl Config {
+    /// The settings that the top of a file means.
+    fn of_table(alloc: Global, table: &Table) -> Result<Config, ConfigFault>
+        ensures { Reads (λ config. config) result (first_fault (table_view table.now))
+            (settings_in (table_view table.now)) }
+    {
+        let listens = required_addresses(alloc, table, Key::Listen)?;
+        let history = number_or(table, Key::History, 500, 1, HISTORY_LIMIT)?;
+        let retry = number_or(table, Key::Retry, 30, 1, 3_600)?;
+        let options = Options::read(alloc, table, history)?;
+        let users = users_at(alloc, table)?;
+        Ok(Config {
+            listens,
+            history: history as usize,
+            retry: u64::from(retry),
+            options,
+            users,
+        })
+    }
+
     /// Reads a settings file: the settings that it means, else its first fault. Keys that are not
     /// named here are not looked at.
     #[tactic(auto, using(crate::proofs::FaultLemmas::fault_of_tree))]
@@ -63,28 +87,50 @@ impl Config {
             Err(error) if error.is_memory() => return Err(ConfigFault::OutOfMemory),
             Err(_) => return Err(ConfigFault::NotToml),
         };
-        let listen = required_text(alloc, &table, Key::Listen)?;
-        let history = number_or(&table, Key::History, 500, 1, HISTORY_LIMIT)?;
-        let retry = number_or(&table, Key::Retry, 30, 1, 3_600)?;
-        let options = Options::read(alloc, &table, history)?;
-        let users = read_users(alloc, tables_at(&table, Key::User)?)?;
-        Ok(Config {
-            listen,
-            history: history as usize,
-            retry: u64::from(retry),
-            options,
-            users,
-        })
+        Config::of_table(alloc, &table)
     }
 }
 
 impl Config {
-    /// Where clients connect: `HOST:PORT`, with a port from 1 to 65535.
+    /// Where clients connect: `HOST:PORT` or `[IPV6]:PORT`, with a port from 1 to 65535. It is the
+    /// first of `listens`.
     pub fn listen(&self) -> &str
-        ensures value { result.now ≡ self.now.listen }
+        ensures value { result.now ≡ first_listen self.now }
         ensures clean { IsTrue (is_address result.now) }
     {
-        self.listen.as_str()
+        match self.listens.as_slice() {
+            [first, ..] => first.as_str(),
+            [] => "",
+        }
+    }
+
+    /// All addresses where clients connect, in the order of the file: 1 to 8.
+    pub fn listens(&self) -> &[Text]
+        ensures value { result.now ≡ self.now.listens }
+        ensures clean { IsTrue (list_all is_address result.now) }
+        ensures within { (1 ≤ length result.now) × (length result.now ≤ 8) }
+    {
+        self.listens.as_slice()
+    }
+
+    /// Where proxies connect, which name the client's address in a line of their own, in the order
+    /// of the file: at most 8, each as one of `listens`. None if the file does not say.
+    pub fn listen_proxy(&self) -> &[Text]
+        ensures value { result.now ≡ self.now.options.listen_proxy }
+        ensures clean { IsTrue (list_all is_address result.now) }
+        ensures few { length result.now ≤ 8 }
+    {
+        self.options.listen_proxy()
+    }
+
+    /// The addresses from which proxies may connect: at most 16 texts, each an address of IPv4 or
+    /// IPv6 without a port. `None` if the file does not say: then those of the loopback range may.
+    pub fn proxies(&self) -> Option<&[Text]>
+        ensures value { option_map (λ proxies. proxies.now) result ≡ self.now.options.proxies }
+        ensures clean { IfSome result (λ proxies.
+            IsTrue (list_all is_ip proxies.now) × (length proxies.now ≤ 16)) }
+    {
+        self.options.proxies()
     }
 
     /// How many messages a network's history keeps: 1 to 10,000, and 500 where the file does not

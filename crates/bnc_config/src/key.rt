@@ -9,7 +9,7 @@ use std::fmt;
 /// table or a `[[user.network]]` table.
 #[derive(Clone, Copy, Debug, PartialEq, Eq)]
 pub enum Key {
-    /// `listen`: the address for clients, `HOST:PORT`.
+    /// `listen`: the address for clients, `HOST:PORT` or `[IPV6]:PORT`, or a list of 1 to 8.
     Listen,
     /// `history`: how many messages a network keeps, 1 to 10,000.
     History,
@@ -19,6 +19,10 @@ pub enum Key {
     Kept,
     /// `memory`: how many MiB a network may take, 8 to 65,536.
     Memory,
+    /// `listen_proxy`: the address for proxies, as `listen`.
+    ListenProxy,
+    /// `proxies`: the addresses that may connect to `listen_proxy`.
+    Proxies,
     /// `user`: the list of users.
     User,
     /// `user.name`: what a client logs in as.
@@ -31,7 +35,7 @@ pub enum Key {
     UserNetwork,
     /// `user.network.name`: what a client asks for when it logs in.
     NetworkName,
-    /// `user.network.address`: the IRC server, `HOST:PORT`.
+    /// `user.network.address`: the IRC server, `HOST:PORT` or `[IPV6]:PORT`.
     NetworkAddress,
     /// `user.network.nick`: the nick that is asked for first.
     NetworkNick,
@@ -43,6 +47,22 @@ pub enum Key {
     NetworkPassword,
     /// `user.network.join`: the channels to join.
     NetworkJoin,
+    /// `user.network.sasl`: how an account is logged in to, `PLAIN` or `EXTERNAL`.
+    NetworkSasl,
+    /// `user.network.sasl_user`: the account's name.
+    NetworkSaslUser,
+    /// `user.network.sasl_password`: the account's password.
+    NetworkSaslPassword,
+    /// `user.network.on_connect`: the lines that are sent before the channels are joined.
+    NetworkOnConnect,
+    /// `user.network.join_after`: the seconds from these lines to the channels, 0 to 60.
+    NetworkJoinAfter,
+    /// `user.network.keys`: the channels' keys, a table.
+    NetworkKeys,
+    /// `user.network.nicks`: further nicks, and that the wanted one is asked for again.
+    NetworkNicks,
+    /// `user.network.away`: whether an AWAY is sent again after a loss.
+    NetworkAway,
 }
 
 impl Key {
@@ -56,6 +76,8 @@ impl Key {
             Key::Retry => "retry",
             Key::Kept => "kept",
             Key::Memory => "memory",
+            Key::ListenProxy => "listen_proxy",
+            Key::Proxies => "proxies",
             Key::User => "user",
             Key::UserName => "user.name",
             Key::UserSalt => "user.salt",
@@ -68,6 +90,14 @@ impl Key {
             Key::NetworkRealname => "user.network.realname",
             Key::NetworkPassword => "user.network.password",
             Key::NetworkJoin => "user.network.join",
+            Key::NetworkSasl => "user.network.sasl",
+            Key::NetworkSaslUser => "user.network.sasl_user",
+            Key::NetworkSaslPassword => "user.network.sasl_password",
+            Key::NetworkOnConnect => "user.network.on_connect",
+            Key::NetworkJoinAfter => "user.network.join_after",
+            Key::NetworkKeys => "user.network.keys",
+            Key::NetworkNicks => "user.network.nicks",
+            Key::NetworkAway => "user.network.away",
         }
     }
 
@@ -81,6 +111,8 @@ impl Key {
             Key::Retry => "retry",
             Key::Kept => "kept",
             Key::Memory => "memory",
+            Key::ListenProxy => "listen_proxy",
+            Key::Proxies => "proxies",
             Key::User | Key::NetworkUser => "user",
             Key::UserName | Key::NetworkName => "name",
             Key::UserSalt => "salt",
@@ -90,6 +122,14 @@ impl Key {
             Key::NetworkNick => "nick",
             Key::NetworkRealname => "realname",
             Key::NetworkJoin => "join",
+            Key::NetworkSasl => "sasl",
+            Key::NetworkSaslUser => "sasl_user",
+            Key::NetworkSaslPassword => "sasl_password",
+            Key::NetworkOnConnect => "on_connect",
+            Key::NetworkJoinAfter => "join_after",
+            Key::NetworkKeys => "keys",
+            Key::NetworkNicks => "nicks",
+            Key::NetworkAway => "away",
         }
     }
 }

@@ -1,10 +1,12 @@
 //! What may be left out at the top of the file.
 
-ghost use Rattle.std.specs.Prelude.{◌≡◌, ◌≤◌, IfSome, IsTrue, option_map};
+ghost use Rattle.std.specs.Prelude.{◌≡◌, ◌≤◌, IfSome, IsTrue, length, option_map};
+ghost use Rattle.std.specs.List.{list_all};
 ghost use Rattle.toml.specs.View.{table_view};
 ghost use Rattle.bnc_config.specs.Document.{Reads, keys_fault, option_keys, options_in};
-ghost use Rattle.bnc_config.specs.Text.{is_path};
+ghost use Rattle.bnc_config.specs.Text.{is_address, is_ip, is_path};
 
+use crate::lists::{addresses_at, texts_or_none};
 use crate::table::{number_or, optional_text};
 use crate::{ConfigFault, Key, Text};
 use std::alloc::Global;
@@ -16,9 +18,12 @@ use toml::Table;
 pub(crate) struct Options {
     kept: Option<Text>,
     memory: u32,
+    listen_proxy: Vec<Text>,
+    proxies: Option<Vec<Text>>,
 }
 
 impl Model for Options {
+    ghost use Rattle.std.specs.Prelude.{option_map};
     ghost use Rattle.bnc_config.specs.Settings.{IsOptions, OptionSettings};
 
     ghost Value = { OptionSettings };
@@ -26,11 +31,15 @@ impl Model for Options {
     ghost view = { λ options. record {
       kept = options.kept;
       memory = options.memory;
+      listen_proxy = options.listen_proxy.items;
+      proxies = option_map (λ proxies. proxies.items) options.proxies;
     } };
 
     ghost invariant = { λ options. IsOptions (record {
       kept = options.kept;
       memory = options.memory;
+      listen_proxy = options.listen_proxy.items;
+      proxies = option_map (λ proxies. proxies.items) options.proxies;
     }) };
 }
 
@@ -44,7 +53,14 @@ impl Options {
     {
         let kept = optional_text(alloc, table, Key::Kept)?;
         let memory = number_or(table, Key::Memory, u32::max(64, history / 16), 8, 65_536)?;
-        Ok(Options { kept, memory })
+        let listen_proxy = addresses_at(alloc, table, Key::ListenProxy)?;
+        let proxies = texts_or_none(alloc, table, Key::Proxies, 16)?;
+        Ok(Options {
+            kept,
+            memory,
+            listen_proxy,
+            proxies,
+        })
     }
 
     /// The folder in which messages are kept.
@@ -64,5 +80,26 @@ impl Options {
         ensures within { (8 ≤ result) × (result ≤ 65536) }
     {
         self.memory
+    }
+
+    /// Where proxies connect.
+    pub fn listen_proxy(&self) -> &[Text]
+        ensures value { result.now ≡ self.now.listen_proxy }
+        ensures clean { IsTrue (list_all is_address result.now) }
+        ensures few { length result.now ≤ 8 }
+    {
+        self.listen_proxy.as_slice()
+    }
+
+    /// The addresses of the proxies.
+    pub fn proxies(&self) -> Option<&[Text]>
+        ensures value { option_map (λ proxies. proxies.now) result ≡ self.now.proxies }
+        ensures clean { IfSome result (λ proxies.
+            IsTrue (list_all is_ip proxies.now) × (length proxies.now ≤ 16)) }
+    {
+        match &self.proxies {
+            Some(proxies) => Some(proxies.as_slice()),
+            None => None,
+        }
     }
 }

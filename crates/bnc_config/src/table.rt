@@ -1,24 +1,23 @@
 //! Readers of one key of a table.
 
-ghost use Rattle.std.specs.Prelude.{◌≡◌, ◌≤◌, ◌&&◌, length, option_map, false, true, IfOk, IfSome};
+ghost use Rattle.std.specs.Prelude.{◌≡◌, ◌≤◌, option_map, false, true, IfOk, IfSome};
 ghost use Rattle.std.specs.Prelude.{IsTrue};
 ghost use Rattle.std.specs.List.{list_all};
 ghost use Rattle.toml.specs.Data.{get_member};
 ghost use Rattle.toml.specs.View.{view, items_view, table_view};
 ghost use Rattle.bnc_config.specs.Key.{word_of};
-ghost use Rattle.bnc_config.specs.Document.{AreCopied, Reads, allows_text, fault_at, has_at_most};
-ghost use Rattle.bnc_config.specs.Document.{is_list_where, is_number_within, is_table};
-ghost use Rattle.bnc_config.specs.Document.{is_text_where};
-ghost use Rattle.bnc_config.specs.Document.{items_of, number_at, optional_text_at, text_at};
-ghost use Rattle.bnc_config.specs.Document.{texts_at};
+ghost use Rattle.bnc_config.specs.Document.{Reads, allows_text, barred_fault, fault_at, flag_at};
+ghost use Rattle.bnc_config.specs.Document.{is_flag, is_list_where, is_number_within, is_table};
+ghost use Rattle.bnc_config.specs.Document.{is_text_where, items_of, number_at, optional_text_at};
+ghost use Rattle.bnc_config.specs.Document.{text_at};
 
 use crate::allowed::allows;
-use crate::{ConfigFault, Key, OutOfMemory, Text};
+use crate::{ConfigFault, Key, Text};
 use std::alloc::Global;
 use toml::{Table, Value};
 
 /// What stands at a key of its table.
-fn value_at<'t>(table: &'t Table, key: Key) -> Option<&'t Value>
+pub(crate) fn value_at<'t>(table: &'t Table, key: Key) -> Option<&'t Value>
     ensures { option_map (λ value. view value.now) result
         ≡ get_member (word_of key) (table_view table.now) }
 {
@@ -69,6 +68,24 @@ pub(crate) fn required_text(alloc: Global, table: &Table, key: Key) -> Result<Te
     Ok(Text::copy(alloc, allowed_text(table, key)?)?)
 }
 
+/// The text at a key that may be left out.
+pub(crate) fn text_or_none<'t>(table: &'t Table, key: Key) -> Result<Option<&'t str>, ConfigFault>
+    ensures allowed { IfOk result
+        (λ found. IfSome found (λ text. IsTrue (allows_text key text.now))) }
+    ensures read { Reads (λ found. option_map (λ text. text.now) found) result
+        (fault_at key true (is_text_where (allows_text key))
+        (get_member (word_of key) (table_view table.now)))
+        (optional_text_at key (table_view table.now)) }
+{
+    let Some(value) = value_at(table, key) else {
+        return Ok(None);
+    };
+    match value.as_str() {
+        Some(text) if allows(key, text) => Ok(Some(text)),
+        _ => Err(ConfigFault::BadValue(key)),
+    }
+}
+
 /// A copy of the text at a key that may be left out.
 pub(crate) fn optional_text(
     alloc: Global,
@@ -81,12 +98,19 @@ pub(crate) fn optional_text(
         (get_member (word_of key) (table_view table.now)))
         (optional_text_at key (table_view table.now)) }
 {
-    let Some(value) = value_at(table, key) else {
-        return Ok(None);
-    };
-    match value.as_str() {
-        Some(text) if allows(key, text) => Ok(Some(Text::copy(alloc, text)?)),
-        _ => Err(ConfigFault::BadValue(key)),
+    match text_or_none(table, key)? {
+        Some(text) => Ok(Some(Text::copy(alloc, text)?)),
+        None => Ok(None),
+    }
+}
+
+/// A fault if anything stands at a key.
+pub(crate) fn bar(table: &Table, key: Key) -> Result<(), ConfigFault>
+    ensures { Reads (λ none. none) result (barred_fault (table_view table.now) key) tt }
+{
+    match value_at(table, key) {
+        Some(_) => Err(ConfigFault::BadValue(key)),
+        None => Ok(()),
     }
 }
 
@@ -117,6 +141,21 @@ pub(crate) fn number_or(
     }
 }
 
+/// The flag at a key that may be left out, which then is false.
+pub(crate) fn flag_at(table: &Table, key: Key) -> Result<bool, ConfigFault>
+    ensures { Reads (λ flag. flag) result
+        (fault_at key true is_flag (get_member (word_of key) (table_view table.now)))
+        (flag_at key (table_view table.now)) }
+{
+    let Some(value) = value_at(table, key) else {
+        return Ok(false);
+    };
+    match value.as_bool() {
+        Some(flag) => Ok(flag),
+        None => Err(ConfigFault::BadValue(key)),
+    }
+}
+
 /// Whether each of the values is a table.
 fn are_tables(values: &[Value]) -> bool
     ensures { result ≡ list_all (λ value. is_table (view value)) values.now }
@@ -142,45 +181,4 @@ pub(crate) fn tables_at<'t>(table: &'t Table, key: Key) -> Result<&'t [Value], C
         return Err(ConfigFault::BadValue(key));
     }
     Ok(values.as_slice())
-}
-
-/// Copies of the texts that a list has, all of which the key allows; else `None`.
-fn copied_texts(alloc: Global, values: &[Value], key: Key) -> Result<Option<Vec<Text>>, OutOfMemory>
-    ensures { IfOk result (λ copies.
-        AreCopied key (items_view values.now) (option_map (λ texts. texts.items) copies)) }
-{
-    let mut texts = Vec::with_capacity(alloc, values.len())?;
-    for value in values {
-        match value.as_str() {
-            Some(text) if allows(key, text) => texts.push(Text::copy(alloc, text)?)?,
-            _ => return Ok(None),
-        }
-    }
-    Ok(Some(texts))
-}
-
-/// Copies of the texts of the list at a key, at most 64, which may be left out.
-#[tactic(auto, using(crate::proofs::ItemsLemmas::item_count_view, crate::proofs::ItemsLemmas::texts_of_allowed, crate::proofs::ItemsLemmas::few_texts_of))]
-pub(crate) fn texts_at(alloc: Global, table: &Table, key: Key) -> Result<Vec<Text>, ConfigFault>
-    ensures allowed { IfOk result (λ texts. IsTrue (list_all (allows_text key) texts.items)) }
-    ensures few { IfOk result (λ texts. length texts.items ≤ 64) }
-    ensures read { Reads (λ texts. texts.items) result
-        (fault_at key true
-        (λ value. is_list_where (is_text_where (allows_text key)) value && has_at_most 64 value)
-        (get_member (word_of key) (table_view table.now)))
-        (texts_at key (table_view table.now)) }
-{
-    let Some(value) = value_at(table, key) else {
-        return Ok(Vec::new(alloc));
-    };
-    let Some(values) = value.as_array() else {
-        return Err(ConfigFault::BadValue(key));
-    };
-    if values.len() > 64 {
-        return Err(ConfigFault::BadValue(key));
-    }
-    match copied_texts(alloc, values.as_slice(), key)? {
-        Some(texts) => Ok(texts),
-        None => Err(ConfigFault::BadValue(key)),
-    }
 }

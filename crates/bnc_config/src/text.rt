@@ -1,6 +1,6 @@
 //! A text of the settings.
 
-ghost use Rattle.std.specs.Prelude.{◌≡◌, IfOk};
+ghost use Rattle.std.specs.Prelude.{◌≡◌, ◌↔◌, IfOk, IsTrue};
 
 use crate::OutOfMemory;
 use std::alloc::Global;
@@ -31,6 +31,13 @@ impl Text {
         })
     }
 
+    /// Whether both are the same, byte for byte.
+    pub(crate) fn is_same(&self, other: &Text) -> bool
+        ensures { IsTrue result ↔ (self.now ≡ other.now) }
+    {
+        self.as_bytes() == other.as_bytes()
+    }
+
     /// The bytes of the text.
     pub fn as_bytes(&self) -> &[u8]
         ensures { result.now ≡ self.now }
@@ -43,5 +50,16 @@ impl Text {
         ensures { result.now ≡ self.now }
     {
         self.characters.as_str()
+    }
+}
+
+/// Whether both are left out, or are the same.
+pub(crate) fn are_same_texts(one: &Option<Text>, other: &Option<Text>) -> bool
+    ensures { IsTrue result ↔ (one.now ≡ other.now) }
+{
+    match (one, other) {
+        (Some(one), Some(other)) => one.is_same(other),
+        (None, None) => true,
+        _ => false,
     }
 }

@@ -7,10 +7,12 @@ ghost use Rattle.toml.specs.View.{items_view, table_view};
 ghost use Rattle.bnc_config.specs.Key.{word_of};
 ghost use Rattle.bnc_config.specs.Names.{AreNames};
 ghost use Rattle.bnc_config.specs.Document.{Reads, bytes_at, fault_at, is_text_where};
-ghost use Rattle.bnc_config.specs.Document.{tables_of, text_at, user_fault, user_in, users_fault};
+ghost use Rattle.bnc_config.specs.Document.{tables_at, tables_of, text_at, user_fault, user_in};
+ghost use Rattle.bnc_config.specs.Document.{users_fault, users_fault_at};
 ghost use Rattle.bnc_config.specs.Settings.{place_of_user};
 ghost use Rattle.bnc_config.specs.Text.{is_digest, is_hexadecimal, is_name};
-ghost use Rattle.bnc_config.specs.declared.key.Key.TheVariants.{UserName, UserPassword, UserSalt};
+ghost use Rattle.bnc_config.specs.declared.key.Key.TheVariants.{User, UserName};
+ghost use Rattle.bnc_config.specs.declared.key.Key.TheVariants.{UserPassword, UserSalt};
 
 use crate::names::Names;
 use crate::networks::read_networks;
@@ -152,7 +154,7 @@ impl UserConfig {
 }
 
 /// The users that the tables among some values mean, in their order.
-pub(crate) fn read_users(alloc: Global, values: &[Value]) -> Result<Vec<UserConfig>, ConfigFault>
+fn read_users(alloc: Global, values: &[Value]) -> Result<Vec<UserConfig>, ConfigFault>
     ensures { Reads (λ users. users.items) result
         (users_fault [] (tables_of (items_view values.now)))
         (map user_in (tables_of (items_view values.now))) }
@@ -165,6 +167,14 @@ pub(crate) fn read_users(alloc: Global, values: &[Value]) -> Result<Vec<UserConf
         }
     }
     Ok(users)
+}
+
+/// The users that the list at the key `user` of a table means; the key may be left out.
+pub(crate) fn users_at(alloc: Global, table: &Table) -> Result<Vec<UserConfig>, ConfigFault>
+    ensures { Reads (λ users. users.items) result (users_fault_at (table_view table.now))
+        (map user_in (tables_at User (table_view table.now))) }
+{
+    read_users(alloc, tables_at(table, Key::User)?)
 }
 
 /// The place of the user of this name among some.

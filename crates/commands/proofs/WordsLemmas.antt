@@ -55,9 +55,11 @@ pub no_attach : (rows : List Row) → ((caps : Caps) (n : ℕ) → IsAttach rows
 no_attach rows none (Attach caps n) asks = none caps n asks.1
 no_attach rows none _ asks = cc
 
--- the commands whose argument is a settings file alone
+-- the commands whose argument is a file alone
 abbrev pub HasFile : Text → Type 0
-HasFile name = (name ≡ codes "check") ⊎ ((name ≡ codes "serve") ⊎ (name ≡ codes "setup"))
+HasFile name =
+    (name ≡ codes "check")
+    ⊎ ((name ≡ codes "serve") ⊎ ((name ≡ codes "setup") ⊎ (name ≡ codes "log")))
 
 -- nor does one of these without a file
 no_file : (name : Text) (rows : List Row) → HasFile name
@@ -66,8 +68,10 @@ no_file name rows (inl is) none View asks = cc
 no_file name rows (inl is) none _ asks = cc
 no_file name rows (inr (inl is)) none View asks = cc
 no_file name rows (inr (inl is)) none _ asks = cc
-no_file name rows (inr (inr is)) none View asks = cc
-no_file name rows (inr (inr is)) none _ asks = cc
+no_file name rows (inr (inr (inl is))) none View asks = cc
+no_file name rows (inr (inr (inl is))) none _ asks = cc
+no_file name rows (inr (inr (inr is))) none View asks = cc
+no_file name rows (inr (inr (inr is))) none _ asks = cc
 
 pub file_cause : (name : Text) (rows : List Row) (fault : WordsFault) → HasFile name
     → IsTextCause (first_of (codes "file") rows) fault → IsCommandCause name rows fault

@@ -13,7 +13,7 @@ use Rattle.client_caps.specs.declared.caps.Caps.{Caps}
 use Rattle.client_caps.specs.Caps.{no_caps}
 use Rattle.client_caps.specs.Request.{request_of}
 use Rattle.commands.specs.declared.words.Command.TheVariants.{Attach, Check, Control as ControlIt}
-use Rattle.commands.specs.declared.words.Command.TheVariants.{Password, Serve, Setup, View}
+use Rattle.commands.specs.declared.words.Command.TheVariants.{Log, Password, Serve, Setup, View}
 use Rattle.commands.specs.declared.words.Control.{Control}
 use Rattle.commands.specs.declared.words.WordsFault.{WordsFault}
 use Rattle.commands.specs.declared.words.WordsFault.TheVariants.{Bad, Help, OutOfMemory}
@@ -79,11 +79,12 @@ bare_app = let app = new_app (codes "bnc") in
       };
     }
 
--- with the commands whose argument is a settings file
+-- with the commands whose argument is a file
 abbrev pub file_apps : App
 file_apps =
-    with_subcommand (with_subcommand (with_subcommand bare_app (file_app (codes "serve")).top)
-    (file_app (codes "check")).top) (file_app (codes "setup")).top
+    with_subcommand (with_subcommand (with_subcommand (with_subcommand bare_app
+    (file_app (codes "serve")).top) (file_app (codes "check")).top)
+    (file_app (codes "setup")).top) (file_app (codes "log")).top
 
 abbrev pub bnc_app : App
 bnc_app =
@@ -136,6 +137,8 @@ IsCommandOf name rows (Serve file) =
     (name ≡ codes "serve") × (first_of (codes "file") rows ≡ Some (string_bytes file))
 IsCommandOf name rows (Setup file) =
     (name ≡ codes "setup") × (first_of (codes "file") rows ≡ Some (string_bytes file))
+IsCommandOf name rows (Log file) =
+    (name ≡ codes "log") × (first_of (codes "file") rows ≡ Some (string_bytes file))
 IsCommandOf name rows Password = name ≡ codes "password"
 IsCommandOf name rows (ControlIt control) = (name ≡ codes "control") × IsControl rows control
 

@@ -1,12 +1,14 @@
 -- What a fault is told as, and which fault an error is. The texts are our own choice.
 use Rattle.std.specs.Prelude.{◌≡◌, ◌≢◌, ◌++◌, ℕ, List, codes, string_bytes}
+use Rattle.std.specs.Fmt.{decimal}
 use Rattle.std.specs.declared.io.ErrorKind.{ErrorKind}
 use Rattle.std.specs.declared.io.ErrorKind.TheVariants as kind
 use Rattle.bnc_config.specs.ConfigFault as config
 use Rattle.commands.specs.declared.fault.Fault.{Fault}
 use Rattle.commands.specs.declared.fault.Fault.TheVariants.{CannotListen, CannotRead}
-use Rattle.commands.specs.declared.fault.Fault.TheVariants.{CannotReadFile, CannotWrite, Exists}
-use Rattle.commands.specs.declared.fault.Fault.TheVariants.{LineTooLong, NoAnswer, NobodyReads}
+use Rattle.commands.specs.declared.fault.Fault.TheVariants.{CannotReadFile, CannotWrite, Damaged}
+use Rattle.commands.specs.declared.fault.Fault.TheVariants.{Exists, LaterVersion, LineTooLong}
+use Rattle.commands.specs.declared.fault.Fault.TheVariants.{NoAnswer, NobodyReads, NotAJournal}
 use Rattle.commands.specs.declared.fault.Fault.TheVariants.{NotReady, OutOfMemory, Settings}
 
 -- the text that a fault is told as
@@ -15,10 +17,13 @@ text_of CannotListen = codes "cannot listen"
 text_of CannotRead = codes "cannot read"
 text_of (CannotReadFile why) = codes "cannot read\nbnc: " ++ string_bytes why
 text_of CannotWrite = codes "cannot write"
+text_of (Damaged count) = decimal count ++ codes " bytes at the end are damaged"
 text_of (Exists path) = string_bytes path ++ codes " exists"
+text_of LaterVersion = codes "a journal of a later version"
 text_of LineTooLong = codes "line too long"
 text_of NoAnswer = codes "no answer"
 text_of (NobodyReads path) = codes "nobody reads " ++ string_bytes path
+text_of NotAJournal = codes "not a journal"
 text_of NotReady = codes "not ready"
 text_of OutOfMemory = codes "out of memory"
 text_of (Settings fault) = config.text_of fault

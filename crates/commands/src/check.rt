@@ -7,7 +7,8 @@ ghost use Rattle.bnc_config.specs.Settings.{Settings, network_total};
 ghost use Rattle.commands.specs.Check.{IsCauseOf, report_of};
 
 use crate::fault::Fault;
-use crate::warning::{warn_of_readers, warn_of_salts};
+use crate::kept::report_kept;
+use crate::warning::{warn_of_plain_text, warn_of_readers, warn_of_salts};
 use bnc_config::Config;
 use std::alloc::Global;
 use std::io::Write;
@@ -61,8 +62,9 @@ pub fn settings_text<R: AllocGlobal + Files>(rt: &R, path: &str) -> Result<Vec<u
     }
 }
 
-/// Checks the settings file at a path, and reports on standard output. On standard error it warns
-/// of a file that others can read, and of short salts.
+/// Checks the settings file at a path, and reports on standard output, also what is kept of each
+/// network. On standard error it warns of a file that others can read, of short salts, and of
+/// passwords that go in plain text.
 pub fn check_file<R: AllocGlobal + Files + Print + Eprint>(
     rt: &R,
     path: &str,
@@ -70,8 +72,12 @@ pub fn check_file<R: AllocGlobal + Files + Print + Eprint>(
     let text = settings_text(rt, path)?;
     run_check(rt.alloc(), text.as_slice(), &mut io::writer(rt))?;
     warn_of_readers(rt, path);
-    if let Ok(config) = Config::read(rt.alloc(), text.as_slice()) {
-        warn_of_salts(rt, &config);
+    match Config::read(rt.alloc(), text.as_slice()) {
+        Ok(config) => {
+            warn_of_salts(rt, &config);
+            warn_of_plain_text(rt, &config);
+            report_kept(rt, path, &config)
+        }
+        Err(_) => Ok(()),
     }
-    Ok(())
 }

@@ -21,14 +21,20 @@ pub enum Fault {
     CannotWrite,
     /// The settings file can't be read: its path, and why.
     CannotReadFile(String),
+    /// So many bytes at the end of a journal count for nothing.
+    Damaged(usize),
     /// A file is there that was to be new: its path.
     Exists(String),
+    /// A journal is of a later version than this program reads.
+    LaterVersion,
     /// More than 16,384 bytes of the input stand without LF.
     LineTooLong,
     /// The input ended before a good answer to each question, or an answer was bad four times.
     NoAnswer,
     /// No program reads the FIFO at this path.
     NobodyReads(String),
+    /// A file does not begin as a journal does.
+    NotAJournal,
     /// The network that the input tells of is not ready: no 376, 422 or JOIN came after its
     /// welcome.
     NotReady,
@@ -87,10 +93,13 @@ impl fmt::Display for Fault {
             Fault::CannotRead => write!(f, "cannot read"),
             Fault::CannotReadFile(why) => write!(f, "cannot read\nbnc: {why}"),
             Fault::CannotWrite => write!(f, "cannot write"),
+            Fault::Damaged(count) => write!(f, "{count} bytes at the end are damaged"),
             Fault::Exists(path) => write!(f, "{path} exists"),
+            Fault::LaterVersion => write!(f, "a journal of a later version"),
             Fault::LineTooLong => write!(f, "line too long"),
             Fault::NoAnswer => write!(f, "no answer"),
             Fault::NobodyReads(path) => write!(f, "nobody reads {path}"),
+            Fault::NotAJournal => write!(f, "not a journal"),
             Fault::NotReady => write!(f, "not ready"),
             Fault::OutOfMemory => write!(f, "out of memory"),
             Fault::Settings(fault) => write!(f, "{fault}"),

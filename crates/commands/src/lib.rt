@@ -1,5 +1,5 @@
-//! What `bnc` does except serving: `view`, `attach`, `check`, `setup`, `password` and `control`; the
-//! words of its command line; and how faults are reported.
+//! What `bnc` does except serving: `view`, `attach`, `check`, `setup`, `log`, `password` and
+//! `control`; the words of its command line; and how faults are reported.
 #![tactic(auto)]
 
 mod attach;
@@ -7,6 +7,7 @@ mod check;
 mod control;
 mod fault;
 mod input;
+mod kept;
 mod report;
 mod setup;
 mod telling;
@@ -18,6 +19,7 @@ pub use attach::{Attaching, attach_input, run_attach};
 pub use check::{check_file, run_check, settings_text};
 pub use control::send_control;
 pub use fault::Fault;
+pub use kept::{log_file, run_log};
 pub use report::report_text;
 pub use setup::{print_password, setup_file};
 pub use telling::{tell_bad_words, tell_fault};

@@ -1,7 +1,8 @@
 //! What is told of settings that are taken as they are, and might be better.
 
-use bnc_config::Config;
+use bnc_config::{Config, NetworkConfig};
 use std::fs;
+use std::net::IpAddr;
 use std::os::unix::fs::MetadataExt;
 use std::rt::Files;
 
@@ -28,6 +29,50 @@ pub fn warn_of_salts(rt: &impl Eprint, config: &Config) {
         if user.salt().len() < SALT {
             let name = str::from_utf8(user.name()).unwrap_or("");
             let _ = eprintln!(rt; "bnc: warning: the salt of {name} is shorter than 8 bytes");
+        }
+    }
+}
+
+/// The host of an address, `HOST:PORT` or `[IPV6]:PORT`.
+fn host_of(address: &str) -> &str {
+    match address
+        .strip_prefix('[')
+        .and_then(|rest| rest.split_once(']'))
+    {
+        Some((host, _)) => host,
+        None => match address.split_once(':') {
+            Some((host, _)) => host,
+            None => address,
+        },
+    }
+}
+
+/// Whether a host is this machine itself: `localhost`, or an address of the loopback range (RFC 1122,
+/// section 3.2.1.3; RFC 4291, section 2.5.3).
+fn is_this_machine(host: &str) -> bool {
+    match host.parse::<IpAddr>() {
+        Ok(address) => address.to_canonical().is_loopback(),
+        Err(_) => host.eq_ignore_ascii_case("localhost"),
+    }
+}
+
+/// Whether a password of a network leaves this machine as it is, since no TLS proxy here is dialled.
+fn goes_in_plain_text(network: &NetworkConfig) -> bool {
+    let has_account = network.sasl().is_some_and(|sasl| sasl.account().is_some());
+    (has_account || network.password().is_some()) && !is_this_machine(host_of(network.address()))
+}
+
+/// Warns on standard error of each network whose password goes to another machine in plain text.
+pub fn warn_of_plain_text(rt: &impl Eprint, config: &Config) {
+    for user in config.users() {
+        for network in user.networks() {
+            if goes_in_plain_text(network) {
+                let name = str::from_utf8(network.name()).unwrap_or("");
+                let address = network.address();
+                let _ = eprintln!(rt;
+                    "bnc: warning: the password of {name} goes to {address} without TLS"
+                );
+            }
         }
     }
 }

@@ -36,6 +36,8 @@ pub enum Command {
     Serve(String),
     /// `setup FILE`: to ask what a settings file needs, and to write it.
     Setup(String),
+    /// `log FILE`: to print the messages of a journal.
+    Log(String),
     /// `password`: to print a user's lines of a password.
     Password,
     /// `control FILE WORD [NETWORK [NAME]]`: to control the program that serves a settings file.
@@ -91,8 +93,11 @@ impl<T: Drop> From<AllocFailed<T>> for WordsFault {
     }
 }
 
-/// FILE, the settings file.
-fn file_argument<'a>(alloc: Global) -> Arg<'a>
+/// What FILE is for most commands.
+const SETTINGS_FILE: &str = "The settings file";
+
+/// FILE, the settings file or another one.
+fn file_argument<'a>(alloc: Global, help: &'a str) -> Arg<'a>
     ensures rule { rule_of result ≡ file_rule }
     ensures local { result.global ≡ false }
 {
@@ -100,7 +105,7 @@ fn file_argument<'a>(alloc: Global) -> Arg<'a>
         .required(true)
         .action(ArgAction::Set)
         .value_name("FILE")
-        .help("The settings file")
+        .help(help)
 }
 
 /// `--caps LIST`.
@@ -157,7 +162,7 @@ fn add_attach<'a>(
         ≡ with_subcommand (app_of command.entry) attach_app.top) }
 {
     let bare = clap::Command::new(alloc, "attach").about(
-        "Reads a network's lines and writes what a client gets that attaches after them",
+        "Reads what a network sent and prints what a client that attaches now would receive",
     );
     let with_caps = bare.arg(caps_argument(alloc))?;
     let attach = with_caps.arg(history_argument(alloc))?;
@@ -171,13 +176,14 @@ fn add_file_command<'a>(
     command: clap::Command<'a>,
     name: &'a str,
     about: &'a str,
+    file: &'a str,
 ) -> Result<clap::Command<'a>, AllocError>
     ensures { IfOk result (λ added. app_of added
         ≡ with_subcommand (app_of command.entry) (file_app name.now).top) }
 {
     let file_command = clap::Command::new(alloc, name)
         .about(about)
-        .arg(file_argument(alloc))?;
+        .arg(file_argument(alloc, file))?;
     let added = command.subcommand(file_command)?;
     Ok(added)
 }
@@ -226,7 +232,7 @@ fn add_control<'a>(
 {
     let with_file = clap::Command::new(alloc, "control")
         .about("Has the program that serves a settings file do something")
-        .arg(file_argument(alloc))?;
+        .arg(file_argument(alloc, SETTINGS_FILE))?;
     let with_word = with_file.arg(word_argument(alloc))?;
     let with_network = with_word.arg(network_argument(alloc))?;
     let control = with_network.arg(name_argument(alloc))?;
@@ -244,26 +250,36 @@ fn grammar<'a>(alloc: Global) -> Result<clap::Command<'a>, AllocError>
         bare,
         "serve",
         "Stays on the networks of a settings file and serves their users' clients",
+        SETTINGS_FILE,
     )?;
     let with_check = add_file_command(
         alloc,
         with_serve,
         "check",
         "Checks a settings file and counts its users and networks",
+        SETTINGS_FILE,
     )?;
     let with_setup = add_file_command(
         alloc,
         with_check,
         "setup",
         "Asks for a network, a nick, channels and a password, and writes a settings file",
+        SETTINGS_FILE,
+    )?;
+    let with_log = add_file_command(
+        alloc,
+        with_setup,
+        "log",
+        "Prints the messages that are kept of a network, one a line",
+        "The file of the network, in the folder of the key `kept`",
     )?;
     let password = clap::Command::new(alloc, "password").about(
         "Reads a password from standard input and prints its lines for a settings file",
     );
-    let with_password = with_setup.subcommand(password)?;
+    let with_password = with_log.subcommand(password)?;
     let with_control = add_control(alloc, with_password)?;
     let view = clap::Command::new(alloc, "view").about(
-        "Reads the lines of a network from standard input and reports what they say of it",
+        "Reads what a network sent and prints the state that follows: nick, channels, members",
     );
     let with_view = with_control.subcommand(view)?;
     let bnc = add_attach(alloc, with_view)?;
@@ -395,6 +411,7 @@ fn read_command<'a>(
         "check" => Ok(Command::Check(text_of(alloc, matches, "file")?)),
         "serve" => Ok(Command::Serve(text_of(alloc, matches, "file")?)),
         "setup" => Ok(Command::Setup(text_of(alloc, matches, "file")?)),
+        "log" => Ok(Command::Log(text_of(alloc, matches, "file")?)),
         "password" => Ok(Command::Password),
         "control" => read_control(alloc, matches),
         _ => Err(WordsFault::Bad),

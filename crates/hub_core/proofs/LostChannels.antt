@@ -3,7 +3,7 @@ use Rattle.std.specs.FinMap as fin
 use Rattle.hub_core.proofs.Words
 use Words.{◌++◌, ◌+◌, ◌∷◌, ◌≡◌, ◌≤◌, Arrival, Bool, IfSome, List, Lost, None, Option, Received}
 use Words.{Some, Text, View, [], ap, append-nil, arith, bytes_cmp, bytes_exact, drop, false}
-use Words.{joining, length, length-map, list_any, lost_channels, nat_list_cmp_total, nat_tests}
+use Words.{joining, length, length-map, list_any, lost_channels, map, nat_list_cmp_total, nat_tests}
 use Words.{option_and_then, option_map, option_to_list, refl, reverse, shown, take, view_of, ℕ}
 use Rattle.hub_core.specs.LostChannels.{Joining, Joinings, channels_of_view, joining_of}
 use Rattle.hub_core.specs.LostChannels.{key_of_channel, lost_at, lost_by, lost_then, put_all}
@@ -16,7 +16,8 @@ use Rattle.net_view.specs.{Readers.{channels_shown, mode_shown}, Sound.IsSound, 
 use Rattle.net_view.specs.{Transcript.readings_of, View.{Channel, view_back}, Written.AreWritten}
 use Rattle.{network_tables.proofs.ShownLemmas.{entries-shown, get-shown}, std.proofs.Common.T}
 use Rattle.std.{proofs.lemmas.Option.slice_get-map, specs.FinMap.Entries.find}
-use Rattle.std.specs.{Iterator.YieldsFirstBy, Option.option_or, Ordering.{eq_by_cmp, nat_cmp}}
+use Rattle.std.{proofs.Common.filter, specs.{Iterator.YieldsFirstBy, Option.option_or}}
+use Rattle.std.specs.Ordering.{eq_by_cmp, nat_cmp}
 use Rattle.{std.specs.Prelude.slice_get, welcome.proofs.{EntriesRead.none_below, Places.Mode}}
 use Rattle.welcome.{proofs.Places.{mode_here, take_next}, specs.Lent.modes_at}
 
@@ -178,3 +179,17 @@ put_in m (e ∷ es) c h =
     let none = none_below bytes_cmp bytes_exact e.0 es in
     let put = fin.get-insert nat_list_cmp_total m e.0 e.1 c in
     grind (arith, put_in (fin.insert m e.0 e.1) es c, none, put, is_same c e.0)
+
+-- ---- the channels of before
+
+-- a filter over what is shown of each
+pub filter_shown : {X Y : Type 0} (f : X → Y) (p : Y → Bool) (xs : List X)
+    → map f (filter (λ x. p (f x)) xs) ≡ filter p (map f xs)
+filter_shown f p [] = refl
+filter_shown f p (x ∷ xs) = grind (arith, filter_shown f p xs)
+
+-- two tests that answer the same keep the same
+pub filter_as : {X : Type 0} (p q : X → Bool) → ((x : X) → p x ≡ q x) → (xs : List X)
+    → filter p xs ≡ filter q xs
+filter_as p q same [] = refl
+filter_as p q same (x ∷ xs) = grind (arith, same x, filter_as p q same xs)

@@ -14,9 +14,9 @@ use Rattle.hub_core.proofs.Kept.{entry_is_message, filter_more, missed_are_messa
 use Rattle.hub_core.proofs.{Kept.{pong_unsaid, puts_unsaid}, LostChannels.no_loss}
 use Rattle.hub_core.{proofs.Seats.{remain_sent, seated}, specs.Bounds.AreSeated}
 use Rattle.hub_core.specs.{Attaching.refusal_of, Given.with_caps, Online.{is_welcome, says_online}}
-use Rattle.hub_core.specs.{LostChannels.Joinings, Pumping.{Next, Takes}}
+use Rattle.hub_core.specs.{LostChannels.{Joining, Joinings}, Pumping.{Next, Takes}}
 use Rattle.hub_core.specs.Running.{EachAgrees, IsRunning}
-use Rattle.hub_core.specs.{Running.{content, contents_said, entries_heard}, States.{less, started_from}}
+use Rattle.hub_core.specs.{Running.{content, contents_said, entries_heard}, States.{less, started_again}}
 use Rattle.{hub_ends.specs.Came.arrivals, irc_line.specs.Line.has_command}
 use Rattle.{irc_names.specs.Nick.is_nameable, net_view.proofs.Commands.told_of_welcome}
 use Rattle.{irc_support.specs.Tokens.Token, std.specs.{Option.option_or, Prelude.{IsTrue, codes}}}
@@ -46,9 +46,10 @@ heard_still done x now e = grind (arith, less_some done x x)
 -- ---- a new hub
 
 pub started_runs : (ahead : List Came) (o : OutletState) (history : Messages) (first : ℕ)
-    (marks : NameMarks) (session : ℕ) → o.sent ≡ [] → first < 2 ^ 64 → AreKeptBefore first history
-    → IsRunning (started_from ahead o history first marks session) empty_view false empty
-started_runs ahead o history first marks session none small k =
+    (marks : NameMarks) (channels : List Joining) (session : ℕ) → o.sent ≡ [] → first < 2 ^ 64
+    → AreKeptBefore first history → IsRunning
+    (started_again ahead o history first marks channels session) empty_view false empty
+started_runs ahead o history first marks channels session none small k =
     grind (arith, view_start, no_loss, numbered_start first history small k)
 
 -- ---- what sessions were sent

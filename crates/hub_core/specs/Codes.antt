@@ -120,12 +120,13 @@ marks_code = map.code text_code (coded_option coded_ℕ)
 abbrev pub hub_code : Coded HubState
 hub_code =
     code_by (List Came × (List Came × (Option Came × (List SessionState × (Option ℕ ×
-    (OutletState × (Messages × (ℕ × (NameMarks × (ℕ))))))))))
+    (OutletState × (Messages × (ℕ × (NameMarks × (ℕ × (List (Text × Option Text))))))))))))
     (coded× (coded_list came_code) (coded× (coded_list came_code) (coded× (coded_option came_code)
     (coded× (coded_list session_code) (coded× (coded_option coded_ℕ) (coded× outlet_code
-    (coded× messages_code (coded× coded_ℕ (coded× marks_code (coded_ℕ))))))))))
-    (λ h. let rest : OutletState × (Messages × (ℕ × (NameMarks × (ℕ)))) =
-    (h.upstream, (h.history, (h.first, (h.marks, h.images)))) in
+    (coded× messages_code (coded× coded_ℕ (coded× marks_code (coded× coded_ℕ
+    (coded_list (coded× text_code (coded_option text_code)))))))))))))
+    (λ h. let rest : OutletState × (Messages × (ℕ × (NameMarks × (ℕ × (List (Text × Option Text)))))) =
+    (h.upstream, (h.history, (h.first, (h.marks, (h.images, h.recalled))))) in
     (h.taken, (h.ahead, (h.held, (h.sessions, (h.next, rest))))))
     (λ p. record {
       taken = p.0;
@@ -137,5 +138,6 @@ hub_code =
       history = p.1.1.1.1.1.1.0;
       first = p.1.1.1.1.1.1.1.0;
       marks = p.1.1.1.1.1.1.1.1.0;
-      images = p.1.1.1.1.1.1.1.1.1;
+      images = p.1.1.1.1.1.1.1.1.1.0;
+      recalled = p.1.1.1.1.1.1.1.1.1.1;
     }) (λ _. refl)

@@ -7,6 +7,7 @@ use Rattle.hub_core.specs.declared.session.Session.{Session}
 use Rattle.hub_ends.specs.Came.{Came, came}
 use Rattle.hub_ends.specs.Outlets.{OutletState}
 use Rattle.hub_core.specs.declared.hub.Hub.TheInside.{Inside}
+use Rattle.hub_core.specs.LostChannels.{joining}
 use Rattle.hub_core.specs.States.{SessionState, HubState}
 
 -- a session, by what its outlet is
@@ -32,4 +33,5 @@ hub_of taken ahead outlet h = record {
   first = h.first;
   marks = h.marks;
   images = h.images;
+  recalled = map joining h.recalled.items;
 }

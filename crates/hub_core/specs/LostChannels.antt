@@ -1,11 +1,13 @@
 -- Which channels we were on when a connection was lost: what is to be joined again.
-use Rattle.std.specs.Prelude.{Bool, true, false, ◌&&◌, List, [], ◌∷◌, map, reverse}
+use Rattle.std.specs.Prelude.{Bool, true, false, ◌&&◌, not, List, [], ◌∷◌, filter, map, reverse}
 use Rattle.std.specs.Prelude.{if◌then◌else◌}
 use Rattle.std.specs.Option.{option_and_then, option_map, option_or}
 use Rattle.std.specs.FinMap as fin
 use Rattle.std.specs.Prelude.{Vec}
 use Rattle.std.specs.declared.alloc.Global.{Global}
 use Rattle.std.proofs.Common.{Option, Some, None, ℕ}
+use Rattle.irc_names.specs.CaseMapping.{key_of}
+use Rattle.irc_support.specs.Settings.{key_by}
 use Rattle.irc_support.specs.Text.{Text}
 use Rattle.net_view.specs.Arrival.{Arrival, Received, Lost}
 use Rattle.net_view.specs.Named.{named, channels_in}
@@ -16,7 +18,6 @@ use Rattle.net_view.specs.Table.{table}
 use Rattle.net_view.specs.Told.{Told, Joined, Parted, Kicked, Quits}
 use Rattle.net_view.specs.Transcript.{is_us, readings_of}
 use Rattle.net_view.specs.View.{Channel, View, view_back}
-use Rattle.network_tables.specs.Sought.{sought_key}
 use Rattle.network_tables.specs.declared.slot.Entry.{Entry}
 use Rattle.hub_core.specs.declared.lost.LostChannel.{LostChannel}
 use Rattle.hub_core.specs.declared.lost.Settled.{Settled}
@@ -66,6 +67,17 @@ unfoldable pub lost_channels : List Arrival → Joinings
 lost_channels items =
     table bytes_cmp (named channels_in (readings_of (reverse items))) (lost_at (reverse items))
 
+-- ---- the channels of before the hub began, which are known by name alone
+
+-- whether such a channel is still to be joined after an item: the item is no JOIN, PART, KICK or QUIT
+-- of ours that names it, by the mapping of the view before it
+abbrev pub stays : View → Arrival → Joining → Bool
+stays v x channel = not (settles v x (key_by v.settings channel.0))
+
+-- those that are
+abbrev pub still : View → Arrival → List Joining → List Joining
+still v x channels = filter (stays v x) channels
+
 -- ---- what an item changes of them, by the view before it
 
 -- the channels of a view, by the keys of their names
@@ -91,8 +103,14 @@ put_all lost (e ∷ new) = put_all (fin.insert lost e.0 e.1) new
 -- which channels are taken off
 abbrev pub is_settled : Settled → Text → Bool
 is_settled Nothing c = false
-is_settled (One channel) c = same c (sought_key channel)
+is_settled (One mapping channel) c = same c (key_of mapping channel.now)
 is_settled All c = true
+
+-- whether the channel of this name is
+abbrev pub is_named : Settled → Text → Bool
+is_named Nothing name = false
+is_named (One mapping channel) name = same (key_of mapping name) (key_of mapping channel.now)
+is_named All name = true
 
 -- what is kept of a channel
 abbrev pub joining : LostChannel → Joining

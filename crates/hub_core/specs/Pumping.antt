@@ -16,6 +16,7 @@ use Rattle.hub_core.specs.declared.hub.Pumped.TheVariants.{Nothing, Taken}
 use Rattle.hub_core.specs.declared.hub.HubError.{HubError}
 use Rattle.hub_core.specs.declared.hub.HubError.TheVariants as fault
 use Rattle.hub_ends.specs.Outlets.{OutletState, Took}
+use Rattle.hub_core.specs.LostChannels.{still}
 use Rattle.hub_core.specs.States.{HubState, view_now}
 use Rattle.hub_core.specs.Given.{Delivered, all_sets_but, packet_for}
 
@@ -78,6 +79,7 @@ pub record Takes (inlet outlet : Bool) (old : HubState) (cut : ℕ) (new : HubSt
   pub upstream : Puts outlet old.upstream (pong_for item.0) new.upstream
   pub history : new.history ≡ with_entry old.history (entry_for item)
   pub number : IsSome (entry_for item) → IsSome old.history.next
+  pub recalled : new.recalled ≡ still (view_now old) item.0 old.recalled
   pub images : new.images
       ≡ counted (old.images + images_for item.0 (length (all_sets_but None [] old.sessions)))
   pub others : new ≡ record old {
@@ -88,6 +90,7 @@ pub record Takes (inlet outlet : Bool) (old : HubState) (cut : ℕ) (new : HubSt
     upstream = new.upstream;
     history = new.history;
     images = new.images;
+    recalled = new.recalled;
   }
 
 -- the item is a message, and there is no number for it

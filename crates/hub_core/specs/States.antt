@@ -22,7 +22,7 @@ pub record SessionState : Type 0 where
 -- A hub: the items that its inlet has taken, and those that are known to come; the item that is
 -- held; the sessions; the number of the next one, if one is left; the outlet to the network; the
 -- messages that are kept, the number of the first, and what each client name has seen; how many
--- images were made.
+-- images were made; and the channels of before it began that are still to be joined.
 pub record HubState : Type 0 where
   pub taken : List Came
   pub ahead : List Came
@@ -34,6 +34,7 @@ pub record HubState : Type 0 where
   pub first : ℕ
   pub marks : NameMarks
   pub images : ℕ
+  pub recalled : List (Text × Option Text)
 
 -- the items that were taken, but for a held one
 abbrev pub less : List Came → Option Came → List Came
@@ -47,9 +48,11 @@ heard h = arrivals (less h.taken h.held)
 abbrev pub view_now : HubState → View
 view_now h = view_of (heard h)
 
--- a hub of these parts, without sessions, that goes on from these messages and marks
-abbrev pub started_from : List Came → OutletState → Messages → ℕ → NameMarks → ℕ → HubState
-started_from ahead upstream history first_number marks first_session = record {
+-- a hub of these parts, without sessions, that goes on from these messages and marks, with these
+-- channels to be joined
+abbrev pub started_again : List Came → OutletState → Messages → ℕ → NameMarks
+    → List (Text × Option Text) → ℕ → HubState
+started_again ahead upstream history first_number marks channels first_session = record {
   taken = [];
   ahead = ahead;
   held = None;
@@ -60,7 +63,13 @@ started_from ahead upstream history first_number marks first_session = record {
   first = first_number;
   marks = marks;
   images = 0;
+  recalled = channels;
 }
+
+-- without channels
+abbrev pub started_from : List Came → OutletState → Messages → ℕ → NameMarks → ℕ → HubState
+started_from ahead upstream history first_number marks first_session =
+    started_again ahead upstream history first_number marks [] first_session
 
 -- a hub of these parts, without sessions, messages or client names
 abbrev pub started : List Came → OutletState → ℕ → ℕ → ℕ → HubState

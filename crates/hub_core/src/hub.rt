@@ -29,6 +29,17 @@ pub struct Setup {
     pub first_session: SessionId,
 }
 
+/// What a hub goes on from, of before it began.
+#[derive(Drop)]
+pub struct Past {
+    /// The messages that were kept.
+    pub history: History,
+    /// What each client name had seen of them.
+    pub marks: Marks,
+    /// The channels that we were on, with their keys.
+    pub channels: Vec<LostChannel>,
+}
+
 /// What a pump did.
 #[derive(Clone, Copy, Debug, PartialEq, Eq)]
 pub enum Pumped {
@@ -87,6 +98,8 @@ pub struct Hub<V: NetworkView + Drop, I: Inlet, O: Outlet> {
     pub(crate) made: Vec<Made>,
     // the channels that losses took from us, to be joined again
     pub(crate) lost: LostChannels,
+    // those of before it began that are still to be joined
+    pub(crate) recalled: Vec<LostChannel>,
     // the state parts of the view, for the sets of capabilities that were asked for since it changed
     pub(crate) parts: Vec<StatePart>,
 }
@@ -112,13 +125,14 @@ impl<V: NetworkView + Drop, I: Inlet, O: Outlet> Model for Hub<V, I, O> {
 }
 
 impl<V: NetworkView + Drop, I: Inlet, O: Outlet> Hub<V, I, O> {
-    ghost use Rattle.hub_core.specs.States.{view_now, heard, started, started_from};
+    ghost use Rattle.hub_core.specs.States.{view_now, heard, started, started_again, started_from};
     ghost use Rattle.hub_core.specs.Bounds.{IsBounded};
     ghost use Rattle.hub_core.specs.Online.{is_online};
     ghost use Rattle.hub_core.specs.Running.{EachAgrees, IsRunning};
     ghost use Rattle.hub_core.specs.LostChannels.{joining, lost_channels};
     ghost use Rattle.std.specs.FinMap as fin;
     ghost use Rattle.std.specs.Prelude.{length, slice_get};
+    ghost use Rattle.std.specs.Option.{option_and_then};
     ghost use Rattle.hub_core.specs.Upkeep.{LendsOutlet, TellsCaps};
 
     /// A hub of these parts, without sessions, messages or client names. `BadCapacity` comes
@@ -147,28 +161,38 @@ impl<V: NetworkView + Drop, I: Inlet, O: Outlet> Hub<V, I, O> {
             view,
             inlet,
             upstream,
-            (history, first, marks),
+            first,
+            Past {
+                history,
+                marks,
+                channels: Vec::new(alloc),
+            },
             setup.first_session,
         ))
     }
 
-    /// A hub of these parts, without sessions, that goes on from messages and marks of before.
+    /// A hub of these parts, without sessions, that goes on from what was before.
     fn begin(
         alloc: Global,
         view: V,
         inlet: I,
         upstream: O,
-        kept: (History, u64, Marks),
+        first: u64,
+        past: Past,
         first_session: SessionId,
     ) -> Hub<V, I, O>
         requires view { V.view view ≡ empty_view }
         requires inlet { I.taken inlet ≡ [] }
         requires upstream { (O.state upstream).sent ≡ [] }
-        requires kept { AreKeptBefore kept.1 kept.0 }
-        ensures { result ≡ started_from (I.ahead inlet) (O.state upstream) kept.0 kept.1 kept.2
-            first_session }
+        requires kept { AreKeptBefore first past.history }
+        ensures { result ≡ started_again (I.ahead inlet) (O.state upstream) past.history first
+            past.marks (map joining past.channels.items) first_session }
     {
-        let (history, first, marks) = kept;
+        let Past {
+            history,
+            marks,
+            channels,
+        } = past;
         Hub {
             alloc,
             view,
@@ -184,6 +208,7 @@ impl<V: NetworkView + Drop, I: Inlet, O: Outlet> Hub<V, I, O> {
             images: 0,
             made: Vec::new(alloc),
             lost: Table::new(alloc),
+            recalled: channels,
             parts: Vec::new(alloc),
         }
     }
@@ -207,15 +232,34 @@ impl<V: NetworkView + Drop, I: Inlet, O: Outlet> Hub<V, I, O> {
         ensures { (first : ℕ) → history.next ≡ Some first → result
             ≡ started_from (I.ahead inlet) (O.state upstream) history first marks first_session }
     {
-        match history.next_number() {
-            Some(first) => Hub::begin(
-                alloc,
-                view,
-                inlet,
-                upstream,
-                (history, first, marks),
-                first_session,
-            ),
+        let past = Past {
+            history,
+            marks,
+            channels: Vec::new(alloc),
+        };
+        Hub::start_again(alloc, view, inlet, upstream, past, first_session)
+    }
+
+    /// A hub of these parts, without sessions, that goes on from what was before: as `start_from`,
+    /// and the channels that we were on then are to be joined again, as those that a loss took.
+    pub fn start_again(
+        alloc: Global,
+        view: V,
+        inlet: I,
+        upstream: O,
+        past: Past,
+        first_session: SessionId,
+    ) -> Hub<V, I, O>
+        requires view { V.view view ≡ empty_view }
+        requires inlet { I.taken inlet ≡ [] }
+        requires upstream { (O.state upstream).sent ≡ [] }
+        requires kept { (first : ℕ) × AreKeptBefore first past.history }
+        ensures { (first : ℕ) → past.history.next ≡ Some first → result
+            ≡ started_again (I.ahead inlet) (O.state upstream) past.history first past.marks
+            (map joining past.channels.items) first_session }
+    {
+        match past.history.next_number() {
+            Some(first) => Hub::begin(alloc, view, inlet, upstream, first, past, first_session),
             None => unreachable!(),
         }
     }
@@ -275,6 +319,20 @@ impl<V: NetworkView + Drop, I: Inlet, O: Outlet> Hub<V, I, O> {
         Some(self.sessions[place].caps)
     }
 
+    /// The number of the session at place `i`, in the order in which they attached, and the name of
+    /// its client, if it gave one; `None` from the number of sessions on.
+    pub fn session_at(&self, i: usize) -> Option<(SessionId, Option<&[u8]>)>
+        ensures number { option_map (λ s. s.0) result
+            ≡ option_map (λ s. s.id) (slice_get self.now.sessions i) }
+        ensures name { option_and_then (λ s. option_map (λ n. n.now) s.1) result
+            ≡ option_and_then (λ s. s.name) (slice_get self.now.sessions i) }
+    {
+        match self.sessions.get(i) {
+            Some(session) => Some((session.id, session.name.as_deref())),
+            None => None,
+        }
+    }
+
     /// The messages that are kept, with their numbers.
     pub fn history(&self) -> &History
         ensures { result.now ≡ self.now.history }
@@ -307,6 +365,14 @@ impl<V: NetworkView + Drop, I: Inlet, O: Outlet> Hub<V, I, O> {
             Some((_key, channel)) => Some(channel),
             None => None,
         }
+    }
+
+    /// The channels of before the hub began that are still to be joined, in the order in which it
+    /// got them, each with its key: those that we have not joined or left since then.
+    pub fn recalled_channels(&self) -> &[LostChannel]
+        ensures { map joining result.now ≡ self.now.recalled }
+    {
+        &self.recalled
     }
 
     /// How many images were made: for each line pumped, and for each message forwarded, one for

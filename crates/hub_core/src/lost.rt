@@ -1,7 +1,7 @@
 //! The channels that we were on when a connection was lost, to be joined again.
 
 ghost use Rattle.std.specs.Prelude.{◌≡◌, ◌≤◌, ◌+◌, ◌++◌, IfOk, OnOk, IfSome, map, option_map};
-ghost use Rattle.std.specs.Prelude.{None, T, length, option_to_list};
+ghost use Rattle.std.specs.Prelude.{None, T, filter, length, not, option_to_list};
 ghost use Rattle.std.specs.List.{slice_get};
 ghost use Rattle.std.specs.Option.{option_and_then};
 ghost use Rattle.std.specs.FinMap as fin;
@@ -15,9 +15,10 @@ ghost use Rattle.net_view.specs.Transcript.{is_us};
 ghost use Rattle.network_tables.specs.Shown.{shown};
 ghost use Rattle.hub_core.specs.LostChannels.{channels_of_view, is_settled, joining, keyed};
 ghost use Rattle.hub_core.specs.LostChannels.{key_of_channel, lost_by, lost_then, put_all};
-ghost use Rattle.hub_core.specs.LostChannels.{settles};
+ghost use Rattle.hub_core.specs.LostChannels.{is_named, settles, still};
 
 use irc_line::Line;
+use irc_names::CaseMapping;
 use net_view::{Item, NetworkView, OutOfMemory, Telling, told};
 use network_tables::{Entry, Sought, Table, copy_of};
 use std::alloc::Global;
@@ -42,7 +43,7 @@ pub type LostEntry = Box<Entry<LostChannel, Global>>;
 #[derive(Clone, Copy)]
 pub enum Settled<'a> {
     Nothing,
-    One(Sought<'a>),
+    One(CaseMapping, &'a [u8]),
     All,
 }
 
@@ -55,8 +56,9 @@ fn place_after(j: usize, letter: u8) -> usize
     j + 1
 }
 
-/// The key of the channel at place `i`, where it has one.
-fn channel_key<V: NetworkView>(view: &V, i: usize) -> Option<&[u8]>
+/// The key of the channel at place `i` of a view, the parameter of its mode `k` (RFC 2811, section
+/// 4.2.10); `None` if it has no key, and from the number of channels on.
+pub fn channel_key<V: NetworkView>(view: &V, i: usize) -> Option<&[u8]>
     ensures { option_map (λ key. key.now) result
         ≡ option_and_then key_of_channel (channel_shown (V.view view.now) i) }
 {
@@ -147,20 +149,23 @@ fn is_us<V: NetworkView>(view: &V, nick: &[u8]) -> bool
 
 /// Which channels a line takes off.
 fn settled_by_line<'a, V: NetworkView>(view: &V, line: &'a Line) -> Settled<'a>
-    ensures { (c : Text) → is_settled result c ≡ settles (V.view view.now) (Received line.now) c }
+    ensures lost { (c : Text) →
+        is_settled result c ≡ settles (V.view view.now) (Received line.now) c }
+    ensures named { (name : Text) → is_named result name
+        ≡ settles (V.view view.now) (Received line.now) (key_by (V.view view.now).settings name) }
 {
     let mapping = view.support().mapping();
     match told(line) {
         Telling::Joined { channel, who, .. } => {
             if is_us(view, who) && view.support().is_channel(channel) {
-                Settled::One(Sought::Name(mapping, channel))
+                Settled::One(mapping, channel)
             } else {
                 Settled::Nothing
             }
         }
         Telling::Parted { channel, who } | Telling::Kicked { channel, who } => {
             if is_us(view, who) {
-                Settled::One(Sought::Name(mapping, channel))
+                Settled::One(mapping, channel)
             } else {
                 Settled::Nothing
             }
@@ -176,14 +181,22 @@ fn settled_by_line<'a, V: NetworkView>(view: &V, line: &'a Line) -> Settled<'a>
     }
 }
 
-/// Which of these channels an item takes off, by the view before it.
-pub fn settled_by<'a, V: NetworkView>(view: &V, item: &'a Item, lost: &LostChannels) -> Settled<'a>
-    ensures { (c : Text) →
+/// Which of these channels, and of those of before, an item takes off, by the view before it.
+pub fn settled_by<'a, V: NetworkView>(
+    view: &V,
+    item: &'a Item,
+    lost: &LostChannels,
+    recalled: &Vec<LostChannel>,
+) -> Settled<'a>
+    ensures lost { (c : Text) →
         lost_then None (is_settled result c) c (fin.get (shown joining lost.now.all) c)
         ≡ lost_then None (settles (V.view view.now) (arrival_of item.now) c) c
         (fin.get (shown joining lost.now.all) c) }
+    ensures recalled { filter (λ channel. not (is_named result channel.0))
+        (map joining recalled.now.items)
+        ≡ still (V.view view.now) (arrival_of item.now) (map joining recalled.now.items) }
 {
-    if lost.len() == 0 {
+    if lost.len() == 0 && recalled.is_empty() {
         return Settled::Nothing;
     }
     match item {
@@ -200,11 +213,30 @@ fn forget(lost: &mut LostChannels, settled: Settled<'_>)
 {
     match settled {
         Settled::Nothing => {}
-        Settled::One(channel) => {
-            let _ = lost.remove(channel);
+        Settled::One(mapping, channel) => {
+            let _ = lost.remove(Sought::Name(mapping, channel));
         }
         Settled::All => lost.clear(),
     }
+}
+
+/// Whether the channel of this name is taken off.
+fn is_named(settled: Settled<'_>, name: &[u8]) -> bool
+    ensures { result ≡ is_named settled.entry name.now }
+{
+    match settled {
+        Settled::Nothing => false,
+        Settled::One(mapping, channel) => mapping.order(name, channel).is_eq(),
+        Settled::All => true,
+    }
+}
+
+/// Takes channels of before off.
+pub fn drop_named(recalled: &mut Vec<LostChannel>, settled: Settled<'_>)
+    ensures { map joining recalled.new.items ≡ filter
+        (λ channel. not (is_named settled.entry channel.0)) (map joining recalled.old.items) }
+{
+    recalled.retain(|channel| !is_named(settled, &channel.name));
 }
 
 /// Adds channels, for which there is room, each in the place of one of the same key.

@@ -19,7 +19,7 @@ use crate::deliver::deliver;
 use crate::hub::{Hub, HubError, Pumped};
 use crate::image_table::{Made, images_of};
 use crate::incoming::Incoming;
-use crate::lost::{LostChannels, LostEntry, lost_by, renew, settled_by};
+use crate::lost::{LostChannels, LostEntry, drop_named, lost_by, renew, settled_by};
 use crate::messages::keep;
 use crate::outlets::put;
 use crate::prepare::prepare_item;
@@ -166,7 +166,7 @@ impl<V: NetworkView + Drop, I: Inlet, O: Outlet> Hub<V, I, O> {
             drop_if_short(&mut self.parts, e);
             return Err(e);
         }
-        let settled = settled_by(&self.view, &item, &self.lost);
+        let settled = settled_by(&self.view, &item, &self.lost, &self.recalled);
         // A message is no state line, so the view takes it: here nothing was kept.
         if let Err(_) = self.view.take(&item) {
             self.held = Some((item, moment));
@@ -177,6 +177,7 @@ impl<V: NetworkView + Drop, I: Inlet, O: Outlet> Hub<V, I, O> {
         self.images = self.images.saturating_add(images_of(&item, &self.made));
         self.online = online_after(self.online, &item);
         renew(&mut self.lost, settled, new);
+        drop_named(&mut self.recalled, settled);
         put(&mut self.upstream, pong);
         let cut = deliver(&mut self.sessions);
         Ok(Pumped::Taken { cut })

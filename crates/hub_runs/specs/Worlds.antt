@@ -22,7 +22,7 @@ use Rattle.hub_core.specs.declared.hub.HubError.TheVariants as fault
 use Rattle.hub_core.specs.declared.hub.Pumped.{Pumped}
 use Rattle.history.specs.Marks.{NameMarks}
 use Rattle.history.specs.Messages.{Messages}
-use Rattle.hub_core.specs.States.{HubState, started, started_from}
+use Rattle.hub_core.specs.States.{HubState, started, started_again}
 use Rattle.hub_core.specs.Pumping.{Pumps}
 use Rattle.hub_core.specs.Attaching.{Attaches, Detaches, Lacks, Refuses}
 use Rattle.hub_core.specs.Saying.{Says}
@@ -58,11 +58,12 @@ beginning history first_number first_session upstream_capacity = record {
   gone = [];
 }
 
--- what a run begins with that goes on from these messages, the next of which has this number, and
--- these marks
-abbrev pub beginning_from : Messages → ℕ → NameMarks → ℕ → ℕ → WorldState
-beginning_from history first marks first_session upstream_capacity = record {
-  hub = started_from [] (new_outlet upstream_capacity) history first marks first_session;
+-- what a run begins with that goes on from these messages, the next of which has this number, these
+-- marks, and these channels that are to be joined again
+abbrev pub beginning_from : Messages → ℕ → NameMarks → List (Text × Option Text) → ℕ → ℕ
+    → WorldState
+beginning_from history first marks channels first_session upstream_capacity = record {
+  hub = started_again [] (new_outlet upstream_capacity) history first marks channels first_session;
   rest = [];
   gone = [];
 }

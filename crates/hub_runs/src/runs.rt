@@ -1,11 +1,13 @@
 //! Events, one after the other.
 
 ghost use Rattle.std.specs.Prelude.{◌≡◌, ◌↔◌, ◌+◌, ◌≤◌, ◌<◌, ◌^◌, [], false, IfOk, IsErrOf, length, vec_len};
-ghost use Rattle.std.specs.Prelude.{ℕ, Some};
+ghost use Rattle.std.specs.Prelude.{ℕ, List, Option, Some, map};
+ghost use Rattle.irc_support.specs.Text.{Text};
 ghost use Rattle.std.specs.Vec.{vec_capacity};
 ghost use Rattle.net_view.specs.View.{empty_view};
 ghost use Rattle.history.specs.Marks.{NameMarks};
 ghost use Rattle.history.specs.Messages.{AreKeptBefore, Messages, is_capacity};
+ghost use Rattle.hub_core.specs.LostChannels.{joining};
 ghost use Rattle.hub_runs.specs.Course.{Before};
 ghost use Rattle.hub_runs.specs.Ran.{CanRun, Ran, RanFrom, RanOn};
 ghost use Rattle.hub_runs.specs.Worlds.{beginning, beginning_from, outlets_of, world_of};
@@ -13,8 +15,8 @@ ghost use Rattle.hub_runs.specs.Worlds.{beginning, beginning_from, outlets_of, w
 use crate::apply::apply;
 use crate::event::Event;
 use crate::outcome::{Run, StartError, World};
-use history::{CAPACITY_LIMIT, History, Marks, OutOfMemory};
-use hub_core::{Hub, Setup};
+use history::{CAPACITY_LIMIT, OutOfMemory};
+use hub_core::{Hub, Past, Setup};
 use hub_ends::{MemoryInlet, MemoryOutlet, SessionId};
 use irc_line::Splitter;
 use net_view::NetworkView;
@@ -52,23 +54,23 @@ fn begin<V: NetworkView + Drop>(
 fn begin_from<V: NetworkView + Drop>(
     alloc: Global,
     view: V,
-    history: History,
-    marks: Marks,
+    past: Past,
     first_session: SessionId,
     upstream_capacity: usize,
     count: usize,
 ) -> Result<World<V>, OutOfMemory>
     requires view { V.view view ≡ empty_view }
-    requires kept { (first : ℕ) × AreKeptBefore first history }
-    ensures ok { (first : ℕ) → history.next ≡ Some first → IfOk result (λ w.
+    requires kept { (first : ℕ) × AreKeptBefore first past.history }
+    ensures ok { (first : ℕ) → past.history.next ≡ Some first → IfOk result (λ w.
         (world_of w.hub w.splitter.rest (outlets_of w.gone.items)
-        ≡ beginning_from history first marks first_session upstream_capacity) ×
+        ≡ beginning_from past.history first past.marks (map joining past.channels.items)
+        first_session upstream_capacity) ×
         (w.replies.items ≡ []) × (count ≤ vec_capacity w.replies)) }
 {
     let upstream = MemoryOutlet::new(alloc, upstream_capacity)?;
     let replies = Vec::with_capacity(alloc, count)?;
     let inlet = MemoryInlet::new(alloc);
-    let hub = Hub::start_from(alloc, view, inlet, upstream, history, marks, first_session);
+    let hub = Hub::start_again(alloc, view, inlet, upstream, past, first_session);
     Ok(World {
         hub,
         splitter: Splitter::new(alloc),
@@ -82,11 +84,11 @@ fn go_on<V: NetworkView + Drop>(alloc: Global, world: World<V>, events: &[Event]
     requires none { world.replies.items ≡ [] }
     requires room { length events.now ≤ vec_capacity world.replies }
     ensures { (b : Before) (history : Messages) (first : ℕ) (marks : NameMarks)
-        (first_session upstream_capacity : ℕ) → first_session < 2 ^ 64 →
-        CanRun b (beginning_from history first marks first_session upstream_capacity).hub →
+        (channels : List (Text × Option Text)) (first_session upstream_capacity : ℕ) → first_session < 2 ^ 64 →
+        CanRun b (beginning_from history first marks channels first_session upstream_capacity).hub →
         world_of world.hub world.splitter.rest (outlets_of world.gone.items)
-        ≡ beginning_from history first marks first_session upstream_capacity →
-        RanFrom b (beginning_from history first marks first_session upstream_capacity)
+        ≡ beginning_from history first marks channels first_session upstream_capacity →
+        RanFrom b (beginning_from history first marks channels first_session upstream_capacity)
         events.now result.done result.stopped_by result.world.replies.items
         (world_of result.world.hub result.world.splitter.rest
         (outlets_of result.world.gone.items)) }
@@ -139,32 +141,26 @@ pub fn run<V: NetworkView + Drop>(
     Ok(go_on(alloc, world, events))
 }
 
-/// Runs events over a hub whose ends are in memory, as `run` does, but from the messages that were
-/// kept before and what each client name had seen of them.
+/// Runs events over a hub whose ends are in memory, as `run` does, but from what was before: the
+/// messages that were kept, what each client name had seen of them, and the channels that are to be
+/// joined again.
 pub fn run_from<V: NetworkView + Drop>(
     alloc: Global,
     view: V,
-    history: History,
-    marks: Marks,
+    past: Past,
     first_session: SessionId,
     upstream_capacity: usize,
     events: &[Event],
 ) -> Result<Run<V>, OutOfMemory>
     requires view { V.view view ≡ empty_view }
-    requires kept { (first : ℕ) × AreKeptBefore first history }
-    ensures { (first : ℕ) → history.next ≡ Some first → IfOk result (λ r. RanOn
-        (beginning_from history first marks first_session upstream_capacity) events.now r.done
+    requires kept { (first : ℕ) × AreKeptBefore first past.history }
+    ensures { (first : ℕ) → past.history.next ≡ Some first → IfOk result (λ r. RanOn
+        (beginning_from past.history first past.marks (map joining past.channels.items)
+        first_session upstream_capacity) events.now r.done
         r.stopped_by r.world.replies.items
         (world_of r.world.hub r.world.splitter.rest (outlets_of r.world.gone.items))) }
 {
-    let world = begin_from(
-        alloc,
-        view,
-        history,
-        marks,
-        first_session,
-        upstream_capacity,
-        events.len(),
-    )?;
+    let count = events.len();
+    let world = begin_from(alloc, view, past, first_session, upstream_capacity, count)?;
     Ok(go_on(alloc, world, events))
 }

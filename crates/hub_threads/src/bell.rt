@@ -24,6 +24,9 @@ pub struct Bell {
     drowsy: AtomicBool,
     // how often the worker has got on
     steps: AtomicU64,
+    // the worker is the writer of a session: how many packets it has written, when it last had nothing
+    // left to write
+    written: AtomicU64,
 }
 
 /// A bell, in as many hands as need be.
@@ -39,6 +42,7 @@ pub fn shared_bell(alloc: Global) -> Result<SharedBell, OutOfMemory> {
             is_tight: AtomicBool::new(false),
             drowsy: AtomicBool::new(false),
             steps: AtomicU64::new(0),
+            written: AtomicU64::new(0),
         },
     )?)
 }
@@ -105,6 +109,16 @@ impl Bell {
     /// How often the worker has got on.
     pub(crate) fn steps(&self) -> u64 {
         self.steps.load(Ordering::SeqCst)
+    }
+
+    /// Says that the writer has nothing left to write, of so many packets.
+    pub(crate) fn note_written(&self, count: u64) {
+        self.written.store(count, Ordering::SeqCst);
+    }
+
+    /// How many packets the writer had written when it last had nothing left to write.
+    pub(crate) fn written(&self) -> u64 {
+        self.written.load(Ordering::SeqCst)
     }
 
     /// Says whether the pump that sleeps on it waits for room in an outlet, so that a writer that

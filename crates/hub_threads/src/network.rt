@@ -1,8 +1,8 @@
 //! A hub behind one lock.
 
-ghost use Rattle.std.specs.Prelude.{◌≡◌, ◌<◌, [], IfOk, None, false, true};
+ghost use Rattle.std.specs.Prelude.{ℕ, ◌≡◌, ◌<◌, [], IfOk, None, false, true};
 ghost use Rattle.std.specs.Sync.Mutex.{mutex_guard_value};
-ghost use Rattle.history.specs.Messages.{is_capacity};
+ghost use Rattle.history.specs.Messages.{AreKeptBefore, is_capacity};
 ghost use Rattle.hub_core.specs.Bounds.{IsBounded};
 ghost use Rattle.hub_core.specs.LostChannels.{lost_channels};
 ghost use Rattle.hub_core.specs.Online.{is_online};
@@ -20,7 +20,8 @@ use crate::outlet_end::OutletEnd;
 use crate::outlet_pair::outlet;
 use crate::outlet_ring::RingOutlet;
 use history::CapacityError;
-use hub_core::{Hub, Pumped, Setup};
+use hub_core::{Hub, Past, Pumped, Setup};
+use hub_ends::SessionId;
 use net_view::NetworkView;
 use std::alloc::{AllocError, Global};
 use std::sync::{Arc, Mutex, MutexGuard, Wait};
@@ -86,6 +87,36 @@ impl<V: NetworkView + Drop> Network<V> {
             Err(CapacityError::OutOfMemory) => Err(AllocError),
             Err(CapacityError::BadCapacity) => unreachable!(),
         }
+    }
+
+    /// A network of which nothing came since: a hub that goes on from what was before, as
+    /// `Hub::start_again` has it, whose rings hold this many items and packets at a time, and wake
+    /// its own pump. `OutOfMemory` if an allocation was refused, and for no other cause.
+    pub fn start_again(
+        alloc: Global,
+        view: V,
+        past: Past,
+        first_session: SessionId,
+        items: usize,
+        packets: usize,
+    ) -> Result<Started<V>, OutOfMemory>
+        requires view { V.view view ≡ empty_view }
+        requires kept { (first : ℕ) × AreKeptBefore first past.history }
+        requires items { 0 < items }
+        requires packets { 0 < packets }
+        ensures inlet { IfOk result (λ s. (put_of s.inlet ≡ []) × (slots_of s.inlet ≡ items)) }
+        ensures outlet { IfOk result (λ s. (items_of s.outlet ≡ []) ×
+            (end_capacity_of s.outlet ≡ packets)) }
+    {
+        let pump = shared_bell(alloc)?;
+        let (end, items) = inlet(alloc, items, Arc::try_clone(&pump)?)?;
+        let (upstream, taken) = outlet(alloc, packets, Arc::try_clone(&pump)?)?;
+        let hub = Hub::start_again(alloc, view, items, upstream, past, first_session);
+        Ok(Started {
+            network: Network::new(hub, pump),
+            inlet: end,
+            outlet: taken,
+        })
     }
 
     /// The hub behind a lock. `pump` is what its ends wake the pump by: the bell that `inlet` and

@@ -24,6 +24,8 @@ pub struct OutletEnd {
     closed: Option<SessionId>,
     // no packet was taken yet
     fresh: bool,
+    // how many packets were taken, at most the greatest count
+    taken: u64,
     // how many takes in succession gave nothing, at most the greatest count
     misses: u64,
     // the other end was gone and nothing left, or the sign to stop was up, at the last look
@@ -46,6 +48,7 @@ impl Drop for OutletEnd {
             consumer,
             closed: _,
             fresh: _,
+            taken: _,
             misses: _,
             left: _,
             buffer,
@@ -89,6 +92,7 @@ impl OutletEnd {
             consumer,
             closed: None,
             fresh: true,
+            taken: 0,
             misses: 0,
             left: false,
             buffer,
@@ -113,6 +117,7 @@ impl OutletEnd {
         match self.consumer.pop() {
             Ok(Queued::Lines(packet)) => {
                 self.fresh = false;
+                self.taken = self.taken.saturating_add(1);
                 wake(&self.pump, self.consumer.cached_slots());
                 Some(packet)
             }
@@ -191,10 +196,11 @@ impl OutletEnd {
         }
     }
 
-    /// Sleeps until a packet may be there.
+    /// Sleeps until a packet may be there. Of those that were taken nothing is left to write.
     pub(crate) fn sleep<R: Wait>(&mut self, rt: &R, idle: Turns)
         ensures { (items_of self.new ≡ items_of self.old) × (self.new.misses ≡ self.old.misses) }
     {
+        self.writer.note_written(self.taken);
         self.writer.nod();
         if self.consumer.is_empty() {
             self.writer.wait(rt, idle);

@@ -154,6 +154,12 @@ impl RingOutlet {
         self.closed.is_none() && !self.producer.is_full()
     }
 
+    /// Whether the writer has written all packets that were sent, as it said when it last had
+    /// nothing left to write. What it says comes late, but is never more than it has written.
+    pub fn is_written(&self) -> bool {
+        self.writer.written() == self.count
+    }
+
     /// Sends a packet, or hands it back where no slot is known to be free, or it is closed. It takes
     /// no lock and waits for nobody.
     pub fn send(&mut self, packet: Packet) -> Result<(), Packet>

@@ -26,7 +26,7 @@ names_same k (Ok m) (Ok n) = refl
 names_same k (Ok m) (Err d) = tt
 names_same k (Err d) s = tt
 
-one_same : (r : RecordParts) (k : KeptParts) → IsNoChannel r → SameChannels k (after r k)
+pub one_same : (r : RecordParts) (k : KeptParts) → IsNoChannel r → SameChannels k (after r k)
 one_same (next n) k none = history_same k _
 one_same (message e) k none = history_same k _
 one_same (name x) k none = names_same k _ _
@@ -62,7 +62,7 @@ split_two [] qs k kept e = (k, refl, e)
 split_two (r ∷ rs) qs k kept e =
     then_split rs qs kept (after r k) e (λ j done. split_two rs qs j kept done)
 
-without : (k : KeptParts) → k.channels ≡ [] → record k { channels = [] } ≡ k
+pub without : (k : KeptParts) → k.channels ≡ [] → record k { channels = [] } ≡ k
 without k none =
     ap (λ (cs : List (List ℕ × Option (List ℕ))). record k { channels = cs }) (sym none)
 

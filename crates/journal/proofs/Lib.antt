@@ -1,9 +1,15 @@
 pub mod Again
 pub mod Before
+pub mod Batches
 pub mod Beginnings
+pub mod Capacities
 pub mod Files
+pub mod Fillings
 pub mod FrameSizes
+pub mod Grown
 pub mod Headers
 pub mod InOrder
 pub mod InParts
+pub mod TextParts
+pub mod NameChanges
 pub mod Snapshots

@@ -1,7 +1,10 @@
+pub mod Changes
+pub mod Fillings
 pub mod Header
 pub mod Kept
 pub mod Reading
 pub mod Recalls
 pub mod Records
+pub mod Shown
 pub mod Snapshots
 pub mod Writing

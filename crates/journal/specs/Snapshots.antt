@@ -2,11 +2,12 @@
 use Rattle.std.specs.Prelude.{◌≡◌, ◌≤◌, ◌+◌, ◌++◌, ℕ, List, [], ◌∷◌, Option, None, Some, Ok}
 use Rattle.std.specs.Prelude.{if◌then◌else◌, map, nat_eq}
 use Rattle.std.specs.FinMap as fin
-use Rattle.std.specs.List.{AllByRecursion}
+use Rattle.std.specs.List.{AllByRecursion, flat_map}
 use Rattle.history.specs.Entry.{EntryParts}
-use Rattle.history.specs.Marks.{NameMarks}
-use Rattle.history.specs.Messages.{Messages}
-use Rattle.journal.specs.Kept.{after_batch, nothing}
+use Rattle.history.specs.Marks.{NameMarks, mark_of}
+use Rattle.history.specs.Messages.{Messages, target_key, target_limit}
+use Rattle.history.specs.Retained.{retained}
+use Rattle.journal.specs.Kept.{KeptParts, after_batch, nothing}
 use Rattle.journal.specs.Records.{RecordParts, gone, mark, message, name, next, on, seen}
 
 -- the next number, where it is not the one that is expected
@@ -32,26 +33,63 @@ abbrev pub name_record : List ℕ → Option ℕ → RecordParts
 name_record x None = name x
 name_record x (Some number) = mark x number
 
-abbrev pub name_records : List (List ℕ × Option ℕ) → List RecordParts
-name_records es = map (λ e. name_record e.0 e.1) es
+-- what its sessions were given since, if it is known
+abbrev pub seen_records : List ℕ → Option ℕ → List RecordParts
+seen_records x None = []
+seen_records x (Some number) = seen x number ∷ []
+
+-- client names with their marks, each with what its sessions were given since
+abbrev pub name_records : NameMarks → List (List ℕ × Option ℕ) → List RecordParts
+name_records latest es =
+    flat_map (λ e. name_record e.0 e.1 ∷ seen_records e.0 (mark_of e.0 latest)) es
 
 abbrev pub channel_records : List (List ℕ × Option (List ℕ)) → List RecordParts
 channel_records cs = map (λ c. on c.0 c.1) cs
 
 -- all of it, where this is the number of the next message
-abbrev pub snapshot_of : ℕ → Messages → NameMarks → List (List ℕ × Option (List ℕ))
-    → List RecordParts
-snapshot_of last h marks channels =
-    message_records h.kept last ++ (name_records (fin.entries marks) ++ channel_records channels)
+abbrev pub snapshot_of : ℕ → Messages → NameMarks → NameMarks
+    → List (List ℕ × Option (List ℕ)) → List RecordParts
+snapshot_of last h marks latest channels =
+    message_records h.kept last
+    ++ (name_records latest (fin.entries marks) ++ channel_records channels)
+
+-- of a name's mark and of what its sessions were given since, the number that counts
+abbrev pub counting_one : Option ℕ → Option ℕ → Option ℕ
+counting_one before None = before
+counting_one before (Some number) = Some number
+
+abbrev pub counting_all : NameMarks → List (List ℕ × Option ℕ) → List (List ℕ × Option ℕ)
+counting_all latest es = map (λ e. (e.0, counting_one e.1 (mark_of e.0 latest))) es
+
+-- the names that have marks, each with the number that counts
+abbrev pub counting : NameMarks → NameMarks → NameMarks
+counting marks latest = fin.from_entries (counting_all latest (fin.entries marks))
+
+-- what a history of this capacity retains of the messages of another one
+abbrev pub in_capacity : ℕ → Messages → Messages
+in_capacity capacity h = record {
+  capacity = capacity;
+  kept = retained target_key target_limit capacity h.kept;
+  next = h.next;
+}
+
+-- what is kept where all of it is, in a history of this capacity
+abbrev pub all_kept : ℕ → Messages → NameMarks → NameMarks → List (List ℕ × Option (List ℕ))
+    → KeptParts
+all_kept capacity h marks latest channels = record {
+  history = in_capacity capacity h;
+  marks = counting marks latest;
+  marked = marks;
+  channels = channels;
+}
 
 -- after these records from nothing, all of it is kept, where the first number is none that was
--- passed and the names are not too many
-abbrev pub GivesBack : List RecordParts → ℕ → Messages → NameMarks
+-- passed
+abbrev pub GivesBack : List RecordParts → ℕ → Messages → NameMarks → NameMarks
     → List (List ℕ × Option (List ℕ)) → Type 0
-GivesBack records last h marks channels =
-    (first : ℕ) → first ≤ first_of h.kept last → fin.len marks ≤ 64
-    → after_batch records (nothing h.capacity first)
-    ≡ Ok (record { history = h; marks = marks; marked = marks; channels = channels })
+GivesBack records last h marks latest channels =
+    (capacity first : ℕ) → first ≤ first_of h.kept last
+    → after_batch records (nothing capacity first) ≡ Ok (all_kept capacity h marks latest channels)
 
 -- records that say nothing of channels
 abbrev pub IsNoChannel : RecordParts → Type 0

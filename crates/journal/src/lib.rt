@@ -2,6 +2,8 @@
 //! line of IRC, a batch a frame of lines.
 #![tactic(auto)]
 
+mod batching;
+mod changes;
 mod damage;
 mod header;
 mod kept;
@@ -12,15 +14,19 @@ mod recalling;
 mod record;
 mod redoing;
 mod replaying;
+mod shown;
 mod sizes;
 mod snapshotting;
 mod texts;
 
+pub use batching::push_batches;
+pub use changes::{Changes, Written, what_changed};
 pub use damage::Damage;
 pub use header::push_header;
 pub use kept::{Channel, Kept};
 pub use recalling::{Recalled, recall};
 pub use record::Record;
 pub use replaying::RecallError;
+pub use shown::messages_text;
 pub use snapshotting::snapshot;
 pub use texts::{PushError, push_batch};

@@ -123,6 +123,19 @@ impl JournalFile {
         Ok(Beginning::Cut(rest.len() as u64))
     }
 
+    /// Where it is.
+    pub fn path(&self) -> &str {
+        self.path.as_str()
+    }
+
+    /// Its bytes as they are now.
+    pub fn bytes<D: Disk>(&self, disk: &D, alloc: Global) -> io::Result<Vec<u8>> {
+        match disk.read(alloc, self.path.as_str())? {
+            Some(bytes) => Ok(bytes),
+            None => Ok(Vec::new(alloc)),
+        }
+    }
+
     /// What is to be done to it now.
     pub fn next(&self, wanted: Wanted, now: u64) -> Deed {
         self.state.next(wanted, now)

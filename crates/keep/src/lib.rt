@@ -105,6 +105,11 @@ pub fn is_readable(file: &File, time: Duration) -> bool {
     c::poll(&mut files, timeout) != 0
 }
 
+/// The user whose rights the program has.
+pub fn user_id() -> u32 {
+    libc::geteuid()
+}
+
 /// Opens `/dev/null` as standard input, output and error, each that is closed: so no file or socket
 /// that is opened later gets its number, and what is written to it reaches nobody. It is for the
 /// start of a program, before anything else is opened. A system without `/dev/null` will do if all

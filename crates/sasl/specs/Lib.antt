@@ -1,3 +1,4 @@
 pub mod Login
+pub mod Offer
 pub mod Response
 pub mod Said

@@ -62,6 +62,10 @@ pub data Answer : Type 0 where
   sends : List Parts → Answer
   fails : Answer
 
+abbrev pub is_failed : Answer → Bool
+is_failed fails = true
+is_failed _ = false
+
 abbrev pub answer_by : Account → List Parts → Parts → Said → Answer
 answer_by account before line says.Acknowledged =
     sends (authenticate (mechanism_of account) ∷ [])

@@ -21,9 +21,9 @@ has_subcommand word line = has_param (λ param. str_eq_ignore_ascii_case param w
 abbrev pub last_param : Parts → List ℕ
 last_param line = unwrap_or (slice_get line.params (length line.params - 1)) []
 
--- this is one of the words of a list
-abbrev pub has_word : List ℕ → List ℕ → Bool
-has_word word list = list_any (bytes_eq word) (slice_split (λ b. b == 32) list)
+-- this is one of the items of a list, which such bytes part
+abbrev pub has_item : ℕ → List ℕ → List ℕ → Bool
+has_item separator item list = list_any (bytes_eq item) (slice_split (λ b. b == separator) list)
 
 -- `AUTHENTICATE +`
 abbrev pub is_go : Parts → Bool
@@ -36,7 +36,7 @@ abbrev pub said : Parts → Said
 said line =
     if has_command line (codes "CAP") && has_subcommand (codes "NAK") line then Failed else
     if has_command line (codes "CAP")
-    && (has_subcommand (codes "ACK") line && has_word (codes "sasl") (last_param line))
+    && (has_subcommand (codes "ACK") line && has_item 32 (codes "sasl") (last_param line))
     then Acknowledged else
     if is_go line then Go else
     if has_command line (codes "903") || has_command line (codes "907") then LoggedIn else

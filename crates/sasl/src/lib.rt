@@ -3,8 +3,11 @@
 
 pub mod laws;
 mod login;
+mod offer;
 mod response;
 mod said;
 
 pub use login::{Login, LoginStep};
+pub use offer::offers;
+pub use said::{has_subcommand, last_param};
 pub use std::alloc::AllocError as OutOfMemory;

@@ -3,7 +3,7 @@
 ghost use Rattle.std.specs.Prelude.{◌≡◌, ◌==◌, codes};
 ghost use Rattle.std.specs.List.{list_any, slice_split};
 ghost use Rattle.std.specs.Str.{bytes_eq};
-ghost use Rattle.sasl.specs.Said.{has_subcommand, has_word, is_go, last_param, said};
+ghost use Rattle.sasl.specs.Said.{has_item, has_subcommand, is_go, last_param, said};
 
 use irc_line::{Line, split_byte};
 
@@ -23,8 +23,8 @@ pub(crate) enum Said {
     Other,
 }
 
-/// Whether the subcommand of a CAP line is this.
-fn has_subcommand(line: &Line, word: &[u8]) -> bool
+/// Whether the subcommand of a CAP line, which is its second parameter, is this.
+pub fn has_subcommand(line: &Line, word: &[u8]) -> bool
     ensures { result ≡ has_subcommand word.now line.now }
 {
     match line.param(1) {
@@ -34,7 +34,7 @@ fn has_subcommand(line: &Line, word: &[u8]) -> bool
 }
 
 /// The last parameter of a line; empty if it has none.
-fn last_param(line: &Line) -> &[u8]
+pub fn last_param(line: &Line) -> &[u8]
     ensures { result.now ≡ last_param line.now }
 {
     match line.param(line.param_count().saturating_sub(1)) {
@@ -43,18 +43,18 @@ fn last_param(line: &Line) -> &[u8]
     }
 }
 
-/// Whether this is one of the words of a list.
-fn has_word(word: &[u8], list: &[u8]) -> bool
-    ensures { result ≡ has_word word.now list.now }
+/// Whether this is one of the items of a list, which such bytes part.
+pub(crate) fn has_item(separator: u8, item: &[u8], list: &[u8]) -> bool
+    ensures { result ≡ has_item separator item.now list.now }
 {
     let mut rest = list;
-    while let Some((first, after)) = split_byte(b' ', rest) {
-        if word == first {
+    while let Some((first, after)) = split_byte(separator, rest) {
+        if item == first {
             return true;
         }
         rest = after;
     }
-    word == rest
+    item == rest
 }
 
 /// Whether a line asks for the response.
@@ -73,7 +73,7 @@ impl Said {
             Said::Failed
         } else if line.is(b"CAP")
             && has_subcommand(line, b"ACK")
-            && has_word(b"sasl", last_param(line))
+            && has_item(b' ', b"sasl", last_param(line))
         {
             Said::Acknowledged
         } else if is_go(line) {

@@ -1,9 +1,12 @@
 //! A network that is begun anew, since there was no memory for what came from it.
 
+use crate::journaling::begin_again;
 use crate::link::{Link, network_with_link};
 use crate::shared::Shared;
 use crate::slot::Slot;
+use crate::station::Station;
 use hub_threads::Network;
+use journal_writer::Disk;
 use net_view::NetworkView;
 use quick_view::QuickView;
 use std::alloc::{AllocError, Global};
@@ -11,26 +14,32 @@ use std::rt::Clock;
 use std::sync::{Arc, Wait};
 use std::thread;
 use std::time::Duration;
+use steward::{Answer, Event};
 
 /// After how many seconds a start that was refused is tried again.
 const PAUSE: u64 = 1;
 
 /// What makes a network of which nothing came, with its link.
 pub trait Start<V: NetworkView + Drop> {
-    /// Makes one. `AllocError` is told where an allocation was refused.
+    /// Makes one. `AllocError` if an allocation fails.
     fn start(&self) -> Result<(Network<V>, Link), AllocError>;
 }
 
 /// What makes a network of the program, by the settings of now.
 #[derive(Clone, Copy)]
-pub(crate) struct OfSettings<'a, R: Wait> {
+pub(crate) struct OfSettings<'a, R: Wait + Clock + Disk> {
     pub(crate) rt: &'a R,
     pub(crate) alloc: Global,
     pub(crate) shared: &'a Shared,
+    pub(crate) station: &'a Station,
 }
 
-impl<R: Wait> Start<QuickView> for OfSettings<'_, R> {
+impl<R: Wait + Clock + Disk> Start<QuickView> for OfSettings<'_, R> {
     fn start(&self) -> Result<(Network<QuickView>, Link), AllocError> {
+        let again = begin_again(self.rt, self.alloc, self.shared, self.station)?;
+        if let Some(network) = again {
+            return Ok(network);
+        }
         let roster = self.shared.roster(self.rt)?;
         let packets = self.shared.limits().packets;
         network_with_link(self.alloc, roster.config().history(), packets)
@@ -46,10 +55,9 @@ fn started<V: NetworkView + Drop, S: Start<V>>(
     Ok((Arc::new(alloc, network)?, link))
 }
 
-/// Begins a network anew. The one in the slot is given up: its connection and those of its clients
-/// are shut, and what it kept is gone. A new one takes its place, with its own lock, view and ends;
-/// where memory is refused for that, it is tried again each second. The thread that dials finds its
-/// link in the slot.
+/// Begins a network anew in its slot. The one that stands there is given up, with all that it kept.
+/// A new one takes its place, with its own lock, view and ends; if memory is refused for that, it is
+/// tried again each second. The thread that dials finds its link in the slot.
 ///
 /// The caller holds the network no more: what its view held is freed with the last who does.
 pub fn begin_anew<V: NetworkView + Drop, S: Start<V>, R: Wait + Clock>(
@@ -66,4 +74,35 @@ pub fn begin_anew<V: NetworkView + Drop, S: Start<V>, R: Wait + Clock>(
         }
         thread::sleep(rt, Duration::from_secs(PAUSE));
     }
+}
+
+/// Shuts the connection of each client of a network and its own, as for a network that keeps more
+/// than it may; whether it is to be begun anew, which it is not once the service ends.
+fn is_given_up<R: Wait + Clock>(rt: &R, shared: &Shared, network: u64) -> bool {
+    for _ in rt.forever() {
+        let bytes = u64::MAX;
+        match shared.decide(rt, Event::Keeps { network, bytes }) {
+            Answer::Tell { .. } => {}
+            answer => return answer == Answer::BeginAnew { network },
+        }
+    }
+    unreachable!()
+}
+
+/// Begins a network of the program anew: its connection and those of its clients are shut, and a new
+/// one takes its place. `false` if the service ends.
+pub fn begin_network_anew<S: Start<QuickView>, R: Wait + Clock>(
+    rt: &R,
+    alloc: Global,
+    shared: &Shared,
+    station: &Station,
+    start: &S,
+) -> bool {
+    // before its connection is given up, so that nobody dials or comes in by what goes
+    station.slot().clear(rt);
+    if !is_given_up(rt, shared, station.number()) {
+        return false;
+    }
+    begin_anew(rt, alloc, station.slot(), start);
+    true
 }

@@ -4,19 +4,29 @@ use crate::client_input::ClientInput;
 use crate::clock::SystemClock;
 use crate::closing::HangingUp;
 use crate::connection::Connection;
-use crate::counted::Counted;
+use crate::guest::Guest;
+use crate::host::Host;
 use crate::limits::Limits;
-use crate::seats::Seat;
 use crate::shared::Shared;
-use crate::watching::{At, Watching};
+use crate::watching::Watching;
+use crate::wired::Wired;
 use hub_threads::Worker;
 use sessions::serve_session;
+use shell::Counted;
 use std::alloc::Global;
 use std::io;
 use std::net::{SocketAddr, TcpStream};
-use std::rt::Clock;
-use std::sync::Wait;
-use std::thread::Threads;
+use std::time::Duration;
+use steward::Event;
+
+/// The right to log in.
+#[derive(Clone, Copy)]
+pub(crate) struct Seat {
+    /// The client's number.
+    pub(crate) number: u64,
+    /// How long the login may take.
+    pub(crate) time: Duration,
+}
 
 /// Sets what holds of the connection from its beginning on.
 fn prepare(stream: &TcpStream, limits: &Limits) -> io::Result<()> {
@@ -25,49 +35,50 @@ fn prepare(stream: &TcpStream, limits: &Limits) -> io::Result<()> {
     keep::keep_watch(stream, limits.watch)
 }
 
-/// Serves a client to its end; an error where it could not be begun.
-fn serve<'a, R: Threads + Clock + Wait + Copy + Send + Drop + 'static>(
-    at: At<'a, R>,
-    seat: Seat<R>,
-) -> io::Result<()> {
-    prepare(at.connection.stream(), &at.shared.limits())?;
-    let gate = HangingUp::on(at.connection.share()?);
-    let (out, count) = Counted::new(at.alloc, at.connection.share()?)?;
-    let mut input = ClientInput::start(at.rt, at.alloc, at.connection, seat.time)?;
-    let mut watching = Watching::start(at, seat, count);
+/// Serves a client to its end, whose login may take so long; an error if it could not be begun.
+fn serve<R: Host>(guest: Guest<'_, R>, time: Duration) -> io::Result<()> {
+    prepare(guest.connection.stream(), &guest.shared.limits())?;
+    let gate = HangingUp::on(guest.connection.share()?);
+    let (out, count) = Counted::new(guest.alloc, guest.connection.share()?)?;
+    let mut input = ClientInput::start(guest.rt, guest.alloc, Wired(guest.connection), time)?;
+    let mut watching = Watching::start(guest, count);
     let worker = Worker {
-        rt: *at.rt,
-        alloc: at.alloc,
+        rt: *guest.rt,
+        alloc: guest.alloc,
         gate: &gate,
-        clock: &SystemClock::of(at.rt),
+        clock: &SystemClock::of(guest.rt),
     };
-    let config = at.roster.config();
-    let networks = at.roster.networks();
+    let config = guest.roster.config();
+    let networks = guest.roster.networks();
     let served = serve_session(&worker, &mut input, out, config, networks, &mut watching);
     watching.finish(&input, &served);
     Ok(())
 }
 
 /// Serves a client to its end: its login, in the time that it has, the check against the settings,
-/// and its session. The answer to a wrong password comes after a while; the seat is kept until then.
-pub fn serve_client<R: Threads + Clock + Wait + Copy + Send + Drop + 'static>(
+/// and its session.
+pub(crate) fn serve_client<R: Host>(
     rt: R,
     alloc: Global,
     shared: &Shared,
-    seat: Seat<R>,
-    connection: Connection,
+    seat: Seat,
+    connection: &Connection,
     peer: SocketAddr,
 ) {
-    if let Ok(roster) = shared.roster(&rt) {
-        let at = At {
+    if let Ok((roster, settings)) = shared.settings(&rt) {
+        let guest = Guest {
             rt: &rt,
             alloc,
             shared,
             roster: &roster,
-            connection: &connection,
+            settings,
+            number: seat.number,
+            connection,
             peer,
         };
-        let _ = serve(at, seat);
+        let _ = serve(guest, seat.time);
     }
     connection.hang_up();
+    let client = seat.number;
+    let _ = shared.decide(&rt, Event::Gone { client });
 }

@@ -1,86 +1,43 @@
-//! What a client sends: its login, and then its session.
+//! What a client sends, over its connection, to its network and that network's other clients.
 
-use crate::ahead::ByLine;
 use crate::connection::Connection;
-use crate::pace::Pace;
-use crate::paced::Paced;
-use crate::timed::Until;
+use crate::wired::Wired;
+use hub_ends::Outlet;
 use hub_threads::Network;
 use quick_view::QuickView;
-use std::alloc::Global;
-use std::io::Read;
+use shell::{Neighbours, lines_left};
 use std::rt::Clock;
 use std::sync::{Arc, Wait};
-use std::time::Duration;
-use std::{io, mem};
 
-/// Where a client is.
+/// What reads a client.
+pub(crate) type ClientInput<'a, R> = shell::ClientInput<'a, Wired<'a>, Others<'a, R>, R>;
+
+/// A network and its clients, as one of them sees them.
 #[derive(Drop)]
-enum Phase<'a, R: Wait + Clock> {
-    Login(ByLine<Until<'a, R>>),
-    Session(Paced<'a, R>),
-    Over,
+pub(crate) struct Others<'a, R: Wait> {
+    pub(crate) rt: &'a R,
+    pub(crate) network: Arc<Network<QuickView>>,
 }
 
-/// A reader of what a client sends: line by line and in a limited time while it logs in, and at its
-/// network's pace in its session. What it read ahead in the login is kept for the session.
-#[derive(Drop)]
-pub(crate) struct ClientInput<'a, R: Wait + Clock> {
-    rt: &'a R,
-    connection: &'a Connection,
-    phase: Phase<'a, R>,
-}
-
-impl<'a, R: Wait + Clock> ClientInput<'a, R> {
-    /// The input of a client whose login may take this long, from now on.
-    pub(crate) fn start(
-        rt: &'a R,
-        alloc: Global,
-        connection: &'a Connection,
-        time: Duration,
-    ) -> io::Result<ClientInput<'a, R>> {
-        let until = Until::start(connection.stream(), rt, time)?;
-        Ok(ClientInput {
-            rt,
-            connection,
-            phase: Phase::Login(ByLine::new(alloc, until)),
-        })
-    }
-
-    /// Reads for a session at this network from now on.
-    pub(crate) fn begin_session(&mut self, network: Arc<Network<QuickView>>, pace: &'a Pace) {
-        self.phase = match mem::replace(&mut self.phase, Phase::Over) {
-            Phase::Login(login) => {
-                let ahead = login.into_ahead();
-                Phase::Session(Paced::new(self.rt, self.connection, ahead, network, pace))
-            }
-            other => other,
-        };
-    }
-
-    /// Whether the time of the login is up and no PASS came.
-    pub(crate) fn lacks_pass(&self) -> bool {
-        match &self.phase {
-            Phase::Login(login) => login.input().is_over() && !login.has_pass(),
-            _ => false,
+impl<R: Wait> Neighbours for Others<'_, R> {
+    /// Whether what goes to the network has less than half of its room, or a session of the network
+    /// is nearly full. While the network is lost no line goes there, so its room does not count.
+    fn is_crowded(&self) -> bool {
+        let mut hub = self.network.lock(self.rt);
+        let half = hub.upstream_outlet().capacity() / 2;
+        if hub.is_online() && hub.upstream_free() < half {
+            return true;
         }
-    }
-
-    /// Shuts the connection, and answers how many lines of the session were not handed on.
-    pub(crate) fn unsaid(&self) -> u64 {
-        match &self.phase {
-            Phase::Session(session) => session.unsaid(),
-            _ => 0,
+        match hub.nearly_full() {
+            Ok(sessions) => !sessions.is_empty(),
+            Err(_) => false,
         }
     }
 }
 
-impl<R: Wait + Clock> Read for ClientInput<'_, R> {
-    fn read(&mut self, buf: &mut [u8]) -> io::Result<usize> {
-        match &mut self.phase {
-            Phase::Login(login) => login.read(buf),
-            Phase::Session(session) => session.read(buf),
-            Phase::Over => Ok(0),
-        }
-    }
+/// Shuts a client's connection, and answers how many lines of its session were not handed on.
+pub(crate) fn unsaid<R: Wait + Clock>(input: &ClientInput<'_, R>, connection: &Connection) -> u64 {
+    connection.hang_up();
+    let mut stream = connection.stream();
+    input.unsaid().saturating_add(lines_left(&mut stream))
 }

@@ -1,4 +1,4 @@
-//! The system's time, as hubs are told it.
+//! The system's time, as hubs get it.
 
 use client_caps::Moment;
 use std::rt::Clock;
@@ -8,7 +8,7 @@ use std::time::{Instant, SystemTime, UNIX_EPOCH};
 #[derive(Clone, Copy)]
 pub struct SystemClock<'a, C> {
     clock: &'a C,
-    // when it was made; `None` where the clock could not be read
+    // when it was made; `None` if the clock could not be read
     start: Option<Instant>,
 }
 
@@ -23,7 +23,7 @@ impl<'a, C: Clock> SystemClock<'a, C> {
 }
 
 impl<C: Clock> hub_threads::Clock for SystemClock<'_, C> {
-    /// The moment that it is now; that of 0 where the clock can't be read.
+    /// The present moment, or 0 if the clock can't be read.
     fn now(&self) -> Moment {
         let Ok(now) = SystemTime::now(self.clock) else {
             return Moment(0);
@@ -34,7 +34,7 @@ impl<C: Clock> hub_threads::Clock for SystemClock<'_, C> {
         }
     }
 
-    /// How many milliseconds have gone by since it was made, by the monotonic clock; 0 where that
+    /// How many milliseconds have gone by since it was made, by the monotonic clock; 0 if that
     /// can't be read.
     fn ticks(&self) -> u64 {
         let Some(start) = self.start else {

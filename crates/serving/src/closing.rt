@@ -1,9 +1,11 @@
 //! The end of a connection.
 
 use crate::connection::Connection;
+use crate::journals::Journals;
 use hub_threads::{Gate, Point};
 use std::alloc::AllocError;
 use std::net::{Shutdown, TcpStream};
+use std::sync::Arc;
 
 /// Shuts a connection: each read of it, also one that waits, then answers its end, and each write
 /// fails.
@@ -14,16 +16,30 @@ pub fn hang_up(stream: &TcpStream) {
 /// The gate of a session. It holds nobody. When the session's writer has ended, it shuts the
 /// connection: so the reader of a session that was cut, or to which nothing can be written, ends
 /// too. A writer that was given nothing to write leaves the connection as it is, and so does one
-/// behind which a last word is to be said.
+/// after which a last line is to be sent.
 #[derive(Drop)]
 pub struct HangingUp {
     connection: Connection,
+    // whom to tell of what was written
+    journals: Option<Arc<Journals>>,
 }
 
 impl HangingUp {
     /// The gate of a writer to this connection.
     pub fn on(connection: Connection) -> HangingUp {
-        HangingUp { connection }
+        HangingUp {
+            connection,
+            journals: None,
+        }
+    }
+
+    /// The same gate, of the writer to a network that is kept over a restart: what is said there is
+    /// kept too.
+    pub(crate) fn with_journals(self, journals: Arc<Journals>) -> HangingUp {
+        HangingUp {
+            journals: Some(journals),
+            ..self
+        }
     }
 }
 
@@ -32,6 +48,9 @@ impl Gate for HangingUp {
         if point == Point::AtEnd {
             self.connection.end();
         }
+        if let (Point::AfterWrite, Some(journals)) = (point, &self.journals) {
+            journals.ring();
+        }
     }
 }
 
@@ -39,6 +58,10 @@ impl Clone for HangingUp {
     fn clone(&self) -> Result<HangingUp, AllocError> {
         Ok(HangingUp {
             connection: self.connection.share()?,
+            journals: match &self.journals {
+                Some(journals) => Some(Arc::try_clone(journals)?),
+                None => None,
+            },
         })
     }
 }

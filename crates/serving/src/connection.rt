@@ -1,15 +1,18 @@
 //! A connection that several threads have.
 
+ghost use Rattle.std.specs.Prelude.{◌≤◌, IfOk, length};
+
 use crate::closing::hang_up;
+use shell::{ends_within, is_silence};
 use std::alloc::{AllocError, Global};
 use std::io;
 use std::io::{Read, Write};
 use std::net::{Shutdown, TcpStream};
-use std::sync::Arc;
 use std::sync::atomic::{AtomicBool, AtomicU64, Ordering};
+use std::sync::{Arc, Mutex, Wait};
 use std::time::Duration;
 
-/// Why a connection ends behind a last word.
+/// Why a connection ends with a last line.
 #[derive(Clone, Copy, Debug, PartialEq, Eq)]
 pub enum Farewell {
     /// The service ends.
@@ -53,12 +56,14 @@ impl Farewell {
     }
 }
 
-/// A stream, whether it was shut, and the number of the last word behind which it is to be shut.
+/// A stream, whether it was shut, and the number of the last line after which it is to be shut.
 #[derive(Drop)]
 struct Line {
     stream: TcpStream,
     is_shut: AtomicBool,
     farewell: AtomicU64,
+    // whether what was written in turn ends within a line
+    is_within_line: Mutex<bool>,
 }
 
 /// A connection, in as many hands as need be: all of them are one descriptor, which is closed with
@@ -69,13 +74,14 @@ pub struct Connection {
 }
 
 impl Connection {
-    /// The connection that a stream is. `AllocError` where memory is refused; the stream is closed
-    /// then.
+    /// The connection over a stream. `AllocError` if an allocation fails; the stream is then
+    /// closed.
     pub fn new(alloc: Global, stream: TcpStream) -> Result<Connection, AllocError> {
         let line = Line {
             stream,
             is_shut: AtomicBool::new(false),
             farewell: AtomicU64::new(NONE),
+            is_within_line: Mutex::new(false),
         };
         Ok(Connection {
             line: Arc::new(alloc, line)?,
@@ -109,19 +115,19 @@ impl Connection {
         let _ = self.line.stream.shutdown(Shutdown::Read);
     }
 
-    /// Why a last word is to be said; `None` where none is.
+    /// Why a last line is to be sent; `None` if none is.
     pub fn farewell(&self) -> Option<Farewell> {
         Farewell::of_number(self.line.farewell.load(Ordering::SeqCst))
     }
 
-    /// Shuts it, where no last word is to be said.
+    /// Shuts it, if no last line is to be sent.
     pub fn end(&self) {
         if self.farewell().is_none() {
             self.hang_up();
         }
     }
 
-    /// Says why it ends, as `COMMAND :TEXT`, where the peer takes that in this time, and shuts it.
+    /// Sends the reason as `COMMAND :TEXT`, if the peer takes it within `time`, and shuts it.
     pub fn say_last(&self, command: &str, farewell: Farewell, time: Duration) {
         let mut stream = self.stream();
         if stream.set_write_timeout(Some(time)).is_ok() {
@@ -130,9 +136,60 @@ impl Connection {
         self.hang_up();
     }
 
-    /// Whether it was shut by one of its hands.
+    /// Writes a piece, by the one hand that may write pieces of lines.
+    pub(crate) fn write_in_turn<R: Wait>(&self, rt: &R, buf: &[u8]) -> io::Result<usize>
+        ensures { IfOk result (λ count. count ≤ length buf.now) }
+    {
+        let mut is_within_line = self.line.is_within_line.lock(rt);
+        let mut stream = self.stream();
+        let count = stream.write(buf)?;
+        *is_within_line = ends_within(*is_within_line, &buf[..count]);
+        Ok(count)
+    }
+
+    /// Says whole lines, unless that hand stands within one; whether they were said. If they can't be
+    /// written, the connection is shut.
+    pub(crate) fn say<R: Wait>(&self, rt: &R, parts: &[&[u8]]) -> bool {
+        let is_within_line = self.line.is_within_line.lock(rt);
+        if *is_within_line {
+            return false;
+        }
+        let mut out = Patiently(self.stream());
+        for part in parts {
+            if out.write_all(part).is_err() {
+                self.hang_up();
+                break;
+            }
+        }
+        true
+    }
+
+    /// Whether one of its hands has shut it, or ended what comes in.
     pub fn is_shut(&self) -> bool {
-        self.line.is_shut.load(Ordering::SeqCst)
+        self.line.is_shut.load(Ordering::SeqCst) || self.farewell().is_some()
+    }
+}
+
+/// How many calls in succession may write nothing.
+const CALLS: u32 = 25;
+
+/// A stream whose write calls end soon, each of which is tried again.
+#[derive(Drop)]
+struct Patiently<'a>(&'a TcpStream);
+
+impl Write for Patiently<'_> {
+    fn write(&mut self, buf: &[u8]) -> io::Result<usize> {
+        for _ in 1..CALLS {
+            match self.0.write(buf) {
+                Err(error) if is_silence(&error) => {}
+                written => return written,
+            }
+        }
+        self.0.write(buf)
+    }
+
+    fn flush(&mut self) -> io::Result<()> {
+        Ok(())
     }
 }
 

@@ -1,218 +1,146 @@
-//! The thread that dials a network and serves each connection to it.
+//! A network, as the thread that dials it knows it: what it asks, and what it is to do.
 
 use crate::clock::SystemClock;
-use crate::closing::HangingUp;
-use crate::connection::{Connection, Farewell};
-use crate::event::Event;
-use crate::keeping::{Input, Keeping};
-use crate::limits::Limits;
-use crate::link::Link;
-use crate::network_input::NetworkInput;
-use crate::recalling::Recalling;
-use crate::shared::{Served, Shared};
+use crate::connection::Connection;
+use crate::network_event::{Ending, NetworkEvent};
+use crate::roster::Roster;
+use crate::shared::Shared;
 use crate::station::Station;
-use hub_threads::{OutletEnd, Worker};
+use shell::Noted;
 use std::alloc::Global;
-use std::io;
-use std::io::Write;
-use std::net::{Net, TcpListener, TcpStream, ToSocketAddrs};
 use std::rt::Clock;
-use std::sync::Wait;
-use std::thread::Threads;
+use std::sync::{Arc, Wait};
 use std::time::Duration;
-use upstream::{Duplex, serve_network};
+use steward::{Answer, Event};
 
-/// A connection to an address, `HOST:PORT`: each address of the host is tried in turn.
-fn connect<R: Net<Listener = TcpListener, Stream = TcpStream>>(
-    rt: &R,
-    address: &str,
-    limits: &Limits,
-) -> io::Result<TcpStream> {
-    let mut last = io::Error::from(io::ErrorKind::NotFound);
-    for found in address.to_socket_addrs(rt)? {
-        match TcpStream::connect_timeout(rt, &found, limits.connect) {
-            Ok(stream) => {
-                stream.set_nodelay(true)?;
-                stream.set_write_timeout(Some(limits.write))?;
-                return Ok(stream);
-            }
-            Err(error) => last = error,
+/// How many milliseconds a thread rests that can't dial yet, since its hub has not taken the loss of
+/// the last connection or since another network is to end first. A network that ends wakes it.
+const UNREADY: u64 = 100;
+
+/// A network, as the thread that dials it knows it.
+#[derive(Clone, Copy)]
+pub(crate) struct Dialling<'a, R> {
+    pub(crate) rt: &'a R,
+    pub(crate) alloc: Global,
+    pub(crate) shared: &'a Shared,
+    pub(crate) station: &'a Station,
+}
+
+/// What the thread does next.
+#[derive(Drop)]
+pub(crate) enum Next {
+    /// It dials, by these settings.
+    Dial(Arc<Roster>),
+    /// It rests, and asks again.
+    Rest(Duration),
+    /// It ends.
+    End,
+}
+
+impl<R: Wait + Clock> Dialling<'_, R> {
+    /// Writes a line of the log.
+    pub(crate) fn tell(&self, event: &NetworkEvent) {
+        let log = self.shared.log();
+        log.tell(self.rt, &self.station.who(), event)
+    }
+
+    /// Logs how often dials ended as the one that was told last, if any did.
+    fn tell_alike(&self, count: u64) {
+        if count > 0 {
+            self.tell(&NetworkEvent::EndedAlike { count });
         }
     }
-    Err(last)
-}
 
-/// Connects to a network; tells where that fails.
-fn come_in<R: Wait + Clock + Net<Listener = TcpListener, Stream = TcpStream>>(
-    rt: &R,
-    alloc: Global,
-    served: &Served<'_>,
-) -> Option<Connection> {
-    let address = served.settings.address();
-    let retry = served.retry();
-    match connect(rt, address, &served.limits) {
-        Ok(stream) => match Connection::new(alloc, stream) {
-            Ok(connection) => Some(connection),
-            Err(_) => {
-                served.tell(rt, &Event::ConnectionWithoutMemory { retry });
-                None
-            }
-        },
-        Err(error) => {
-            let event = Event::CannotConnect {
-                address,
-                error,
-                retry,
-            };
-            served.tell(rt, &event);
-            None
-        }
-    }
-}
-
-/// What a connection to a network is served with: its two ends, and the gate that shuts it when
-/// nothing more can be written.
-fn ends_of<'a, R: Wait + Clock>(
-    rt: &'a R,
-    alloc: Global,
-    connection: &'a Connection,
-    served: &Served<'_>,
-) -> io::Result<(Duplex<Input<'a, R>, Connection>, HangingUp)> {
-    let gate = HangingUp::on(connection.share()?);
-    let reader = Recalling::new(alloc, NetworkInput::start(rt, connection, &served.limits)?);
-    let writer = connection.share()?;
-    Ok((Duplex { reader, writer }, gate))
-}
-
-/// Whether there is a network to dial, and its hub has taken the loss of its last connection.
-fn is_offline<R: Wait>(rt: &R, served: &Served<'_>) -> bool {
-    match served.station.slot().network(rt) {
-        Some(network) => !network.lock(rt).is_online(),
-        None => false,
-    }
-}
-
-/// Writes what waits for a network and then QUIT, if it takes them in this time, and shuts the
-/// connection.
-fn part_with(connection: &Connection, farewell: Farewell, outlet: &mut OutletEnd, time: Duration) {
-    let mut stream = connection.stream();
-    let _ = stream.set_write_timeout(Some(time));
-    for _ in 0..u64::MAX {
-        let Some(packet) = outlet.take() else {
-            return connection.say_last("QUIT", farewell, time);
+    /// Logs how a dial ended; one that ended as the dial before it is counted.
+    pub(crate) fn tell_ending(&self, ending: &Ending<'_>, again: Option<u64>) {
+        let Ok(text) = format!(in self.alloc; "{ending}") else {
+            return self.tell(&NetworkEvent::Ended { ending, again });
         };
-        if stream.write_all(packet.bytes()).is_err() {
-            return connection.hang_up();
+        let noted = self.station.repeats().lock(self.rt).note(text.into_bytes());
+        if let Noted::New(count) = noted {
+            self.tell_alike(count);
+            self.tell(&NetworkEvent::Ended { ending, again });
         }
     }
-}
 
-/// Dials once, and serves the connection to its end.
-fn dial<
-    'a,
-    R: Threads
-        + Wait
-        + Clock
-        + Net<Listener = TcpListener, Stream = TcpStream>
-        + Copy
-        + Send
-        + Drop
-        + 'static,
->(rt: &'a R, alloc: Global, served: &'a Served<'a>, link: Link) -> Link {
-    let Some(connection) = come_in(rt, alloc, served) else {
-        return link;
-    };
-    let Ok((stream, gate)) = ends_of(rt, alloc, &connection, served) else {
-        let retry = served.retry();
-        served.tell(rt, &Event::ConnectionWithoutMemory { retry });
-        return link;
-    };
-    let mut keeping = Keeping {
-        rt,
-        alloc,
-        served,
-        connection: &connection,
-    };
-    let clock = SystemClock::of(rt);
-    let worker = Worker {
-        rt: *rt,
-        alloc,
-        gate: &gate,
-        clock: &clock,
-    };
-    let over = serve_network(&worker, stream, served.settings, link, &mut keeping);
-    let upstream::Served {
-        end,
-        mut link,
-        stream,
-        ..
-    } = over;
-    keeping.tell_end(end, &stream.reader);
-    if let Some(farewell) = connection.farewell() {
-        part_with(&connection, farewell, &mut link.outlet, served.limits.stop);
+    /// Logs that the network has let us in.
+    pub(crate) fn tell_connected(&self, event: &NetworkEvent) {
+        let count = self.station.repeats().lock(self.rt).end();
+        self.tell_alike(count);
+        self.tell(event);
     }
-    connection.hang_up();
-    served.station.slot().disconnect(rt);
-    link
-}
 
-/// Dials a network by the settings in force, if its hub has taken the loss of the last connection,
-/// and serves the connection to its end. Answers the link, and how long to rest.
-fn dial_now<
-    R: Threads
-        + Wait
-        + Clock
-        + Net<Listener = TcpListener, Stream = TcpStream>
-        + Copy
-        + Send
-        + Drop
-        + 'static,
->(rt: &R, alloc: Global, shared: &Shared, station: &Station, link: Link) -> (Link, Duration) {
-    // before the settings: if these change after it, the connection is given up
-    let changes = station.slot().changes(rt);
-    let Ok(roster) = shared.roster(rt) else {
-        return (link, shared.limits().retry);
-    };
-    let Some(served) = shared.served(&roster, station, changes) else {
-        return (link, roster.retry());
-    };
-    if !is_offline(rt, &served) {
-        return (link, roster.retry());
-    }
-    let mut link = link;
-    link.drop_unsent();
-    (dial(rt, alloc, &served, link), roster.retry())
-}
-
-/// Dials a network, and dials it again whenever the connection has ended, as often as the limits
-/// say, with the time between two dials, until the service ends or the network is left. It is dialled
-/// once its hub has taken the loss of the last connection; what waited for that is dropped. One that
-/// was begun anew is dialled by its own link.
-pub fn stay_connected<
-    R: Threads
-        + Wait
-        + Clock
-        + Net<Listener = TcpListener, Stream = TcpStream>
-        + Copy
-        + Send
-        + Drop
-        + 'static,
->(rt: &R, alloc: Global, shared: &Shared, station: &Station, link: Link) {
-    let mut link = link;
-    let mut dials = 0u64;
-    for _ in rt.forever() {
-        let is_over = shared.limits().dials.are_over(dials);
-        if is_over || shared.is_stopping() || station.slot().is_left() {
-            break;
+    /// Asks what to do next.
+    fn ask(&self) -> Next {
+        let now = self.shared.ticks(self.rt);
+        let network = self.station.number();
+        let mut helm = self.shared.helm().lock(self.rt);
+        match helm.step(Event::Asks { network }, now) {
+            Answer::Dial { .. } => match Arc::try_clone(helm.roster()) {
+                Ok(roster) => Next::Dial(roster),
+                Err(_) => {
+                    helm.step(Event::Lost { network, chance: 0 }, now);
+                    Next::Rest(Duration::from_millis(UNREADY))
+                }
+            },
+            Answer::RestUntil(time) => Next::Rest(Duration::from_millis(time.saturating_sub(now))),
+            Answer::Over => Next::End,
+            _ => Next::Rest(Duration::from_millis(UNREADY)),
         }
-        dials = dials.saturating_add(1);
-        link = station.slot().link_of_now(rt, link);
-        let (same, retry) = dial_now(rt, alloc, shared, station, link);
-        link = same;
-        station.rest(rt, retry);
     }
-    if station.slot().is_left() {
-        station.slot().close(rt);
+
+    /// What to do next; a network whose hub is not ready is not dialled.
+    pub(crate) fn next(&self) -> Next {
+        if self.station.slot().is_ready(self.rt) {
+            return self.ask();
+        }
+        let is_leaving = self
+            .shared
+            .helm()
+            .lock(self.rt)
+            .is_leaving(self.station.number());
+        if is_leaving {
+            return self.ask();
+        }
+        Next::Rest(Duration::from_millis(UNREADY))
     }
-    shared.dials_no_more();
+
+    /// Whether the network is still to be dialled.
+    pub(crate) fn is_awaited(&self) -> bool {
+        self.shared
+            .helm()
+            .lock(self.rt)
+            .is_awaited(self.station.number())
+    }
+
+    /// Notes that a connection is made; whether we register.
+    pub(crate) fn registers(&self, connection: &Connection) -> bool {
+        let Ok(noted) = connection.share() else {
+            return false;
+        };
+        let now = self.shared.ticks(self.rt);
+        let mut helm = self.shared.helm().lock(self.rt);
+        helm.connect(self.station.number(), noted, now)
+    }
+
+    /// Notes that the network has let us in; whether it is served from now on.
+    pub(crate) fn is_welcome(&self) -> bool {
+        let moment = hub_threads::Clock::now(&SystemClock::of(self.rt));
+        let now = self.shared.ticks(self.rt);
+        let mut helm = self.shared.helm().lock(self.rt);
+        helm.welcome(self.station.number(), moment, now)
+    }
+
+    /// Notes that the connection has ended. The seconds to the next dial, if there is one.
+    pub(crate) fn lose(&self, chance: u64) -> Option<u64> {
+        let network = self.station.number();
+        let now = self.shared.ticks(self.rt);
+        let mut helm = self.shared.helm().lock(self.rt);
+        match helm.step(Event::Lost { network, chance }, now) {
+            Answer::EndedUntil { time, .. } if !helm.is_stopping() => {
+                Some(time.saturating_sub(now).div_ceil(1_000))
+            }
+            _ => None,
+        }
+    }
 }

@@ -1,17 +1,21 @@
 //! What the shell adds to a connection to a network: its limits, channels that are joined again,
 //! and the log.
 
-use crate::clock::SystemClock;
-use crate::connection::Connection;
-use crate::event::Event;
-use crate::network_input::NetworkInput;
-use crate::recalling::Recalling;
-use crate::rejoining::rejoin;
-use crate::shared::Served;
+ghost use Rattle.std.specs.Prelude.{◌≡◌};
+
+use crate::connection::{Connection, Farewell};
+use crate::dialling::Dialling;
+use crate::network_event::{Ending, GivenUp, NetworkEvent};
+use crate::network_input::{KeepAlive, NetworkInput};
+use crate::network_output::NetworkOutput;
+use crate::opening::Opening;
+use crate::rejoining::{all_joins, rejoin};
+use bnc_config::NetworkConfig;
 use hub_threads::{ReadEnd, WRITE_CALL};
 use irc_line::Line;
-use std::alloc::{AllocError, Global};
+use shell::Recalling;
 use std::io;
+use std::io::Read;
 use std::rt::Clock;
 use std::sync::Wait;
 use std::time::Duration;
@@ -23,10 +27,14 @@ pub(crate) type Input<'a, R> = Recalling<NetworkInput<'a, R>>;
 /// Watches one connection to a network.
 #[derive(Drop)]
 pub(crate) struct Keeping<'a, R: Wait + Clock> {
-    pub(crate) rt: &'a R,
-    pub(crate) alloc: Global,
-    pub(crate) served: &'a Served<'a>,
+    pub(crate) dialling: Dialling<'a, R>,
+    /// The settings by which it was dialled.
+    pub(crate) settings: &'a NetworkConfig,
     pub(crate) connection: &'a Connection,
+    /// What it sends by itself after the registration.
+    pub(crate) opening: Opening,
+    /// Why it is given up, if it is.
+    pub(crate) given_up: GivenUp,
 }
 
 /// Our nick by a network's welcome.
@@ -48,85 +56,103 @@ fn cause_of(ended: ReadEnd) -> &'static str {
     }
 }
 
-impl<'a, R: Wait + Clock> Keeping<'a, R> {
-    /// Tells the log of this network.
-    fn tell(&self, event: &Event) {
-        self.served.tell(self.rt, event)
+/// How a connection ended that ends so, with what the network said then, the last line that it is to be
+/// sent, and the cause if it was given up.
+pub(crate) fn ending_of(
+    end: NetworkEnd,
+    said: Option<Vec<u8>>,
+    farewell: Option<Farewell>,
+    given_up: GivenUp,
+) -> Ending<'static> {
+    if let Some(farewell) = farewell {
+        return Ending::Parted(farewell);
     }
-
-    /// Sets what holds of the connection from the welcome on.
-    fn begin_live(&self, input: &mut Input<'a, R>) -> io::Result<()> {
-        let call = Duration::from_millis(WRITE_CALL);
-        self.connection.stream().set_write_timeout(Some(call))?;
-        let served = self.served;
-        input
-            .input_mut()
-            .begin_live(served.station.slot(), &served.limits)
-    }
-
-    /// Tells the log how the connection ended, and what the network said then.
-    pub(crate) fn tell_end(&self, end: NetworkEnd, input: &Input<'a, R>) {
-        let said = input.parting(self.alloc);
-        let said = said.as_deref();
-        let retry = self.served.retry();
-        match end {
-            NetworkEnd::NotRegistered(fault) => {
-                self.tell(&Event::NotRegistered { fault, said, retry })
-            }
-            NetworkEnd::Lost(ended) => match self.connection.farewell() {
-                Some(farewell) => self.tell(&Event::Parted(farewell)),
-                None => {
-                    let cause = cause_of(ended);
-                    self.tell(&Event::Lost { cause, said, retry })
-                }
-            },
-            NetworkEnd::GivenUp => {}
-        }
-    }
-
-    /// Notes the connection, so that it is shut if its network is begun anew; false if since the
-    /// dial that has happened, or the network was left, or its settings changed.
-    fn note(&self) -> Result<bool, AllocError> {
-        let noted = self.connection.share()?;
-        let now = hub_threads::Clock::now(&SystemClock::of(self.rt));
-        let served = self.served;
-        let slot = served.station.slot();
-        Ok(slot.connect(self.rt, noted, now, served.changes))
+    match end {
+        NetworkEnd::NotRegistered(fault) => Ending::NotRegistered { fault, said },
+        NetworkEnd::Lost(ended) => Ending::Lost {
+            cause: cause_of(ended),
+            said,
+        },
+        NetworkEnd::GivenUp => Ending::GivenUp(given_up),
     }
 }
 
-impl<'a, R: Wait + Clock> Keeper<Input<'a, R>, Connection> for Keeping<'a, R> {
+impl<'a, R: Wait + Clock> Keeping<'a, R> {
+    /// Sets what holds of the connection from the welcome on.
+    fn begin_live(&self, input: &mut Input<'a, R>) -> io::Result<()>
+        ensures { ⟦<Input<'a, R> as Read>⟧.remaining input.new
+            ≡ ⟦<Input<'a, R> as Read>⟧.remaining input.old }
+    {
+        let call = Duration::from_millis(WRITE_CALL);
+        self.connection.stream().set_write_timeout(Some(call))?;
+        let Dialling {
+            rt,
+            shared,
+            station,
+            ..
+        } = self.dialling;
+        let limits = shared.limits();
+        let slot = station.slot();
+        input.begin_live(limits.silence, limits.silences, KeepAlive { rt, slot })
+    }
+
+    /// Asks for the channels that were lost; if the settings have lines that come first, for all
+    /// channels once these were sent.
+    fn ask_for_channels(&self, writer: &mut NetworkOutput<R>) -> io::Result<()> {
+        if self.settings.on_connect().is_empty() {
+            return rejoin(&self.dialling, self.settings, writer);
+        }
+        let Dialling { rt, shared, .. } = self.dialling;
+        let joins = all_joins(&self.dialling, self.settings)?;
+        self.opening
+            .begin(rt, self.settings, joins, shared.ticks(rt));
+        Ok(())
+    }
+
+    /// Asks for the channels that were lost, and sets what holds of the connection from then on.
+    fn begin(&self, input: &mut Input<'a, R>, writer: &mut NetworkOutput<R>) -> Result<(), GivenUp>
+        ensures { ⟦<Input<'a, R> as Read>⟧.remaining input.new
+            ≡ ⟦<Input<'a, R> as Read>⟧.remaining input.old }
+    {
+        if self.ask_for_channels(writer).is_err() {
+            return Err(GivenUp::NotRejoined);
+        }
+        match self.begin_live(input) {
+            Ok(()) => Ok(()),
+            Err(_) => Err(GivenUp::NoLimits),
+        }
+    }
+}
+
+impl<'a, R: Wait + Clock> Keeper<Input<'a, R>, NetworkOutput<R>> for Keeping<'a, R> {
     fn registered(
         &mut self,
         reader: &mut Input<'a, R>,
-        writer: &mut Connection,
+        writer: &mut NetworkOutput<R>,
         lines: &[Line],
     ) -> bool {
-        let retry = self.served.retry();
-        let is_noted = self.note();
-        if is_noted == Ok(false) {
-            self.tell(&Event::GivenUp { retry });
+        if !self.dialling.is_welcome() {
             return false;
         }
-        if is_noted.is_err() || self.begin_live(reader).is_err() {
-            self.tell(&Event::ConnectionWithoutMemory { retry });
-            return false;
-        }
-        self.tell(&Event::Connected {
-            address: self.served.settings.address(),
+        self.dialling.tell_connected(&NetworkEvent::Connected {
+            address: self.settings.address(),
             nick: nick_in(lines),
         });
-        rejoin(self.rt, self.alloc, self.served, writer);
-        true
+        match self.begin(reader, writer) {
+            Ok(()) => true,
+            Err(cause) => {
+                self.given_up = cause;
+                false
+            }
+        }
     }
 
     fn took_lines<T: Wait>(&self, rt: &T) -> bool {
-        self.served.station.slot().pump_beside(rt)
+        self.dialling.station.slot().pump_beside(rt)
     }
 
     fn no_thread(&mut self) {
-        let retry = self.served.retry();
-        self.tell(&Event::NoWriter { retry });
+        self.given_up = GivenUp::NoWriter;
         self.connection.hang_up();
     }
 

@@ -24,7 +24,7 @@ fn size_of(entry: &Entry) -> usize {
 }
 
 impl Kept {
-    /// What a network keeps. `AllocError` is told where memory for the count was refused.
+    /// What a network keeps. `AllocError` if the count can't be allocated.
     pub fn by<V: NetworkView + Drop, R: Wait>(
         rt: &R,
         alloc: Global,

@@ -3,6 +3,12 @@
 use hub_threads::Turns;
 use keep::Watch;
 use std::time::Duration;
+use steward::{Terms, Times};
+
+/// A time in milliseconds.
+fn millis(time: Duration) -> u64 {
+    u64::try_from(time.as_millis()).unwrap_or(u64::MAX)
+}
 
 /// How long things may take, and how many there may be: of the program by [`Limits::of_program`],
 /// in a test smaller ones.
@@ -11,11 +17,11 @@ pub struct Limits {
     /// How many connections of clients are accepted.
     pub accepts: Turns,
     /// How many connections may wait for their login at once.
-    pub logins: u64,
+    pub logins: usize,
     /// How many of these one address may have.
-    pub logins_of_address: u64,
-    /// Whether an address of the loopback range may have as many as there are: behind a TLS proxy
-    /// all clients come from there.
+    pub logins_of_address: usize,
+    /// Whether an address of the loopback range may have all of them: with a TLS proxy all clients
+    /// come from there.
     pub exempts_loopback: bool,
     /// From a connection's beginning to the end of its login.
     pub login: Duration,
@@ -23,6 +29,8 @@ pub struct Limits {
     pub crowded_login: Duration,
     /// From the line that completes a login to the answer to a wrong password.
     pub wrong_password: Duration,
+    /// How many may wait for such an answer at once.
+    pub late: usize,
     /// After a connection could not be accepted, or no thread be started for it.
     pub pause: Duration,
     /// One write to a client or to a network.
@@ -33,16 +41,22 @@ pub struct Limits {
     pub dials: Turns,
     /// Between the end of a connection to a network, or of the attempt at one, and the next dial.
     pub retry: Duration,
-    /// For one address of a network to answer.
+    /// The same at most, after dials that failed again and again.
+    pub most: Duration,
+    /// From one dial at an address to the next at the same one.
+    pub gap: Duration,
+    /// For the last address of a network to answer, or its only one.
     pub connect: Duration,
+    /// The same for each address before the last.
+    pub connect_in_turn: Duration,
     /// From the connection to a network to its welcome.
     pub registration: Duration,
     /// After so long without a byte from a network it is sent a PING.
     pub silence: Duration,
-    /// After so many of these in succession its connection is shut.
+    /// How many of these in succession end its connection.
     pub silences: u32,
     /// How many sessions a network has at most, those included whose writer has not ended.
-    pub sessions: u64,
+    pub sessions: usize,
     /// How many bytes the clients of a network, all together, may say to it at once.
     pub burst: u64,
     /// How many bytes a second they may say after that; 0 counts as 1.
@@ -72,6 +86,7 @@ impl Limits {
             login: Duration::from_secs(60),
             crowded_login: Duration::from_secs(15),
             wrong_password: Duration::from_secs(1),
+            late: 64,
             pause: Duration::from_millis(100),
             write: Duration::from_secs(30),
             watch: Watch {
@@ -80,7 +95,10 @@ impl Limits {
             },
             dials: Turns::Endless,
             retry: Duration::from_secs(retry),
+            most: Duration::from_secs(600),
+            gap: Duration::from_secs(1),
             connect: Duration::from_secs(30),
+            connect_in_turn: Duration::from_secs(10),
             registration: Duration::from_secs(120),
             silence: Duration::from_secs(120),
             silences: 2,
@@ -92,6 +110,33 @@ impl Limits {
             reserve: 8_388_608,
             spare: 60_000,
             packets: 256,
+        }
+    }
+
+    /// How many clients there may be.
+    pub(crate) fn of_clients(&self) -> steward::Limits {
+        steward::Limits::new(
+            self.logins,
+            self.logins_of_address,
+            self.late,
+            self.sessions,
+        )
+    }
+
+    /// How long networks rest, with this time between two dials.
+    pub(crate) fn times(&self, retry: Duration) -> Times {
+        Times::new(millis(retry), millis(self.most), millis(self.gap))
+    }
+
+    /// How long last lines may take. A network has no budget yet: it is begun anew if it finds no
+    /// memory.
+    pub(crate) fn terms(&self) -> Terms {
+        Terms {
+            answer: millis(self.wrong_password),
+            grace: millis(self.stop / 2),
+            quit: millis(self.stop / 2),
+            rest: millis(self.stop / 4),
+            budget: u64::MAX - 1,
         }
     }
 }

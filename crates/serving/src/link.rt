@@ -1,17 +1,18 @@
-//! A network behind its lock, and the ends of its rings that the thread keeps which dials it.
+//! A network under its lock, and the ends of its rings that the dialling thread keeps.
 
 ghost use Rattle.std.specs.Prelude.{◌≡◌, true};
 ghost use Rattle.history.specs.Messages.{is_capacity};
+ghost use Rattle.journal.specs.Recalls.{CanBegin};
 
-use hub_core::Setup;
+use hub_core::{Past, Setup};
 use hub_threads::{Network, Started};
 use quick_view::QuickView;
 use std::alloc::{AllocError, Global};
 pub use upstream::Link;
 
-/// A network of which nothing came, and its link. Its history keeps so many messages, and its rings
-/// hold so many items and packets, where 0 counts as 1. Messages are numbered from 1, sessions from
-/// 0. `AllocError` is told where an allocation was refused.
+/// A network that has received nothing, and its link. Its history keeps `history` messages of each
+/// target, and its rings hold `packets` items and as many packets; 0 counts as 1. Messages are
+/// numbered from 1, sessions from 0. `AllocError` if an allocation fails.
 pub fn network_with_link(
     alloc: Global,
     history: usize,
@@ -26,11 +27,30 @@ pub fn network_with_link(
         first_session: 0,
     };
     let view = QuickView::new(alloc)?;
+    linked(Network::start(alloc, view, setup, packets, packets)?)
+}
+
+/// A network that goes on from what was before, and its link. Its rings hold `packets` items
+/// and as many packets; 0 counts as 1. `AllocError` if an allocation fails.
+pub(crate) fn network_again(
+    alloc: Global,
+    past: Past,
+    packets: usize,
+) -> Result<(Network<QuickView>, Link), AllocError>
+    requires { CanBegin past.history }
+{
+    let packets = packets.max(1);
+    let view = QuickView::new(alloc)?;
+    linked(Network::start_again(alloc, view, past, 0, packets, packets)?)
+}
+
+/// A network that was started, and its link.
+fn linked(started: Started<QuickView>) -> Result<(Network<QuickView>, Link), AllocError> {
     let Started {
         network,
         inlet,
         outlet,
-    } = Network::start(alloc, view, setup, packets, packets)?;
+    } = started;
     let stopper = outlet.stopper()?;
     let link = Link {
         inlet,

@@ -20,7 +20,7 @@ const LINES: usize = 1_024;
 #[derive(Drop)]
 struct Told {
     lost: u64,
-    // none where it only tells how many were lost
+    // none if it only says how many were lost
     text: Option<String>,
 }
 
@@ -41,8 +41,8 @@ enum Next {
     End,
 }
 
-/// The log of the service. At most 1,024 lines wait to be written. Those that come while so many
-/// wait are lost, and so is one that can't be written; the log then tells how many were lost.
+/// The log of the service. At most 1,024 lines wait to be written. Further lines are dropped, and so
+/// is one that can't be written; the log then says how many were dropped.
 #[derive(Drop)]
 pub struct Log {
     alloc: Global,
@@ -58,7 +58,7 @@ fn now<R: Clock>(rt: &R) -> [u8; 24] {
 }
 
 impl Waiting {
-    /// Puts a line behind those that wait, where there is room for it; else it is lost.
+    /// Queues a line after those that wait, or drops it if there is no room.
     fn put(&mut self, text: Option<String>) {
         let text = text.filter(|_| self.lines.len() < LINES);
         if text.is_none() {
@@ -72,7 +72,7 @@ impl Waiting {
         }
     }
 
-    /// Takes the next line, or how many were lost behind the last.
+    /// Takes the next line, or how many were dropped after the last one.
     fn next(&mut self) -> Next {
         if let Some(told) = self.lines.pop_front() {
             return Next::Write(told);

@@ -1,8 +1,9 @@
 //! The thread that takes what a network sends into its hub.
 
-use crate::anew::{OfSettings, begin_anew};
+use crate::anew::{OfSettings, begin_network_anew};
 use crate::clock::SystemClock;
-use crate::event::Event;
+use crate::host::Host;
+use crate::network_event::NetworkEvent;
 use crate::reserve::Reserve;
 use crate::shared::Shared;
 use crate::slot::Slot;
@@ -22,11 +23,11 @@ use std::time::{Duration, Instant};
 /// For how many seconds the log tells nothing more of a network for which there is no memory.
 const QUIET_SECONDS: u64 = 60;
 
-/// How often a pump ends for want of memory, with no item taken between, before its network is
+/// How often a pump runs out of memory, with no item taken in between, before its network is
 /// begun anew.
 const PATIENCE: u32 = 3;
 
-/// Whether it is time to tell again that there is no memory, which was told last at a moment.
+/// Whether it is time to log again that there is no memory, last logged at this moment.
 fn is_due<R: Clock>(rt: &R, told: Option<Instant>) -> bool {
     match told {
         Some(told) => told
@@ -36,14 +37,14 @@ fn is_due<R: Clock>(rt: &R, told: Option<Instant>) -> bool {
     }
 }
 
-/// The pump of the network in a slot, which counts how often it ended for want of memory.
+/// The pump of the network in a slot, which counts how often it ran out of memory.
 #[derive(Drop)]
 pub struct Pump<'a, V: NetworkView + Drop> {
     slot: &'a Slot<V>,
     sparing: Sparing<'a>,
     turns: Turns,
     rest: u64,
-    // how often it ended for want of memory with no item taken between
+    // how often it ran out of memory with no item taken in between
     refused: u32,
 }
 
@@ -71,7 +72,10 @@ impl<V: NetworkView + Drop, R: Wait + Clock> Permit for Sparingly<'_, '_, V, R> 
 
     fn pumped(&mut self, outcome: Result<Pumped, HubError>) {
         match outcome {
-            Ok(Pumped::Taken { .. }) => self.sparing.note_taken(1),
+            Ok(Pumped::Taken { .. }) => {
+                self.slot.note_change();
+                self.sparing.note_taken(1);
+            }
             Err(HubError::OutOfMemory) => self.sparing.note_refused(self.rt),
             Ok(Pumped::Nothing) | Err(HubError::Spent) => {}
         }
@@ -84,7 +88,7 @@ impl<V: NetworkView + Drop, R: Wait + Clock> Permit for Sparingly<'_, '_, V, R> 
 
 impl<'a, V: NetworkView + Drop> Pump<'a, V> {
     /// A pump that makes this many turns at a time, and rests for `rest` milliseconds after a
-    /// refusal. When its network takes much, it leaves so many bytes beside the reserve.
+    /// refusal. When its network takes much, it leaves `spare` bytes besides the reserve.
     pub fn new(
         slot: &'a Slot<V>,
         reserve: &'a Reserve,
@@ -119,8 +123,8 @@ impl<'a, V: NetworkView + Drop> Pump<'a, V> {
         pump_loop(rt, alloc, network, &FreeGate, &clock, permit, self.rest)
     }
 
-    /// Pumps for its turns, or until there is no memory or no number. After want of memory only as
-    /// many turns as may be refused: then it ends so again only if no item was taken.
+    /// Pumps for its turns, or until there is no memory or no number. After it ran out of
+    /// memory, only as many turns as may be refused: it runs out again only if no item was taken.
     pub fn run<R: Wait + Clock>(&mut self, rt: &R, alloc: Global) -> PumpEnd {
         let Some(network) = self.slot.network(rt) else {
             thread::sleep(rt, Duration::from_millis(self.rest));
@@ -139,8 +143,8 @@ impl<'a, V: NetworkView + Drop> Pump<'a, V> {
         ended
     }
 
-    /// Whether the network is to be begun anew: it ended for want of memory three times in
-    /// succession, with no item taken between. The count begins anew then, and the network that
+    /// Whether the network is to be begun anew: it ran out of memory three times in succession,
+    /// with no item taken in between. The count begins anew then, and the network that
     /// comes does not wait for memory.
     pub fn gives_up<R: Wait>(&mut self, rt: &R) -> bool {
         if self.refused < PATIENCE {
@@ -152,7 +156,7 @@ impl<'a, V: NetworkView + Drop> Pump<'a, V> {
     }
 }
 
-/// Tells that there is no memory, where it is time to; answers when it was told last.
+/// Logs that there is no memory, if it is time to; answers when it was logged last.
 fn tell_memory<R: Wait + Clock>(
     rt: &R,
     shared: &Shared,
@@ -164,22 +168,32 @@ fn tell_memory<R: Wait + Clock>(
     }
     shared
         .log()
-        .tell(rt, &station.who(), &Event::PumpWithoutMemory);
+        .tell(rt, &station.who(), &NetworkEvent::PumpWithoutMemory);
     Instant::now(rt).ok()
 }
 
 /// Begins a network anew, by the settings of now.
-fn begin_by_settings<R: Wait + Clock>(rt: &R, alloc: Global, shared: &Shared, station: &Station) {
-    let start = OfSettings { rt, alloc, shared };
-    begin_anew(rt, alloc, station.slot(), &start);
-    // told now, since a line of the log needs memory too
-    shared.log().tell(rt, &station.who(), &Event::BegunAnew);
+fn begin_by_settings<R: Host>(rt: &R, alloc: Global, shared: &Shared, station: &Station) {
+    let start = OfSettings {
+        rt,
+        alloc,
+        shared,
+        station,
+    };
+    let is_begun = begin_network_anew(rt, alloc, shared, station, &start);
+    // of one that is kept the log has that already
+    if is_begun && station.journal().lock(rt).is_none() {
+        // logged now, since a line of the log needs memory too
+        shared
+            .log()
+            .tell(rt, &station.who(), &NetworkEvent::BegunAnew);
+    }
 }
 
 /// Pumps a network until no network is dialled any more, this one is closed, or its numbers are
-/// spent. If there is no memory it goes on, and the log tells so at most once a minute; after the
+/// spent. If there is no memory it goes on, and the log says so at most once a minute; after the
 /// third time the network is begun anew.
-pub fn keep_pumping<R: Wait + Clock>(rt: &R, alloc: Global, shared: &Shared, station: &Station) {
+pub(crate) fn keep_pumping<R: Host>(rt: &R, alloc: Global, shared: &Shared, station: &Station) {
     let limits = shared.limits();
     let slot = station.slot();
     let mut pump = Pump::new(
@@ -195,7 +209,8 @@ pub fn keep_pumping<R: Wait + Clock>(rt: &R, alloc: Global, shared: &Shared, sta
             PumpEnd::Turns => {}
             PumpEnd::Memory => told = tell_memory(rt, shared, station, told),
             PumpEnd::Spent => {
-                return shared.log().tell(rt, &station.who(), &Event::PumpSpent);
+                let log = shared.log();
+                return log.tell(rt, &station.who(), &NetworkEvent::PumpSpent);
             }
         }
         if slot.is_closed() {

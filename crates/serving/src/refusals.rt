@@ -1,64 +1,27 @@
-//! What the log tells of connections that are refused: of each address one line a second at most.
+//! What the log says of connections that are refused: of each address one line a second at most.
 
-use crate::event::Event;
 use crate::shared::Shared;
-use std::alloc::{AllocError, Global};
+use crate::stranger_event::StrangerEvent;
 use std::fmt;
 use std::net::IpAddr;
 use std::rt::Clock;
-use std::sync::{Mutex, Wait};
-use std::time::{Duration, Instant};
+use std::sync::Wait;
+use steward::{Said, key_of};
 
 /// How many addresses are counted each by itself; the rest are counted together.
-const ADDRESSES: usize = 256;
+pub(crate) const ADDRESSES: usize = 256;
 
 /// How many milliseconds there are at least between two lines of one address.
-const PAUSE: u64 = 1_000;
+pub(crate) const PAUSE: u64 = 1_000;
 
-/// What was told of an address.
+/// An event, and how many like it had no line before.
 #[derive(Clone, Copy)]
-struct Told {
-    // none for the rest
-    from: Option<IpAddr>,
-    // when it was told of last
-    at: Instant,
-    // how many of it were refused since
+struct After<'a, T> {
+    event: &'a T,
     held: u64,
 }
 
-impl Told {
-    /// Whether a line may be told of it.
-    fn is_due(&self, now: Instant) -> bool {
-        now.saturating_duration_since(self.at) >= Duration::from_millis(PAUSE)
-    }
-
-    /// Counts a refusal. Where a line may be told of it, answers how many were not told before it.
-    fn note(&mut self, now: Instant) -> Option<u64> {
-        if !self.is_due(now) {
-            self.held = self.held.saturating_add(1);
-            return None;
-        }
-        let held = self.held;
-        self.at = now;
-        self.held = 0;
-        Some(held)
-    }
-}
-
-/// What was told of addresses of which connections were refused lately.
-#[derive(Drop)]
-pub(crate) struct Refusals {
-    lately: Mutex<Vec<Told>>,
-}
-
-/// An event, and how many like it were not told before.
-#[derive(Clone, Copy)]
-struct After<'a, 'e> {
-    event: &'a Event<'e>,
-    held: u64,
-}
-
-impl fmt::Display for After<'_, '_> {
+impl<T: fmt::Display> fmt::Display for After<'_, T> {
     fn fmt<W: fmt::Write>(&self, f: &mut fmt::Formatter<W>) -> fmt::Result {
         write!(f, "{}", self.event)?;
         match self.held {
@@ -68,88 +31,36 @@ impl fmt::Display for After<'_, '_> {
     }
 }
 
-/// Counts a refusal among those told lately.
-fn note(lately: &mut Vec<Told>, from: IpAddr, now: Instant) -> Option<u64> {
-    for told in lately.iter_mut() {
-        if told.from == Some(from) {
-            return told.note(now);
-        }
-    }
-    if lately.len() < ADDRESSES {
-        let told = Told {
-            from: Some(from),
-            at: now,
-            held: 0,
-        };
-        return lately.push(told).ok().map(|_| 0);
-    }
-    for told in lately.iter_mut() {
-        if told.from.is_none() {
-            return told.note(now);
-        }
-    }
-    let told = Told {
-        from: None,
-        at: now,
-        held: 0,
-    };
-    lately.push(told).ok().map(|_| 0)
-}
-
-/// Takes an address of which refusals were not told, and of which a line may be told, with their
-/// count. Those of whom all is told are forgotten.
-fn take_due(lately: &mut Vec<Told>, now: Instant) -> Option<(Option<IpAddr>, u64)> {
-    lately.retain(|told| told.held > 0 || !told.is_due(now));
-    for told in lately.iter_mut() {
-        if told.held > 0 && told.is_due(now) {
-            let held = told.held;
-            told.at = now;
-            told.held = 0;
-            return Some((told.from, held));
-        }
-    }
-    None
-}
-
-impl Refusals {
-    /// None.
-    pub(crate) fn new(alloc: Global) -> Result<Refusals, AllocError> {
-        Ok(Refusals {
-            lately: Mutex::new(Vec::with_capacity(alloc, ADDRESSES + 1)?),
-        })
-    }
-}
-
-/// Tells that a connection from an address was refused, or counts it, where a line of that address
-/// was told within a second.
-pub(crate) fn tell_refusal<R: Wait + Clock, T: fmt::Display>(
+/// Logs that a connection from an address was refused, or counts it if that address had a line
+/// within a second.
+pub(crate) fn tell_refusal<R: Wait + Clock, T: fmt::Display, U: fmt::Display>(
     rt: &R,
     shared: &Shared,
     from: IpAddr,
     who: &T,
-    event: &Event,
+    event: &U,
 ) {
-    let Ok(now) = Instant::now(rt) else {
-        return;
-    };
-    let noted = note(&mut shared.refusals().lately.lock(rt), from, now);
-    if let Some(held) = noted {
+    let now = shared.ticks(rt);
+    let mut refusals = shared.refusals().lock(rt);
+    let said = refusals.note(key_of(from), now);
+    drop(refusals);
+    if let Said::Told(held) = said {
         shared.log().tell(rt, who, &After { event, held });
     }
 }
 
-/// Tells of the refusals that were counted and not told, once a line of their address may be.
+/// Logs the refusals that were counted, once their addresses may have another line.
 pub(crate) fn tell_counted<R: Wait + Clock>(rt: &R, shared: &Shared) {
-    let Ok(now) = Instant::now(rt) else {
-        return;
-    };
+    let now = shared.ticks(rt);
     for _ in 0..=ADDRESSES {
-        let due = take_due(&mut shared.refusals().lately.lock(rt), now);
+        let mut refusals = shared.refusals().lock(rt);
+        let due = refusals.take_due(now);
+        drop(refusals);
         let Some((from, count)) = due else {
             return;
         };
         shared
             .log()
-            .tell(rt, &"bnc", &Event::Refused { from, count });
+            .tell(rt, &"bnc", &StrangerEvent::Refused { from, count });
     }
 }

@@ -1,13 +1,15 @@
 //! The channels of lost connections, joined again on the next one.
 
-use crate::shared::Served;
+use crate::dialling::Dialling;
 use bnc_config::NetworkConfig;
 use hub_core::LostChannel;
 use irc_line::{Line, MakeError};
 use net_view::is_word;
 use std::alloc::{AllocError, Global};
+use std::io;
 use std::io::Write;
 use std::sync::Wait;
+use upstream::channel_lines;
 
 /// How long a line may be without CR LF, in bytes. One channel alone may take more.
 const LINE_LIMIT: usize = 400;
@@ -81,7 +83,7 @@ impl JoinLines {
         lists.saturating_add(b"JOIN ".len()) <= LINE_LIMIT
     }
 
-    /// Writes the next line, where it has a channel.
+    /// Writes the next line, if it has a channel.
     fn end_line(&mut self) -> Result<(), AllocError> {
         if self.channels.is_empty() {
             return Ok(());
@@ -107,8 +109,8 @@ impl JoinLines {
         Ok(())
     }
 
-    /// Adds a channel with its key, where it has one. What cannot stand in a list is left out. Where
-    /// memory is refused nothing is said of the lines.
+    /// Adds a channel, with its key if it has one. What can't stand in a list is left out. After an
+    /// error nothing is known about the lines.
     pub fn add(&mut self, name: &[u8], key: Option<&[u8]>) -> Result<(), AllocError> {
         if !can_be_asked_for(name, key) {
             return Ok(());
@@ -140,37 +142,65 @@ fn is_in_settings(settings: &NetworkConfig, channel: &LostChannel) -> bool {
     channel.key.is_none() && names.any(|name| name.as_bytes() == channel.name.as_slice())
 }
 
-/// The JOIN lines of the channels that we were on when a connection was lost, except those that the
-/// settings join.
-fn joins<R: Wait>(rt: &R, alloc: Global, served: &Served<'_>) -> Result<Vec<u8>, AllocError> {
-    let mut lines = JoinLines::new(alloc);
-    let Some(network) = served.station.slot().network(rt) else {
+/// Adds a channel if it has a key, or if it has none, unless the settings join it.
+fn add_lost(
+    lines: &mut JoinLines,
+    settings: &NetworkConfig,
+    channel: &LostChannel,
+    has_key: bool,
+) -> Result<(), AllocError> {
+    if channel.key.is_some() != has_key || is_in_settings(settings, channel) {
+        return Ok(());
+    }
+    lines.add(&channel.name, channel.key.as_deref())
+}
+
+/// The JOIN lines of the channels that we were on when a connection was lost, or before a restart,
+/// except those that the settings join.
+fn joins<R: Wait>(
+    dialling: &Dialling<'_, R>,
+    settings: &NetworkConfig,
+) -> Result<Vec<u8>, AllocError> {
+    let mut lines = JoinLines::new(dialling.alloc);
+    let Some(network) = dialling.station.slot().network(dialling.rt) else {
         return lines.finish();
     };
-    let hub = network.lock(rt);
+    let hub = network.lock(dialling.rt);
     for has_key in [true, false] {
         for i in 0..hub.lost_channel_count() {
             let Some(channel) = hub.lost_channel_at(i) else {
                 break;
             };
-            if channel.key.is_some() == has_key && !is_in_settings(served.settings, channel) {
-                lines.add(&channel.name, channel.key.as_deref())?;
-            }
+            add_lost(&mut lines, settings, channel, has_key)?;
+        }
+        for channel in hub.recalled_channels() {
+            add_lost(&mut lines, settings, channel, has_key)?;
         }
     }
     lines.finish()
 }
 
-/// Asks a network for the channels that we were on when a connection was lost, each with its key,
-/// except those that the settings join, in one write. If an allocation fails nothing is asked for;
-/// a write that fails is found out by the next.
-pub(crate) fn rejoin<R: Wait, W: Write>(
-    rt: &R,
-    alloc: Global,
-    served: &Served<'_>,
-    writer: &mut W,
-) {
-    if let Ok(bytes) = joins(rt, alloc, served) {
-        let _ = writer.write_all(bytes.as_slice());
+/// The JOIN lines of all channels: those of the settings, and those that we were on when a connection
+/// was lost, or before a restart.
+pub(crate) fn all_joins<R: Wait>(
+    dialling: &Dialling<'_, R>,
+    settings: &NetworkConfig,
+) -> Result<Vec<u8>, AllocError> {
+    let mut bytes = Vec::new(dialling.alloc);
+    for line in &channel_lines(dialling.alloc, settings)? {
+        line.write(&mut bytes)?;
     }
+    bytes.extend_from_slice(&joins(dialling, settings)?)?;
+    Ok(bytes)
+}
+
+/// Asks a network for the channels that we were on when a connection was lost, or before a restart,
+/// each with its key, except those that the settings join. An error if not all of them could be asked for.
+pub(crate) fn rejoin<R: Wait, W: Write>(
+    dialling: &Dialling<'_, R>,
+    settings: &NetworkConfig,
+    writer: &mut W,
+) -> io::Result<()> {
+    let bytes = joins(dialling, settings)?;
+    writer.write_all(bytes.as_slice())
 }

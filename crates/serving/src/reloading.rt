@@ -1,18 +1,20 @@
 //! Settings that are read again while the program runs.
 
-use crate::event::Event;
-use crate::roster::Roster;
+use crate::control_event::ControlEvent;
+use crate::host::Host;
+use crate::plan::Plan;
 use crate::shared::Shared;
 use crate::starting::start_network;
-use crate::station::{Begun, Station};
-use crate::waiting::Awaited;
-use bnc_config::{Config, NetworkConfig, Place};
+use crate::station::Begun;
+use crate::stopping::REST;
+use bnc_config::{Config, Text};
 use std::alloc::{AllocError, Global};
 use std::net::{Net, TcpListener, TcpStream};
 use std::rt::Clock;
 use std::sync::{Arc, Wait};
-use std::thread::Threads;
-use std::time::{Duration, Instant};
+use std::thread;
+use std::time::Duration;
+use steward::{Answer, Event};
 
 /// Why settings were not read again.
 #[derive(Debug, Drop)]
@@ -29,161 +31,179 @@ pub trait Source {
     fn read(&self) -> Result<Config, Unread>;
 }
 
-/// Whether a network's address or registration changed between these settings.
-fn is_dialled_otherwise(old: &NetworkConfig, new: &NetworkConfig) -> bool {
-    old.address() != new.address()
-        || old.nick() != new.nick()
-        || old.user() != new.user()
-        || old.realname() != new.realname()
-        || old.password() != new.password()
+/// Why a file without networks is not put in force by a plain `reload`.
+const EMPTY: &str = "the file has no network; `reload empty` leaves all of them";
+
+/// Starts the threads of networks that are new. The log tells of one for which there are none; the
+/// next reload begins it once more.
+fn start_all<R: Host + Net<Listener = TcpListener, Stream = TcpStream>>(
+    rt: R,
+    alloc: Global,
+    shared: &Arc<Shared>,
+    begun: Vec<Begun>,
+) {
+    for one in begun {
+        // the threads run on by themselves
+        let mut threads = Vec::new(alloc);
+        let _ = start_network(rt, alloc, shared, one, &mut threads);
+    }
 }
 
-/// Whether a network that both rosters have is to be dialled anew.
-fn is_changed(old: &Roster, new: &Roster, station: &Station) -> bool {
-    match (old.settings_of(station), new.settings_of(station)) {
-        (Some(old), Some(new)) => is_dialled_otherwise(old, new),
+/// Gives the orders about one network that are due after a reload; whether it is to be asked again.
+fn part<R: Wait + Clock>(rt: &R, shared: &Shared, network: u64) -> bool {
+    for _ in rt.forever() {
+        match shared.decide(rt, Event::Parts { network }) {
+            Answer::Tell { .. } | Answer::Quit { .. } => {}
+            answer => return answer == Answer::Wait,
+        }
+    }
+    unreachable!()
+}
+
+/// Gives the orders about networks after a reload: of one that is left the clients are disconnected
+/// first, within their time, so no client sees itself leave its channels.
+fn part_all<R: Wait + Clock>(rt: &R, shared: &Shared, networks: &[u64]) {
+    for _ in rt.forever() {
+        let mut waits = false;
+        for network in networks {
+            waits |= part(rt, shared, *network);
+        }
+        if !waits {
+            return;
+        }
+        thread::sleep(rt, Duration::from_millis(REST));
+    }
+    unreachable!()
+}
+
+/// Whether lists of texts are the same.
+fn are_same(one: &[Text], other: &[Text]) -> bool {
+    let mut pairs = one.iter().zip(other.iter());
+    one.len() == other.len() && pairs.all(|(a, b)| a.as_bytes() == b.as_bytes())
+}
+
+/// Whether the addresses of proxies are the same.
+fn has_same_proxies(old: &Config, new: &Config) -> bool {
+    match (old.proxies(), new.proxies()) {
+        (Some(old), Some(new)) => are_same(old, new),
+        (None, None) => true,
         _ => false,
     }
 }
 
-/// The networks of the old roster that the new one lacks.
-fn left_by(
-    alloc: Global,
-    old: &Roster,
-    new: &Roster,
-) -> Result<Vec<(Place, Arc<Station>)>, AllocError> {
-    let mut left = Vec::new(alloc);
-    for (place, station) in old.networks() {
-        if new.settings_of(station).is_none() {
-            left.push((*place, Arc::try_clone(station)?))?;
-        }
-    }
-    Ok(left)
-}
-
-/// Starts the threads of networks that are new. One for which there are none is told in the log; the
-/// next reload begins it once more.
-fn start_all<
-    R: Threads
-        + Wait
-        + Clock
-        + Net<Listener = TcpListener, Stream = TcpStream>
-        + Copy
-        + Send
-        + Sync
-        + Drop
-        + 'static,
->(rt: R, alloc: Global, shared: &Arc<Shared>, begun: Vec<Begun>) {
-    for one in begun {
-        let Ok(station) = Arc::try_clone(&one.station) else {
-            continue;
-        };
-        let mut threads = Vec::new(alloc);
-        // the threads run on by themselves
-        if start_network(rt, alloc, shared, one, &mut threads).is_err() {
-            shared.log().tell(&rt, &station.who(), &Event::NotServed);
-        }
-    }
-}
-
-/// Dials those networks again that both rosters have and whose address or registration changed.
-/// Answers how many they are.
-fn dial_changed<R: Wait>(rt: &R, old: &Roster, new: &Roster) -> usize {
-    let mut count = 0usize;
-    for (_, station) in new.networks() {
-        if is_changed(old, new, station) {
-            station.dial_anew(rt);
-            count = count.saturating_add(1);
-        }
-    }
-    count
-}
-
-/// Stops serving networks. Their clients are disconnected first, within this time, and then the
-/// networks, so no client sees itself leave its channels.
-fn leave_all<R: Wait + Clock>(rt: &R, networks: &[(Place, Arc<Station>)], time: Duration) {
-    for (_, station) in networks {
-        station.leave(rt);
-    }
-    if let Ok(start) = Instant::now(rt) {
-        Awaited::NoClients(networks).wait(rt, start, time);
-    }
-    for (_, station) in networks {
-        station.end(rt);
-    }
-}
-
-/// Tells which settings go by what they were at the start.
+/// Logs which settings go by what they were at the start.
 fn tell_restarts<R: Wait + Clock>(rt: &R, shared: &Shared, old: &Config, new: &Config) {
     let log = shared.log();
-    if old.listen() != new.listen() {
-        log.tell(rt, &"bnc", &Event::NeedsRestart { key: "listen" });
+    if !are_same(old.listens(), new.listens()) {
+        log.tell(rt, &"bnc", &ControlEvent::NeedsRestart { key: "listen" });
+    }
+    if !are_same(old.listen_proxy(), new.listen_proxy()) {
+        log.tell(
+            rt,
+            &"bnc",
+            &ControlEvent::NeedsRestart {
+                key: "listen_proxy",
+            },
+        );
+    }
+    if !has_same_proxies(old, new) {
+        log.tell(rt, &"bnc", &ControlEvent::NeedsRestart { key: "proxies" });
     }
     if old.history() != new.history() {
-        log.tell(rt, &"bnc", &Event::NeedsRestart { key: "history" });
+        log.tell(rt, &"bnc", &ControlEvent::NeedsRestart { key: "history" });
+    }
+    if old.kept() != new.kept() {
+        log.tell(rt, &"bnc", &ControlEvent::NeedsRestart { key: "kept" });
     }
 }
 
 /// Puts other settings in force. Users and networks are known by their names. New networks are
 /// served. Of a network that was removed, each client is sent `ERROR :removed` and the network
 /// `QUIT :removed`, after what waits for it. A network whose address, nick, user, realname or password
-/// changed is dialled again. All others go on. `AllocError` if an allocation was refused; then nothing
-/// has changed.
-pub fn go_by<
-    R: Threads
-        + Wait
-        + Clock
-        + Net<Listener = TcpListener, Stream = TcpStream>
-        + Copy
-        + Send
-        + Sync
-        + Drop
-        + 'static,
->(rt: R, alloc: Global, shared: &Arc<Shared>, config: Config) -> Result<(), AllocError> {
+/// changed is dialled again. All others go on. Once the service ends, nothing changes. `AllocError` if
+/// an allocation was refused; then nothing has changed.
+pub fn go_by<R: Host + Net<Listener = TcpListener, Stream = TcpStream>>(
+    rt: R,
+    alloc: Global,
+    shared: &Arc<Shared>,
+    config: Config,
+) -> Result<(), AllocError> {
     let limits = shared.limits();
+    let config = Arc::new(alloc, config)?;
     let old = shared.roster(&rt)?;
-    let (new, begun) = old.next(alloc, config, &limits)?;
-    let left = left_by(alloc, &old, &new)?;
-    let new = Arc::new(alloc, new)?;
-    let share = Arc::try_clone(&new)?;
-    let count = begun.len();
-    shared.replace_roster(&rt, share, count);
-    start_all(rt, alloc, shared, begun);
-    let event = Event::Reloaded {
-        begun: count,
-        left: left.len(),
-        changed: dial_changed(&rt, &old, &new),
+    let mut helm = shared.helm().lock(&rt);
+    let (wanted, next) = (helm.wanted(alloc, &config)?, helm.next_network());
+    drop(helm);
+    let new = Arc::try_clone(&config)?;
+    let mut plan = Plan::new(alloc, &old, new, wanted, next, &limits)?;
+    let now = shared.ticks(&rt);
+    let mut helm = shared.helm().lock(&rt);
+    let networks = helm.networks(alloc)?;
+    let went = helm.go_by(&mut plan, &limits, now)?;
+    drop(helm);
+    let (Some(tally), Plan { begun, .. }) = (went, plan) else {
+        return Ok(());
     };
+    let event = ControlEvent::Reloaded {
+        begun: begun.len(),
+        left: tally.left,
+        changed: tally.changed,
+    };
+    start_all(rt, alloc, shared, begun);
     shared.log().tell(&rt, &"bnc", &event);
-    tell_restarts(&rt, shared, old.config(), new.config());
-    leave_all(&rt, left.as_slice(), limits.stop / 2);
+    tell_restarts(&rt, shared, old.config(), &config);
+    part_all(&rt, shared, networks.as_slice());
     Ok(())
 }
 
-/// Tells why the settings were not read again: a fault's lines, each by itself.
+/// Logs why the settings were not read again: a fault's lines, each by itself.
 fn tell_fault<R: Wait + Clock>(rt: &R, shared: &Shared, fault: &str) {
     for line in fault.lines() {
         let why = line.strip_prefix("bnc: ").unwrap_or(line);
-        shared.log().tell(rt, &"bnc", &Event::NotReloaded { why });
+        shared
+            .log()
+            .tell(rt, &"bnc", &ControlEvent::NotReloaded { why });
     }
 }
 
-/// Reads the settings again and goes by them. Where they have a fault, the log tells it and nothing
-/// changes.
-pub(crate) fn reload<
-    S: Source,
-    R: Threads
-        + Wait
-        + Clock
-        + Net<Listener = TcpListener, Stream = TcpStream>
-        + Copy
-        + Send
-        + Sync
-        + Drop
-        + 'static,
->(rt: R, alloc: Global, shared: &Arc<Shared>, source: &S) {
+/// Whether settings have no network.
+fn are_empty(config: &Config) -> bool {
+    config.users().iter().all(|user| user.networks().is_empty())
+}
+
+/// Whether settings would leave all networks that are served.
+fn leaves_all<R: Wait>(rt: &R, shared: &Shared, config: &Config) -> Result<bool, AllocError> {
+    let roster = shared.roster(rt)?;
+    Ok(are_empty(config) && !roster.networks().is_empty())
+}
+
+/// Goes by settings that were read; those without a network only if that is asked for, or if none is
+/// served.
+fn go_by_read<R: Host + Net<Listener = TcpListener, Stream = TcpStream>>(
+    rt: R,
+    alloc: Global,
+    shared: &Arc<Shared>,
+    config: Config,
+    may_be_empty: bool,
+) -> Result<(), AllocError> {
+    if !may_be_empty && leaves_all(&rt, shared, &config)? {
+        tell_fault(&rt, shared, EMPTY);
+        return Ok(());
+    }
+    go_by(rt, alloc, shared, config)
+}
+
+/// Reads the settings again and goes by them. If they have a fault, or no network although that was
+/// not asked for, the log says so and nothing changes.
+pub(crate) fn reload<S: Source, R: Host + Net<Listener = TcpListener, Stream = TcpStream>>(
+    rt: R,
+    alloc: Global,
+    shared: &Arc<Shared>,
+    source: &S,
+    may_be_empty: bool,
+) {
     let done = match source.read() {
-        Ok(config) => go_by(rt, alloc, shared, config),
+        Ok(config) => go_by_read(rt, alloc, shared, config, may_be_empty),
         Err(Unread::Fault(fault)) => return tell_fault(&rt, shared, fault.as_str()),
         Err(Unread::OutOfMemory) => Err(AllocError),
     };

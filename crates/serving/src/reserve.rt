@@ -6,7 +6,7 @@ use std::sync::{Mutex, Wait};
 /// The reserve, and how many wait for memory.
 #[derive(Drop)]
 struct Kept {
-    // none where it was given up, or could not be had
+    // none if it was freed, or could not be allocated
     block: Option<Vec<u8>>,
     waiting: u64,
 }
@@ -21,13 +21,13 @@ pub struct Reserve {
     kept: Mutex<Kept>,
 }
 
-/// A block of so many bytes; `None` where it is refused.
+/// A block of `size` bytes; `None` if it can't be allocated.
 fn block_of(alloc: Global, size: usize) -> Option<Vec<u8>> {
     Vec::with_capacity(alloc, size).ok()
 }
 
 impl Reserve {
-    /// A reserve of so many bytes; none where they are refused.
+    /// A reserve of `size` bytes, or an empty one if they can't be allocated.
     pub fn new(alloc: Global, size: usize) -> Reserve {
         Reserve {
             alloc,
@@ -39,8 +39,8 @@ impl Reserve {
         }
     }
 
-    /// Whether so many bytes can be had beside it. Where they can, and nobody waits for memory, a
-    /// reserve that was given up is taken again.
+    /// Whether `spare` bytes can be allocated besides it. If they can, and nobody waits for memory,
+    /// a reserve that was freed is allocated again.
     pub(crate) fn leaves<R: Wait>(&self, rt: &R, spare: usize) -> bool {
         let Some(spared) = block_of(self.alloc, spare) else {
             return false;
@@ -62,7 +62,7 @@ impl Reserve {
         drop(block);
     }
 
-    /// Takes it again where twice as much can be had; whether that is so.
+    /// Allocates it again if twice as much can be allocated; whether that is so.
     pub(crate) fn is_back<R: Wait>(&self, rt: &R) -> bool {
         let mut kept = self.kept.lock(rt);
         if kept.block.is_some() {

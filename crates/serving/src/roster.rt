@@ -1,127 +1,59 @@
 //! The settings of now, and the networks that they name.
 
-use crate::limits::Limits;
+use crate::journals::Journals;
 use crate::shown::Who;
-use crate::station::{Begun, Station};
+use crate::station::Station;
 use bnc_config::{Config, NetworkConfig, Place};
+use sessions::{Claim, admitted};
 use std::alloc::{AllocError, Global};
 use std::sync::Arc;
 use std::time::Duration;
 
 /// The settings in force, and the networks that they name. When the settings are read again, another
-/// roster replaces this one; a client that logged in by this one keeps it.
+/// roster replaces this one; a client that logs in keeps the one with which it began.
 #[derive(Drop)]
 pub struct Roster {
-    config: Config,
+    config: Arc<Config>,
     networks: Vec<(Place, Arc<Station>)>,
     // between two dials
     retry: Duration,
-    // how many rosters there were before
-    number: u64,
-}
-
-/// What the networks of a roster are made from.
-#[derive(Clone, Copy)]
-struct Making<'a> {
-    alloc: Global,
-    config: &'a Config,
-    limits: &'a Limits,
-    // those that are served already
-    served: &'a [(Place, Arc<Station>)],
-}
-
-impl Making<'_> {
-    /// The network of these names that is served already.
-    fn find(&self, who: Who<'_>) -> Option<&Arc<Station>> {
-        for (_, station) in self.served {
-            if station.is_of(who) && !station.slot().is_left() {
-                return Some(station);
-            }
-        }
-        None
-    }
-
-    /// The network of these names: as it is served already, or else begun.
-    fn station(&self, who: Who<'_>, begun: &mut Vec<Begun>) -> Result<Arc<Station>, AllocError> {
-        if let Some(station) = self.find(who) {
-            return Arc::try_clone(station);
-        }
-        let new = Begun::new(self.alloc, who, self.config.history(), self.limits)?;
-        let station = Arc::try_clone(&new.station)?;
-        begun.push(new)?;
-        Ok(station)
-    }
-
-    /// All networks, in the order of the settings, and those that are begun.
-    fn stations(&self) -> Result<(Vec<(Place, Arc<Station>)>, Vec<Begun>), AllocError> {
-        let mut stations = Vec::new(self.alloc);
-        let mut begun = Vec::new(self.alloc);
-        for (user, named) in self.config.users().iter().enumerate() {
-            for (network, settings) in named.networks().iter().enumerate() {
-                let who = Who {
-                    user: named.name(),
-                    client: None,
-                    network: settings.name(),
-                };
-                let station = self.station(who, &mut begun)?;
-                stations.push((Place { user, network }, station))?;
-            }
-        }
-        Ok((stations, begun))
-    }
+    // what keeps them over a restart
+    journals: Arc<Journals>,
 }
 
 impl Roster {
-    /// The first roster, of these settings, and its networks, all of which are begun. `AllocError` is
-    /// told where an allocation was refused.
-    pub(crate) fn first(
+    /// These settings, whose networks are not served yet.
+    pub(crate) fn without_networks(
         alloc: Global,
-        config: Config,
-        limits: &Limits,
-    ) -> Result<(Roster, Vec<Begun>), AllocError> {
-        let making = Making {
-            alloc,
-            config: &config,
-            limits,
-            served: &[],
-        };
-        let (networks, begun) = making.stations()?;
-        let roster = Roster {
+        config: Arc<Config>,
+        retry: Duration,
+        journals: Arc<Journals>,
+    ) -> Roster {
+        Roster {
             config,
-            networks,
-            retry: limits.retry,
-            number: 0,
-        };
-        Ok((roster, begun))
+            networks: Vec::new(alloc),
+            retry,
+            journals,
+        }
     }
 
-    /// The roster of other settings: a network of the same user's and its own name is the one that
-    /// is served already. Those that are begun are told beside it.
+    /// Other settings, and the networks that they name.
     pub(crate) fn next(
         &self,
-        alloc: Global,
-        config: Config,
-        limits: &Limits,
-    ) -> Result<(Roster, Vec<Begun>), AllocError> {
-        let making = Making {
-            alloc,
-            config: &config,
-            limits,
-            served: self.networks(),
-        };
-        let (networks, begun) = making.stations()?;
+        config: Arc<Config>,
+        networks: Vec<(Place, Arc<Station>)>,
+    ) -> Result<Roster, AllocError> {
         let retry = if config.retry() == self.config.retry() {
             self.retry
         } else {
             Duration::from_secs(config.retry())
         };
-        let roster = Roster {
+        Ok(Roster {
             config,
             networks,
             retry,
-            number: self.number.wrapping_add(1),
-        };
-        Ok((roster, begun))
+            journals: Arc::try_clone(&self.journals)?,
+        })
     }
 
     /// The settings.
@@ -139,14 +71,15 @@ impl Roster {
         self.retry
     }
 
-    /// How many rosters there were before.
-    pub(crate) fn number(&self) -> u64 {
-        self.number
+    /// What keeps them over a restart.
+    pub(crate) fn journals(&self) -> &Arc<Journals> {
+        &self.journals
     }
 
-    /// The network of these names; `None` where the settings have none.
-    pub(crate) fn station(&self, user: &[u8], network: &[u8]) -> Option<&Station> {
-        let place = self.config.find(user, network)?;
+    /// The network that a client claims; `None` if its password is wrong, or the settings have no such
+    /// user or network.
+    pub(crate) fn admitted(&self, claim: &Claim) -> Option<&Station> {
+        let place = admitted(&self.config, claim)?;
         for (other, station) in &self.networks {
             if *other == place {
                 return Some(station);
@@ -155,9 +88,14 @@ impl Roster {
         None
     }
 
-    /// The settings of a network; `None` where there are none any more.
-    pub(crate) fn settings_of(&self, station: &Station) -> Option<&NetworkConfig> {
-        let who = station.who();
+    /// Whether a client's password is right, and its user has no network of the name that it claims.
+    pub(crate) fn lacks_network_of(&self, claim: &Claim) -> bool {
+        self.config.find(&claim.user, &claim.network).is_none()
+            && self.config.password_matches(&claim.user, &claim.password)
+    }
+
+    /// The settings of a network; `None` if there are none.
+    pub(crate) fn settings_of(&self, who: Who<'_>) -> Option<&NetworkConfig> {
         let place = self.config.find(who.user, who.network)?;
         self.config.network(place)
     }

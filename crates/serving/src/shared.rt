@@ -1,109 +1,102 @@
 //! What all threads share.
 
-use crate::event::Event;
+use crate::helm::Helm;
+use crate::journals::Journals;
 use crate::limits::Limits;
 use crate::log::Log;
-use crate::refusals::Refusals;
+use crate::plan::Plan;
+use crate::refusals::{ADDRESSES, PAUSE};
 use crate::reserve::Reserve;
 use crate::roster::Roster;
-use crate::seats::Seats;
-use crate::station::{Begun, Station};
-use crate::waiting::clients_of;
-use bnc_config::{Config, NetworkConfig};
+use crate::station::Begun;
+use crate::ticks::Ticks;
+use bnc_config::Config;
 use std::alloc::{AllocError, Global};
-use std::mem;
 use std::rt::Clock;
-use std::sync::atomic::{AtomicBool, AtomicU64, Ordering};
+use std::sync::atomic::{AtomicU64, Ordering};
 use std::sync::{Arc, Mutex, Wait};
+use steward::{Answer, Event, Refusals};
 
-/// What all threads share: the settings, the networks, the log, and the connections that log in.
+/// What all threads share: what is decided, the settings and the networks, and the log.
 #[derive(Drop)]
 pub struct Shared {
-    roster: Mutex<Arc<Roster>>,
-    // how many rosters there were before that of now
-    number: AtomicU64,
+    helm: Mutex<Helm>,
+    // what the log has of connections that were refused
+    refusals: Mutex<Refusals>,
+    ticks: Ticks,
     limits: Limits,
     log: Log,
-    // the connections that wait for their login
-    seats: Seats,
-    // what the log told of connections that were refused
-    refusals: Refusals,
+    journals: Arc<Journals>,
     // what the networks that take little go on with
     reserve: Reserve,
     // how many networks are still dialled
     dialled: AtomicU64,
-    is_stopping: AtomicBool,
-}
-
-/// A network, as a connection to it is served.
-#[derive(Clone, Copy)]
-pub struct Served<'a> {
-    /// The network.
-    pub station: &'a Station,
-    /// Its settings.
-    pub settings: &'a NetworkConfig,
-    /// How long things may take.
-    pub limits: Limits,
-    /// Where it is told what happens.
-    pub log: &'a Log,
-    /// How often its settings had changed when it was dialled.
-    pub changes: u64,
-}
-
-impl Served<'_> {
-    /// Tells something of this network.
-    pub fn tell<R: Wait + Clock>(&self, rt: &R, event: &Event) {
-        self.log.tell(rt, &self.station.who(), event)
-    }
-
-    /// The seconds to the next dial.
-    pub(crate) fn retry(&self) -> u64 {
-        self.limits.retry.as_secs()
-    }
 }
 
 impl Shared {
     /// What the threads of these settings share, and the networks that are begun, in the order of
-    /// the settings. `AllocError` is told where an allocation was refused.
-    pub fn new(
+    /// the settings. Nothing outlives the program.
+    pub fn new<C: Clock>(
+        clock: &C,
         alloc: Global,
         config: Config,
         limits: Limits,
     ) -> Result<(Shared, Vec<Begun>), AllocError> {
-        let (roster, begun) = Roster::first(alloc, config, &limits)?;
+        Shared::keeping(clock, alloc, config, limits, Journals::new(None))
+    }
+
+    /// The same, of networks that are kept in these journals.
+    pub fn keeping<C: Clock>(
+        clock: &C,
+        alloc: Global,
+        config: Config,
+        limits: Limits,
+        journals: Journals,
+    ) -> Result<(Shared, Vec<Begun>), AllocError> {
+        let config = Arc::new(alloc, config)?;
+        let journals = Arc::new(alloc, journals)?;
+        let ours = Arc::try_clone(&journals)?;
+        let mut helm = Helm::new(alloc, Arc::try_clone(&config)?, &limits, ours)?;
+        let wanted = helm.wanted(alloc, &config)?;
+        let next = helm.next_network();
+        let mut plan = Plan::new(alloc, helm.roster(), config, wanted, next, &limits)?;
+        helm.go_by(&mut plan, &limits, 0)?;
         let shared = Shared {
-            roster: Mutex::new(Arc::new(alloc, roster)?),
-            number: AtomicU64::new(0),
+            helm: Mutex::new(helm),
+            refusals: Mutex::new(Refusals::new(alloc, ADDRESSES, PAUSE)?),
+            ticks: Ticks::begin(clock),
             limits,
             log: Log::new(alloc)?,
-            seats: Seats::new(alloc),
-            refusals: Refusals::new(alloc)?,
+            journals,
             reserve: Reserve::new(alloc, limits.reserve),
-            dialled: AtomicU64::new(begun.len() as u64),
-            is_stopping: AtomicBool::new(false),
+            dialled: AtomicU64::new(0),
         };
+        let Plan { begun, .. } = plan;
         Ok((shared, begun))
+    }
+
+    /// What is decided, and what its numbers stand for. While its lock is held nothing waits, and no
+    /// lock of a network is taken.
+    pub(crate) fn helm(&self) -> &Mutex<Helm> {
+        &self.helm
+    }
+
+    /// One step that needs no memory. What its answer asks of connections is done.
+    pub(crate) fn decide<R: Wait + Clock>(&self, rt: &R, event: Event<'_>) -> Answer {
+        let now = self.ticks(rt);
+        self.helm.lock(rt).step(event, now)
     }
 
     /// The settings of now, and the networks that they name.
     pub fn roster<R: Wait>(&self, rt: &R) -> Result<Arc<Roster>, AllocError> {
-        let roster = self.roster.lock(rt);
-        Arc::try_clone(&*roster)
+        let helm = self.helm.lock(rt);
+        Arc::try_clone(helm.roster())
     }
 
-    /// Puts another roster in the place of the one of now; `begun` networks of it are dialled from now
-    /// on.
-    pub(crate) fn replace_roster<R: Wait>(&self, rt: &R, roster: Arc<Roster>, begun: usize) {
-        self.dialled.fetch_add(begun as u64, Ordering::SeqCst);
-        let number = roster.number();
-        let gone = mem::replace(&mut *self.roster.lock(rt), roster);
-        self.number.store(number, Ordering::SeqCst);
-        drop(gone);
-    }
-
-    /// Whether this is the roster of now.
-    pub(crate) fn is_of_now(&self, roster: &Roster) -> bool {
-        self.number.load(Ordering::SeqCst) == roster.number()
+    /// The settings of now, and how often they were read.
+    pub(crate) fn settings<R: Wait>(&self, rt: &R) -> Result<(Arc<Roster>, u64), AllocError> {
+        let helm = self.helm.lock(rt);
+        Ok((Arc::try_clone(helm.roster())?, helm.settings()))
     }
 
     /// How long things may take, and how many there may be.
@@ -111,33 +104,35 @@ impl Shared {
         self.limits
     }
 
-    /// Where it is told what happens.
+    /// The log of what happens.
     pub fn log(&self) -> &Log {
         &self.log
     }
 
+    /// Where journals are kept.
+    pub(crate) fn journals(&self) -> &Arc<Journals> {
+        &self.journals
+    }
+
     /// How many connections wait for their login.
-    pub fn logins<R: Wait>(&self, rt: &R) -> u64 {
-        self.seats.count(rt)
+    pub fn logins<R: Wait>(&self, rt: &R) -> usize {
+        self.helm.lock(rt).logins()
     }
 
     /// How many clients of the networks are served, all together. One counts until the thread that
     /// writes to it has ended.
-    pub fn sessions<R: Wait>(&self, rt: &R) -> u64 {
-        match self.roster(rt) {
-            Ok(roster) => clients_of(roster.networks()),
-            Err(_) => 0,
-        }
+    pub fn sessions<R: Wait>(&self, rt: &R) -> usize {
+        self.helm.lock(rt).sessions()
     }
 
-    /// The seats for logins.
-    pub(crate) fn seats(&self) -> &Seats {
-        &self.seats
-    }
-
-    /// What the log told of connections that were refused.
-    pub(crate) fn refusals(&self) -> &Refusals {
+    /// What the log has of connections that were refused.
+    pub(crate) fn refusals(&self) -> &Mutex<Refusals> {
         &self.refusals
+    }
+
+    /// How many milliseconds have gone by since the program began.
+    pub(crate) fn ticks<C: Clock>(&self, clock: &C) -> u64 {
+        self.ticks.now(clock)
     }
 
     /// Memory for the networks that take little.
@@ -145,37 +140,22 @@ impl Shared {
         &self.reserve
     }
 
-    /// A network, for a connection that is dialled by these settings; `changes` is how often they had
-    /// changed. `None` if they have the network no more.
-    pub(crate) fn served<'a>(
-        &'a self,
-        roster: &'a Roster,
-        station: &'a Station,
-        changes: u64,
-    ) -> Option<Served<'a>> {
-        let settings = roster.settings_of(station)?;
-        let mut limits = self.limits;
-        limits.retry = roster.retry();
-        Some(Served {
-            station,
-            settings,
-            limits,
-            log: &self.log,
-            changes,
-        })
-    }
-
-    /// Begins the end of the service: nobody is accepted any more, and no network dialled.
-    pub fn begin_stop(&self) {
-        self.is_stopping.store(true, Ordering::SeqCst);
+    /// Begins the end of the service: from now on nobody is accepted, and no network dialled.
+    pub fn begin_stop<R: Wait + Clock>(&self, rt: &R) {
+        let _ = self.decide(rt, Event::Stop);
     }
 
     /// Whether the service ends.
-    pub fn is_stopping(&self) -> bool {
-        self.is_stopping.load(Ordering::SeqCst)
+    pub fn is_stopping<R: Wait>(&self, rt: &R) -> bool {
+        self.helm.lock(rt).is_stopping()
     }
 
-    /// Tells that one network less is dialled.
+    /// Notes that one network more is dialled.
+    pub(crate) fn dials_one_more(&self) {
+        self.dialled.fetch_add(1, Ordering::SeqCst);
+    }
+
+    /// Notes that one network less is dialled.
     pub(crate) fn dials_no_more(&self) {
         self.dialled.fetch_sub(1, Ordering::SeqCst);
     }

@@ -2,6 +2,7 @@
 
 use client_caps::{Cap, Caps};
 use std::fmt;
+use std::net::{Ipv4Addr, Ipv6Addr};
 
 /// How many bytes of a text are shown.
 const SHOWN: usize = 64;
@@ -29,7 +30,7 @@ impl fmt::Display for Shown<'_> {
     }
 }
 
-/// How a byte is shown where words are: as they are, a space too.
+/// How a byte is shown in a text of several words: as it is, a space too.
 fn sign_in_words(byte: u8) -> char {
     match byte {
         b' ' => ' ',
@@ -53,7 +54,7 @@ impl fmt::Display for Words<'_> {
     }
 }
 
-/// What a network said at the end, where it said something: `; it said: ` and the words.
+/// What a network said at the end, if anything: `; it said: ` and the words.
 #[derive(Clone, Copy)]
 pub(crate) struct Parting<'a>(pub(crate) Option<&'a [u8]>);
 
@@ -87,7 +88,21 @@ impl fmt::Display for Held {
     }
 }
 
-/// Of whom the log tells: a user's network, and the client of a session where it has a name.
+/// An address by its number (`steward::key_of`): an IPv4 address, or the first half of an IPv6
+/// address, as `2001:db8::/64`.
+#[derive(Clone, Copy)]
+pub(crate) struct Origin(pub(crate) u64);
+
+impl fmt::Display for Origin {
+    fn fmt<W: fmt::Write>(&self, f: &mut fmt::Formatter<W>) -> fmt::Result {
+        match u32::try_from(self.0) {
+            Ok(bits) => write!(f, "{}", Ipv4Addr::from_bits(bits)),
+            Err(_) => write!(f, "{}/64", Ipv6Addr::from_bits(u128::from(self.0) << 64)),
+        }
+    }
+}
+
+/// What a log line is about: a user's network, and a session's client if it has a name.
 #[derive(Clone, Copy)]
 pub struct Who<'a> {
     /// The user's name.

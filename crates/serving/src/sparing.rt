@@ -8,7 +8,7 @@ use std::time::Instant;
 /// After how many items it looks how fast they came, and whether there is memory.
 const ITEMS: u64 = 32;
 
-/// A network takes much that takes so many items in fewer milliseconds than these.
+/// A network takes much if it takes `ITEMS` items in less than this many milliseconds.
 const FAST: u64 = 200;
 
 /// For how many milliseconds it counts as one after that.
@@ -31,7 +31,7 @@ pub(crate) struct Sparing<'a> {
     is_waiting: bool,
 }
 
-/// Whether fewer than so many milliseconds went by since a moment.
+/// Whether fewer than `limit` milliseconds have gone by since a moment.
 fn is_within<R: Clock>(rt: &R, moment: Option<Instant>, limit: u64) -> bool {
     let Some(moment) = moment else {
         return false;
@@ -69,7 +69,7 @@ impl<'a> Sparing<'a> {
         self.is_waiting = false;
     }
 
-    /// Looks how fast items came, and where they came fast, whether there is memory.
+    /// Checks how fast items came and, if they came fast, whether there is memory.
     fn look<R: Wait + Clock>(&mut self, rt: &R) {
         self.is_fast = is_within(rt, self.looked, FAST);
         self.looked = Instant::now(rt).ok();

@@ -1,8 +1,13 @@
 //! The threads of the networks, of the log, and the one that accepts clients.
 
-use crate::accepting::accept;
-use crate::dialling::stay_connected;
+use crate::accepting::{accept, accept_proxies};
+use crate::connecting::stay_connected;
+use crate::dialling::Dialling;
+use crate::host::Host;
+use crate::journaling::{keep_journals, recall_network};
 use crate::log::StandardError;
+use crate::network_event::NetworkEvent;
+use crate::proxies::Proxies;
 use crate::pumping::keep_pumping;
 use crate::shared::Shared;
 use crate::station::Begun;
@@ -12,9 +17,10 @@ use std::net::{Net, TcpListener, TcpStream};
 use std::rt::Clock;
 use std::sync::{Arc, Wait};
 use std::thread::{JoinHandle, Threads};
+use steward::Event;
 
 /// Starts the thread that writes the log to standard error, until the log is ended. `AllocError`
-/// where memory is refused or no thread can be started.
+/// if memory is refused or no thread can be started.
 pub fn start_log<R: Threads + Wait + Clock + Eprint + Copy + Send + Drop + 'static>(
     rt: R,
     shared: &Arc<Shared>,
@@ -26,20 +32,9 @@ pub fn start_log<R: Threads + Wait + Clock + Eprint + Copy + Send + Drop + 'stat
     started.or(Err(AllocError))
 }
 
-/// Starts the threads of a network: one that pumps, and one that dials and reads it, which has a
-/// writer beside it while a connection stands. `AllocError` where memory is refused or a thread can't
-/// be started; the network is left then, so that the other ends.
-pub(crate) fn start_network<
-    R: Threads
-        + Wait
-        + Clock
-        + Net<Listener = TcpListener, Stream = TcpStream>
-        + Copy
-        + Send
-        + Sync
-        + Drop
-        + 'static,
->(
+/// Starts the threads of a network: one that pumps, and then one that dials and reads it, which has a
+/// writer beside it while a connection stands.
+fn start_threads<R: Host + Net<Listener = TcpListener, Stream = TcpStream>>(
     rt: R,
     alloc: Global,
     shared: &Arc<Shared>,
@@ -50,35 +45,57 @@ pub(crate) fn start_network<
     threads.reserve(2)?;
     let (theirs, its) = (Arc::try_clone(shared)?, Arc::try_clone(&station)?);
     let pump = move || keep_pumping(&rt, alloc, &theirs, &its);
-    let (theirs, its) = (Arc::try_clone(shared)?, Arc::try_clone(&station)?);
-    let dial = move || stay_connected(&rt, alloc, &theirs, &its, link);
+    let theirs = Arc::try_clone(shared)?;
+    let dial = move || {
+        let dialling = Dialling {
+            rt: &rt,
+            alloc,
+            shared: &theirs,
+            station: &station,
+        };
+        stay_connected(&dialling, link)
+    };
+    let Ok(pump) = small_thread().spawn(&rt, pump) else {
+        return Err(AllocError);
+    };
+    threads.push(pump)?;
     let Ok(reader) = small_thread().spawn(&rt, dial) else {
         return Err(AllocError);
     };
     threads.push(reader)?;
-    match small_thread().spawn(&rt, pump) {
-        Ok(pump) => Ok(threads.push(pump)?),
-        Err(_) => {
-            station.leave(&rt);
-            station.end(&rt);
-            Err(AllocError)
-        }
-    }
+    Ok(())
 }
 
-/// Starts the threads of each network. `AllocError` where memory is refused or a thread can't be
+/// Starts the threads of a network. `AllocError` if memory is refused or a thread can't be started;
+/// the network is forgotten then, so that the next reload begins it again.
+pub(crate) fn start_network<R: Host + Net<Listener = TcpListener, Stream = TcpStream>>(
+    rt: R,
+    alloc: Global,
+    shared: &Arc<Shared>,
+    begun: Begun,
+    threads: &mut Vec<JoinHandle<()>>,
+) -> Result<(), AllocError> {
+    let station = Arc::try_clone(&begun.station)?;
+    shared.dials_one_more();
+    let started = recall_network(&rt, alloc, shared, &station).and_then(|_| start_threads(
+        rt, alloc, shared, begun, threads,
+    ));
+    if started.is_err() {
+        shared.dials_no_more();
+        let network = station.number();
+        let _ = shared.decide(&rt, Event::Unstarted { network });
+        // the thread that pumps ends, if there is one
+        station.slot().close(&rt);
+        shared
+            .log()
+            .tell(&rt, &station.who(), &NetworkEvent::NotServed);
+    }
+    started
+}
+
+/// Starts the threads of each network. `AllocError` if memory is refused or a thread can't be
 /// started; those started before then run on.
-pub fn start_networks<
-    R: Threads
-        + Wait
-        + Clock
-        + Net<Listener = TcpListener, Stream = TcpStream>
-        + Copy
-        + Send
-        + Sync
-        + Drop
-        + 'static,
->(
+pub fn start_networks<R: Host + Net<Listener = TcpListener, Stream = TcpStream>>(
     rt: R,
     alloc: Global,
     shared: &Arc<Shared>,
@@ -91,19 +108,26 @@ pub fn start_networks<
     Ok(threads)
 }
 
-/// Starts the thread that accepts clients. `AllocError` where memory is refused or no thread can be
+/// Starts the thread that writes the journals, if networks are kept. `AllocError` if memory is refused
+/// or no thread can be started.
+pub fn start_journals<R: Host>(
+    rt: R,
+    alloc: Global,
+    shared: &Arc<Shared>,
+) -> Result<Option<JoinHandle<()>>, AllocError> {
+    if shared.journals().folder().is_none() {
+        return Ok(None);
+    }
+    let theirs = Arc::try_clone(shared)?;
+    match small_thread().spawn(&rt, move || keep_journals(&rt, alloc, &theirs)) {
+        Ok(thread) => Ok(Some(thread)),
+        Err(_) => Err(AllocError),
+    }
+}
+
+/// Starts the thread that accepts clients. `AllocError` if memory is refused or no thread can be
 /// started.
-pub fn start_accepting<
-    R: Threads
-        + Wait
-        + Clock
-        + Net<Listener = TcpListener, Stream = TcpStream>
-        + Copy
-        + Send
-        + Sync
-        + Drop
-        + 'static,
->(
+pub fn start_accepting<R: Host + Net<Listener = TcpListener, Stream = TcpStream>>(
     rt: R,
     alloc: Global,
     shared: &Arc<Shared>,
@@ -112,4 +136,18 @@ pub fn start_accepting<
     let theirs = Arc::try_clone(shared)?;
     let started = small_thread().spawn(&rt, move || accept(rt, alloc, &listener, &theirs));
     started.or(Err(AllocError))
+}
+
+/// Starts the thread that accepts the proxies that may connect. `AllocError` if memory is refused or
+/// no thread can be started.
+pub fn start_accepting_proxies<R: Host + Net<Listener = TcpListener, Stream = TcpStream>>(
+    rt: R,
+    alloc: Global,
+    shared: &Arc<Shared>,
+    listener: TcpListener,
+    proxies: Proxies,
+) -> Result<JoinHandle<()>, AllocError> {
+    let theirs = Arc::try_clone(shared)?;
+    let accepting = move || accept_proxies(rt, alloc, &listener, &theirs, &proxies);
+    small_thread().spawn(&rt, accepting).or(Err(AllocError))
 }

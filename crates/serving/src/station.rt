@@ -3,15 +3,16 @@
 ghost use Rattle.std.specs.Prelude.{◌≡◌, true};
 ghost use Rattle.history.specs.Messages.{is_capacity};
 
-use crate::connection::Farewell;
-use crate::guests::Guests;
+use crate::journals::Journals;
+use crate::kept_journal::KeptJournal;
 use crate::limits::Limits;
 use crate::link::{Link, network_with_link};
 use crate::shown::Who;
 use crate::slot::Slot;
 use quick_view::QuickView;
+use shell::{Pace, Repeats};
 use std::alloc::{AllocError, Global};
-use std::sync::{Arc, Wait};
+use std::sync::{Arc, Mutex, Wait};
 use std::thread::Parker;
 use std::time::Duration;
 
@@ -21,9 +22,17 @@ use std::time::Duration;
 pub struct Station {
     user: Vec<u8>,
     name: Vec<u8>,
-    slot: Arc<Slot<QuickView>>,
-    guests: Guests,
-    // where the thread that dials rests
+    number: u64,
+    // the number of both names
+    label: u64,
+    slot: Slot<QuickView>,
+    // what keeps it over a restart, if it is kept
+    journal: Mutex<Option<KeptJournal>>,
+    // at which its clients may speak, all together
+    pace: Pace,
+    // how the last dial ended, and how often others ended alike after it
+    repeats: Mutex<Repeats>,
+    // on which the thread that dials rests
     bed: Parker,
 }
 
@@ -35,25 +44,35 @@ pub struct Begun {
 }
 
 impl Begun {
-    /// A network of these names, of which nothing came. Its history keeps so many messages.
+    /// A network of this number and these names that has received nothing. Its history keeps
+    /// `history` messages of each target.
     pub(crate) fn new(
         alloc: Global,
         who: Who<'_>,
+        numbers: (u64, u64),
         history: usize,
         limits: &Limits,
+        journals: Arc<Journals>,
     ) -> Result<Begun, AllocError>
         requires { is_capacity history ≡ true }
     {
         let (hub, link) = network_with_link(alloc, history, limits.packets)?;
+        let (number, label) = numbers;
         let station = Station {
             user: Vec::from_slice(alloc, who.user)?,
             name: Vec::from_slice(alloc, who.network)?,
-            slot: Arc::new(alloc, Slot::new(alloc, hub)?)?,
-            guests: Guests::new(limits),
+            number,
+            label,
+            slot: Slot::new(alloc, hub)?.with_journals(journals),
+            journal: Mutex::new(None),
+            pace: Pace::new(limits.burst, limits.pace),
+            repeats: Mutex::new(Repeats::new()),
             bed: Parker::new(),
         };
-        let station = Arc::new(alloc, station)?;
-        Ok(Begun { station, link })
+        Ok(Begun {
+            station: Arc::new(alloc, station)?,
+            link,
+        })
     }
 }
 
@@ -67,46 +86,43 @@ impl Station {
         }
     }
 
-    /// Whether these are its user's name and its own.
-    pub(crate) fn is_of(&self, who: Who<'_>) -> bool {
-        self.user.as_slice() == who.user && self.name.as_slice() == who.network
+    /// Its number, which no other network has or had.
+    pub(crate) fn number(&self) -> u64 {
+        self.number
+    }
+
+    /// The number of both names.
+    pub(crate) fn label(&self) -> u64 {
+        self.label
     }
 
     /// Where its hub stands.
-    pub fn slot(&self) -> &Arc<Slot<QuickView>> {
+    pub fn slot(&self) -> &Slot<QuickView> {
         &self.slot
     }
 
-    /// Its clients.
-    pub(crate) fn guests(&self) -> &Guests {
-        &self.guests
+    /// What keeps it over a restart, if it is kept.
+    pub(crate) fn journal(&self) -> &Mutex<Option<KeptJournal>> {
+        &self.journal
     }
 
-    /// Rests between two dials, for so long or until it is woken.
+    /// At which pace its clients may speak, all together.
+    pub(crate) fn pace(&self) -> &Pace {
+        &self.pace
+    }
+
+    /// How the last dial ended, and how often others ended alike after it.
+    pub(crate) fn repeats(&self) -> &Mutex<Repeats> {
+        &self.repeats
+    }
+
+    /// Rests, for so long or until it is woken.
     pub(crate) fn rest<R: Wait>(&self, rt: &R, time: Duration) {
         self.bed.park_timeout(rt, time);
     }
 
-    /// Stops serving the network: no client gets in any more, and each session ends after a last
-    /// line.
-    pub(crate) fn leave<R: Wait>(&self, rt: &R) {
-        self.slot.leave(rt);
-        self.slot.part_clients(rt, Farewell::Removed);
-    }
-
-    /// Ends the connection to a network that is no longer served, after a last line. Its threads end
-    /// after it.
-    pub(crate) fn end<R: Wait>(&self, rt: &R) {
-        let _ = self.slot.part(rt, Farewell::Removed);
+    /// Wakes the thread that dials, if it rests.
+    pub(crate) fn wake(&self) {
         self.bed.unpark();
-    }
-
-    /// Dials the network again, by other settings: as after a loss, or at once if there is no
-    /// connection to it.
-    pub(crate) fn dial_anew<R: Wait>(&self, rt: &R) {
-        self.slot.change(rt);
-        if !self.slot.part(rt, Farewell::Changed) {
-            self.bed.unpark();
-        }
     }
 }

@@ -1,33 +1,25 @@
-//! What the shell adds to a client's way from its login to the end of its session: its seat, the
-//! number of sessions, the pace, late answers, and the log.
+//! What the shell adds to a client's way from its login to the end of its session: who is let in,
+//! late answers, last lines, the pace, and the log.
 
 ghost use Rattle.std.specs.Prelude.{◌≡◌, IsSome};
 
-use crate::client_input::ClientInput;
-use crate::connection::Connection;
-use crate::counted::Count;
-use crate::event::Event;
-use crate::guests::Guests;
-use crate::refusals::tell_refusal;
-use crate::roster::Roster;
-use crate::seats::Seat;
-use crate::shared::Shared;
-use crate::shown::Who;
-use crate::slot::{Slot, Stay, enter};
+use crate::claimed::Claimed;
+use crate::client_input::{ClientInput, Others, unsaid};
+use crate::connection::Farewell;
+use crate::guest::{Guest, LastLine};
+use crate::session_event::SessionEvent;
 use crate::station::Station;
 use client_caps::Caps;
 use hub_core::AttachError;
 use hub_ends::SessionId;
-use hub_threads::{Ended, Network, WRITE_CALL};
+use hub_threads::{Ended, Network};
 use quick_view::QuickView;
 use sessions::{Claim, Leave, LoginFault, OutOfMemory, Refusal, Served, Watcher};
-use std::alloc::Global;
-use std::io::Write;
-use std::net::SocketAddr;
+use shell::Count;
+use std::io::{Read, Write};
 use std::rt::Clock;
 use std::sync::{Arc, Wait};
-use std::thread;
-use std::time::{Duration, Instant};
+use steward::{Answer, Why};
 
 /// Why a login was over whose seat another took.
 const GAVE_WAY: &str = "gave way, too many connections";
@@ -37,6 +29,9 @@ const SEND_PASS: &[u8] = b"ERROR :send PASS user@client/network:password\r\n";
 
 /// What a client is sent whose login was complete after the settings had changed.
 const OUTDATED: &[u8] = b"ERROR :settings changed, log in again\r\n";
+
+/// What a client is sent whose login was complete only after the service had begun to end.
+const STOPS: &[u8] = b"ERROR :bnc stops\r\n";
 
 /// Why a login was over before it was done.
 fn cause_of_login(fault: LoginFault) -> &'static str {
@@ -55,302 +50,259 @@ fn cause_of_leave(leave: Leave) -> &'static str {
         Leave::Quit => "quit",
         Leave::Cut => "cut, it took too little",
         Leave::EndOfInput => "gone",
-        Leave::ReadFault => "cannot read",
+        Leave::ReadFault => "cannot read, or gone before its last lines",
         Leave::TooLong => "line too long",
         Leave::OutOfMemory => "out of memory",
     }
 }
 
-/// The names in a claim, kept for the log.
-#[derive(Drop)]
-struct Names {
-    user: Vec<u8>,
-    client: Option<Vec<u8>>,
-    network: Vec<u8>,
-}
-
-impl Names {
-    /// Those of a claim.
-    fn of(alloc: Global, claim: &Claim) -> Result<Names, OutOfMemory> {
-        let client = match &claim.client {
-            Some(client) => Some(Vec::from_slice(alloc, client.as_slice())?),
-            None => None,
-        };
-        Ok(Names {
-            user: Vec::from_slice(alloc, claim.user.as_slice())?,
-            client,
-            network: Vec::from_slice(alloc, claim.network.as_slice())?,
-        })
-    }
-
-    /// Whom the log tells about.
-    fn who(&self) -> Who<'_> {
-        Who {
-            user: self.user.as_slice(),
-            client: self.client.as_deref(),
-            network: self.network.as_slice(),
-        }
+/// Whether what was written to a client ends with a whole line.
+fn is_whole<W: Write>(served: &Result<Served<W>, OutOfMemory>) -> bool {
+    match served {
+        Ok(Served::Ended(ended)) => ended.written.is_ok(),
+        Ok(Served::Cut) => false,
+        Ok(Served::NoLogin | Served::Refused(_)) | Err(_) => true,
     }
 }
 
-/// A client that was let in to a network.
-#[derive(Drop)]
-struct Inside<'a, R: Wait + Drop> {
-    stay: Stay<QuickView, R>,
-    guests: &'a Guests,
-}
-
-/// Where a client is served.
-#[derive(Clone, Copy)]
-pub(crate) struct At<'a, R> {
-    pub(crate) rt: &'a R,
-    pub(crate) alloc: Global,
-    pub(crate) shared: &'a Shared,
-    /// The settings by which it logs in.
-    pub(crate) roster: &'a Roster,
-    pub(crate) connection: &'a Connection,
-    pub(crate) peer: SocketAddr,
-}
-
-/// Why a client whose login is complete is not served.
+/// Why a client whose login is complete is not served, and gets no answer from `serve_session`.
 #[derive(Clone, Copy, PartialEq, Eq)]
 enum TurnedAway {
-    /// There is no clock, or no memory for the names that it claims.
-    NoMeans,
+    /// There is no memory for the names that it claims.
+    NoMemory,
     /// The settings have changed since it began to log in.
     Outdated,
-    /// Another login has its seat.
-    SeatLost,
+    /// Its password is wrong, and as many wait for an answer as may.
+    Wrong,
+    /// It was closed before, or the service ends.
+    Closed,
+}
+
+/// What was decided about a client whose login is complete.
+#[derive(Clone, Copy)]
+enum Judged<'a> {
+    /// It is let in to this network.
+    LetIn(&'a Station),
+    /// It is not let in, for this reason.
+    Refused(AttachError),
+    /// Its password is wrong, and it is answered at this time.
+    Wrong(u64),
 }
 
 /// Watches one client.
 #[derive(Drop)]
 pub(crate) struct Watching<'a, R: Wait + Clock + Copy + Drop> {
-    at: At<'a, R>,
+    guest: Guest<'a, R>,
     // how many bytes were written to the client
     count: Count,
-    // kept until the client is let in, or was told that it isn't
-    seat: Option<Seat<R>>,
-    // when the login was complete
-    completed: Option<Instant>,
     // whom the client claims to be
-    names: Option<Names>,
-    // why it has no session
-    refusal: Option<Refusal>,
-    inside: Option<Inside<'a, R>>,
-    // why its session ended
-    why: Option<Leave>,
+    claimed: Option<Claimed>,
+    judged: Option<Judged<'a>>,
+    // its password is right, and its user has no network of the name
+    lacks_network: bool,
     // why it is not served although its login is complete
     turned_away: Option<TurnedAway>,
+    // why it has no session
+    refusal: Option<Refusal>,
+    // whose its last line is, once that was asked
+    last: Option<LastLine>,
+    // why its session ended
+    why: Option<Leave>,
     session: Option<SessionId>,
 }
 
 impl<'a, R: Wait + Clock + Copy + Drop> Watching<'a, R> {
     /// Watches a client from its login on.
-    pub(crate) fn start(at: At<'a, R>, seat: Seat<R>, count: Count) -> Watching<'a, R> {
+    pub(crate) fn start(guest: Guest<'a, R>, count: Count) -> Watching<'a, R> {
         Watching {
-            at,
+            guest,
             count,
-            seat: Some(seat),
-            completed: None,
-            names: None,
-            refusal: None,
-            inside: None,
-            why: None,
+            claimed: None,
+            judged: None,
+            lacks_network: false,
             turned_away: None,
+            refusal: None,
+            last: None,
+            why: None,
             session: None,
         }
     }
 
-    /// Notes that the login is complete, and whom the client claims to be; answers why it is not
-    /// served, if it isn't.
-    fn complete(&mut self, claim: &Claim) -> Option<TurnedAway>
+    /// Writes a line of the log about this client.
+    fn tell(&self, event: &SessionEvent) {
+        match &self.claimed {
+            Some(claimed) => self.guest.tell(Some(claimed.who()), event),
+            None => self.guest.tell(None, event),
+        }
+    }
+
+    /// Logs that its password was wrong, or that its user has no such network.
+    fn tell_wrong(&self) {
+        if let Some(claimed) = &self.claimed {
+            self.guest.tell_wrong(claimed.who(), self.lacks_network);
+        }
+    }
+
+    /// Whose the last line is. If it is not this thread's own, nothing more can be written.
+    fn last_line(&mut self) -> LastLine
         ensures { self.new.session ≡ self.old.session }
     {
-        let Ok(completed) = Instant::now(self.at.rt) else {
-            return Some(TurnedAway::NoMeans);
+        let last = match self.last {
+            Some(last) => last,
+            None => self.guest.last_line(),
         };
-        let Ok(names) = Names::of(self.at.alloc, claim) else {
-            self.refusal = Some(Refusal::Login(LoginFault::Memory));
-            return Some(TurnedAway::NoMeans);
-        };
-        self.completed = Some(completed);
-        self.names = Some(names);
-        if !self.at.shared.is_of_now(self.at.roster) {
-            return Some(TurnedAway::Outdated);
-        }
-        match &self.seat {
-            Some(seat) if seat.complete() => None,
-            _ => Some(TurnedAway::SeatLost),
-        }
+        self.last = Some(last);
+        last
     }
 
-    /// Tells the log of this client.
-    fn tell(&self, event: &Event) {
-        let log = self.at.shared.log();
-        match &self.names {
-            Some(names) => log.tell(self.at.rt, &names.who(), event),
-            None => log.tell(self.at.rt, &"bnc", event),
-        }
-    }
-
-    /// Tells the log of a login that was over before it was done.
-    fn tell_no_login(&self, cause: &str) {
-        let event = Event::NoLogin {
-            peer: self.at.peer,
-            cause,
-        };
-        tell_refusal(
-            self.at.rt,
-            self.at.shared,
-            self.at.peer.ip(),
-            &"bnc",
-            &event,
-        );
-    }
-
-    /// Tells that a password was wrong, and waits until the time for the answer has come, which is
-    /// counted from the end of the login; whatever was done meanwhile takes none of it.
-    fn deny_late(&self) {
-        let event = Event::WrongPassword { peer: self.at.peer };
-        if let Some(names) = &self.names {
-            tell_refusal(
-                self.at.rt,
-                self.at.shared,
-                self.at.peer.ip(),
-                &names.who(),
-                &event,
-            );
-        }
-        let passed = match &self.completed {
-            Some(completed) => completed.elapsed(self.at.rt).unwrap_or(Duration::ZERO),
-            None => Duration::ZERO,
-        };
-        let left = self
-            .at
-            .shared
-            .limits()
-            .wrong_password
-            .saturating_sub(passed);
-        thread::sleep(self.at.rt, left);
-    }
-
-    /// The network of a slot, for a session: one of as many as there may be.
-    fn enter(
-        &mut self,
-        claim: &Claim,
-        slot: &Arc<Slot<QuickView>>,
-    ) -> Result<Arc<Network<QuickView>>, AttachError>
+    /// Asks what becomes of a login that claims this; answers why it is turned away, if it is.
+    fn judge(&mut self, claim: &Claim) -> Option<TurnedAway>
         ensures { self.new.session ≡ self.old.session }
     {
-        let (user, network) = (claim.user.as_slice(), claim.network.as_slice());
-        let station = self.at.roster.station(user, network);
-        let guests = station.ok_or(AttachError::NotReady)?.guests();
-        let connection = self.at.connection.share()?;
-        let stay = enter(slot, *self.at.rt, connection)?;
-        let network = Arc::try_clone(&stay.network)?;
-        if !guests.enter(self.at.shared.limits().sessions) {
-            return Err(AttachError::Full);
+        let Ok(claimed) = Claimed::of(self.guest.alloc, claim) else {
+            return Some(TurnedAway::NoMemory);
+        };
+        self.claimed = Some(claimed);
+        let station = self.guest.roster.admitted(claim);
+        self.lacks_network = self.guest.roster.lacks_network_of(claim);
+        let judged = match (self.guest.judge(station), station) {
+            (Answer::LetIn { .. }, Some(station)) => Judged::LetIn(station),
+            (Answer::AnswerAt { time, .. }, _) => Judged::Wrong(time),
+            (Answer::Tell { why: Why::Full, .. }, _) => Judged::Refused(AttachError::Full),
+            (Answer::Tell { .. }, _) => Judged::Refused(AttachError::NotReady),
+            (Answer::JudgeAgain, _) => return Some(TurnedAway::Outdated),
+            (Answer::Drop { .. }, _) => return Some(TurnedAway::Wrong),
+            _ => return Some(TurnedAway::Closed),
+        };
+        if matches!(judged, Judged::Refused(_)) {
+            self.last = Some(LastLine::Own);
         }
-        self.inside = Some(Inside { stay, guests });
+        self.judged = Some(judged);
+        None
+    }
+
+    /// The network that the client is let in to, at the pace of its clients.
+    fn enter(&self, reader: &mut ClientInput<'a, R>) -> Result<Arc<Network<QuickView>>, AttachError>
+        ensures { ⟦<ClientInput<'a, R> as Read>⟧.remaining reader.new
+            ≡ ⟦<ClientInput<'a, R> as Read>⟧.remaining reader.old }
+    {
+        let station = match self.judged {
+            Some(Judged::LetIn(station)) => station,
+            Some(Judged::Refused(error)) => return Err(error),
+            Some(Judged::Wrong(_)) | None => return Err(AttachError::NotReady),
+        };
+        let network = station.slot().network(self.guest.rt);
+        let network = network.ok_or(AttachError::OutOfMemory)?;
+        if self.guest.set_timeouts().is_err() {
+            return Err(AttachError::OutOfMemory);
+        }
+        let others = Others {
+            rt: self.guest.rt,
+            network: Arc::try_clone(&network)?,
+        };
+        reader.begin_session(others, station.pace());
+        self.count.begin();
         Ok(network)
     }
 
-    /// Sets what holds of the connection in a session.
-    fn set_timeouts(&self) -> Result<(), AttachError> {
-        let stream = self.at.connection.stream();
-        let call = Duration::from_millis(WRITE_CALL);
-        if stream.set_read_timeout(None).is_err() || stream.set_write_timeout(Some(call)).is_err() {
-            return Err(AttachError::OutOfMemory);
+    /// Why a login ended to which no other thread wrote a last line: PASS is missing, the settings
+    /// have changed since it began, or the service ends.
+    fn cause_of_no_login(&self, input: &ClientInput<'a, R>) -> Option<&'static str> {
+        if self.turned_away == Some(TurnedAway::Outdated) {
+            self.guest.say(OUTDATED);
+            return Some("the settings changed meanwhile");
         }
-        Ok(())
-    }
-
-    /// Ends a login by settings that had changed when it was complete.
-    fn end_outdated(&self) {
-        let mut out = self.at.connection.stream();
-        // one that has gone hears nothing
-        let _ = out.write_all(OUTDATED);
-        self.tell_no_login("the settings changed meanwhile")
-    }
-
-    /// Ends a login that was over before it was done. A client that forgot PASS is told so.
-    fn end_login(&self, input: &ClientInput<'a, R>) {
-        let is_lost = self.seat.as_ref().is_none_or(|seat| seat.is_lost());
+        if self.turned_away == Some(TurnedAway::Closed) {
+            self.guest.say(STOPS);
+            return Some(Farewell::Stops.text());
+        }
         match self.refusal {
-            None if self.turned_away == Some(TurnedAway::Outdated) => self.end_outdated(),
-            None => self.tell_no_login(GAVE_WAY),
-            Some(Refusal::Login(_)) if is_lost => self.tell_no_login(GAVE_WAY),
+            None => Some("out of memory"),
             Some(Refusal::Login(LoginFault::Read)) if input.lacks_pass() => {
-                let mut out = self.at.connection.stream();
-                // one that has gone hears nothing
-                let _ = out.write_all(SEND_PASS);
-                self.tell_no_login("too late, no PASS came")
+                self.guest.say(SEND_PASS);
+                Some("too late, no PASS came")
             }
-            Some(Refusal::Login(fault)) => self.tell_no_login(cause_of_login(fault)),
-            Some(Refusal::Closed) => self.tell_no_login("closed"),
-            Some(Refusal::Denied | Refusal::NotAttached(_)) => {}
+            Some(Refusal::Login(fault)) => Some(cause_of_login(fault)),
+            Some(Refusal::Closed) => Some("closed"),
+            Some(Refusal::Denied | Refusal::NotAttached(_)) => None,
         }
     }
 
-    /// Tells the log how a session ended that its client left, or that ended with its network.
-    fn tell_ended<W: Write>(&self, ended: &Ended<W>) {
-        let is_over = self
-            .inside
-            .as_ref()
-            .is_some_and(|inside| inside.stay.is_over());
-        let cause = match (self.why, self.at.connection.farewell()) {
-            _ if is_over => "network begun anew",
-            (Some(Leave::EndOfInput), Some(farewell)) => farewell.text(),
-            (Some(why), _) => cause_of_leave(why),
-            (None, _) => "gone",
+    /// Logs why a login was over before it was done, unless the log has that already.
+    fn end_login(&self, input: &ClientInput<'a, R>, last: LastLine) {
+        let is_logged = self.refusal == Some(Refusal::Denied);
+        if is_logged || self.turned_away == Some(TurnedAway::Wrong) {
+            return;
+        }
+        let cause = match last {
+            LastLine::Said(farewell) => Some(farewell.text()),
+            LastLine::Closed => Some(GAVE_WAY),
+            LastLine::Own => self.cause_of_no_login(input),
         };
-        self.tell(&Event::Ended {
-            cause,
+        if let Some(cause) = cause {
+            self.guest.tell_no_login(cause);
+        }
+    }
+
+    /// Why a session ended that its client left, or that ended with its network.
+    fn cause_of_end(&self, last: LastLine) -> &'static str {
+        match (last, self.why) {
+            (LastLine::Closed, _) => "network begun anew",
+            (LastLine::Said(farewell), Some(Leave::EndOfInput | Leave::ReadFault)) =>
+                farewell.text(),
+            (_, Some(why)) => cause_of_leave(why),
+            (_, None) => "gone",
+        }
+    }
+
+    /// Logs the lines that the client had sent and that were not said, unless it said QUIT.
+    fn tell_unsaid(&self, input: &ClientInput<'a, R>) {
+        if self.why == Some(Leave::Quit) {
+            return;
+        }
+        let lines = unsaid(input, self.guest.connection);
+        if lines > 0 {
+            self.tell(&SessionEvent::Unsaid { lines });
+        }
+    }
+
+    /// Logs how a session ended.
+    fn tell_ended<W: Write>(&self, ended: &Ended<W>, last: LastLine) {
+        self.tell(&SessionEvent::Ended {
+            cause: self.cause_of_end(last),
             whole: ended.written.is_ok(),
             bytes: self.count.so_far(),
         });
     }
 
-    /// Tells of the lines that the client had sent and that were not said, unless it said QUIT.
-    fn tell_unsaid(&self, input: &ClientInput<'a, R>) {
-        if self.why == Some(Leave::Quit) {
-            return;
-        }
-        let lines = input.unsaid();
-        if lines > 0 {
-            self.tell(&Event::Unsaid { lines });
-        }
-    }
-
-    /// Tells how the client was served, after its writer has ended, and gives back what it had.
+    /// Writes the client's last line, if one is to be written, and logs how it was served, after its
+    /// writer has ended.
     pub(crate) fn finish<W: Write + Drop>(
         self,
         input: &ClientInput<'a, R>,
         served: &Result<Served<W>, OutOfMemory>,
     ) {
-        if let (Some(_), Some(farewell)) = (&self.inside, self.at.connection.farewell()) {
-            let time = self.at.shared.limits().stop;
-            self.at.connection.say_last("ERROR", farewell, time);
+        let mut watching = self;
+        watching.guest.shared.journals().ring();
+        if !is_whole(served) {
+            // nothing is to be glued to half a line
+            watching.guest.connection.hang_up();
         }
+        let last = watching.last_line();
         match served {
-            Ok(Served::NoLogin) => self.end_login(input),
-            Ok(Served::Refused(error)) => self.tell(&Event::NotAttached(*error)),
+            Ok(Served::NoLogin) => watching.end_login(input, last),
+            Ok(Served::Refused(error)) => watching.tell(&SessionEvent::NotAttached(*error)),
             Ok(Served::Cut) => {
-                let bytes = self.count.so_far();
-                self.tell(&Event::Cut { bytes });
-                self.tell_unsaid(input);
+                let bytes = watching.count.so_far();
+                watching.tell(&SessionEvent::Cut { bytes });
+                watching.tell_unsaid(input);
             }
             Ok(Served::Ended(ended)) => {
-                self.tell_ended(ended);
-                self.tell_unsaid(input);
+                watching.tell_ended(ended, last);
+                watching.tell_unsaid(input);
             }
-            Err(_) if self.inside.is_some() => self.tell(&Event::SessionWithoutMemory),
-            Err(_) => self.tell_no_login("out of memory"),
-        }
-        self.at.connection.hang_up();
-        if let Some(inside) = &self.inside {
-            inside.guests.leave();
+            Err(_) if watching.judged.is_some() => watching.tell(&SessionEvent::NoMeans),
+            Err(_) => watching.guest.tell_no_login("out of memory"),
         }
     }
 }
@@ -363,7 +315,10 @@ impl<'a, R: Wait + Clock + Copy + Drop> Watcher<QuickView, Arc<Station>, ClientI
     ghost session = { λ w. w.session };
 
     fn logged_in(&mut self, claim: &Claim) -> bool {
-        self.turned_away = self.complete(claim);
+        self.turned_away = self.judge(claim);
+        if self.turned_away == Some(TurnedAway::Wrong) {
+            self.tell_wrong();
+        }
         self.turned_away.is_none()
     }
 
@@ -371,36 +326,39 @@ impl<'a, R: Wait + Clock + Copy + Drop> Watcher<QuickView, Arc<Station>, ClientI
         &mut self,
         reader: &mut ClientInput<'a, R>,
         claim: &Claim,
-        network: &Arc<Station>,
+        _network: &Arc<Station>,
     ) -> Result<Arc<Network<QuickView>>, AttachError> {
-        // the next login may have the seat
-        drop(self.seat.take());
-        self.tell(&Event::LoggedIn {
-            peer: self.at.peer,
+        self.tell(&SessionEvent::LoggedIn {
+            peer: self.guest.peer,
             caps: claim.caps,
         });
-        let network = self.enter(claim, network.slot())?;
-        self.set_timeouts()?;
-        if let Some(inside) = &self.inside {
-            reader.begin_session(Arc::try_clone(&network)?, inside.guests.pace());
+        let entered = self.enter(reader);
+        if entered.is_err() {
+            // the reason is sent after this, if the last line is this thread's own
+            let _ = self.last_line();
         }
-        self.count.begin();
-        Ok(network)
+        entered
     }
 
     fn refused(&mut self, refusal: Refusal) {
         self.refusal = Some(refusal);
-        if refusal == Refusal::Denied {
-            self.deny_late();
+        if let (Refusal::Denied, Some(Judged::Wrong(time))) = (refusal, self.judged) {
+            self.tell_wrong();
+            self.guest.wait_until(time);
+        }
+        if let Refusal::Denied | Refusal::NotAttached(_) = refusal {
+            // the reason is sent after this, if the last line is this thread's own
+            let _ = self.last_line();
         }
     }
 
     fn attached(&mut self, id: SessionId) {
         self.session = Some(id);
+        self.guest.shared.journals().ring();
     }
 
     fn caps_changed(&mut self, caps: Caps) {
-        self.tell(&Event::CapsChanged { caps });
+        self.tell(&SessionEvent::CapsChanged { caps });
     }
 
     fn ended(&mut self, why: Leave) {

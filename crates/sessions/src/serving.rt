@@ -193,7 +193,7 @@ pub fn serve<
 /// Lets a client log in, asks whether its claim is right and its network among these, and serves
 /// it. A client that is not let in, for its password or its network, gets
 /// `:bnc 464 * :Password incorrect`; a network whose place is not among these is an unknown one. The
-/// watcher is told each step, and lends the network.
+/// watcher is told each step, and lends the network. The password is dropped once it is let in.
 /// `OutOfMemory` also if no thread can be started; then there is no session.
 pub fn serve_session<
     V: NetworkView + Drop,
@@ -246,6 +246,8 @@ pub fn serve_session<
             return Ok(Served::Refused(error));
         }
     };
+    let mut claim = claim;
+    claim.password = Vec::new(worker.alloc);
     match serve(worker, reader, writer, &claim, unread, &network, watcher) {
         Ok((_, ended, _)) => Ok(Served::Ended(ended)),
         Err(ServeFault::Refused(error)) => Ok(Served::Refused(error)),

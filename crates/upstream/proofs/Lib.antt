@@ -1,3 +1,4 @@
+pub mod Accounts
 pub mod BegunLemmas
 pub mod Ends
 pub mod OfferLemmas

@@ -4,7 +4,10 @@ use Rattle.std.proofs.Common.{append-nil, arith, codes, false, filter, map, refl
 use Rattle.std.proofs.{Common.{◌==◌, ◌||◌, ◌∷◌, ◌≡◌}, Math.Bool.or-false}
 use Rattle.std.proofs.lemmas.List.Folds.{flat_map-map, list_all-append, list_any-append}
 use Rattle.std.specs.List.{flat_map, join_by, list_all, list_any, slice_split}
-use Rattle.upstream.specs.Registration.{is_list, is_offered, is_word_for, last_param, named}
+use Rattle.sasl.specs.Said.{last_param}
+use Rattle.bnc_config.specs.Settings.{SaslSettings}
+use Rattle.upstream.specs.Registration.{is_list, is_login_offered, is_offered, is_word_for, named}
+use Rattle.upstream.specs.Registration.{offers_login}
 use Rattle.upstream.specs.{Registration.{names_of, offered_by, offers, our_caps}, Said.said}
 use Rattle.upstream.specs.declared.offers.Offered.{Offered}
 
@@ -12,6 +15,13 @@ use Rattle.upstream.specs.declared.offers.Offered.{Offered}
 offered_more : (name : List ℕ) (before : List Parts) (line : Parts)
     → is_offered (before ++ line ∷ []) name ≡ (is_offered before name || offers name line)
 offered_more name before line = rw (list_any-append (offers name) before (line ∷ []), or-false)
+
+-- the same of a login
+pub login_offered_more : (account : SaslSettings) (before : List Parts) (line : Parts)
+    → is_login_offered account (before ++ line ∷ [])
+    ≡ (is_login_offered account before || offers_login account line)
+login_offered_more account before line =
+    rw (list_any-append (offers_login account) before (line ∷ []), or-false)
 
 -- which are offered after one more line
 offered_by_more : (before : List Parts) (line : Parts) (offered : Offered)

@@ -29,13 +29,13 @@ cause_behind network before lines _ h = absurd h
 -- what is said of lines at each network, behind others that were taken
 abbrev Of : Progress → (NetworkSettings → List Parts → Type 0) → Type 0
 Of old P = (network : NetworkSettings) (before : List Parts) → HasTaken network before old
-    → has_ended before ≡ false → P network before
+    → has_ended network before ≡ false → P network before
 
 module _ (first : Progress) (u v w : Option (List ℕ)) (old : Progress) (before lines : List Parts)
     (h : GoesOn first u v old before) where
   pub goes_on : (new : Progress)
       → Of old (λ network before. HasTaken network (before ++ lines) new
-      × (has_ended (before ++ lines) ≡ false)
+      × (has_ended network (before ++ lines) ≡ false)
       × Appends v w (bytes_of (sent_for network before lines)))
       → GoesOn first u w new (before ++ lines)
   goes_on new next network taken =

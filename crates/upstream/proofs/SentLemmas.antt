@@ -7,7 +7,10 @@ use Rattle.std.proofs.Common.{append_assoc, arith, drop, false, get_or, length, 
 use Rattle.std.{proofs.{KnownBytes.Appends-trans, lemmas.Bool.or_from}, specs.Io.KnownBytes.Appends}
 use Rattle.{std.specs.Prelude.if◌then◌else◌, upstream.proofs.Ends.ended_step}
 use Rattle.upstream.specs.Handshake.{IsCauseOf, IsLinesCause, IsStepCause, all_sent, lines_in}
-use Rattle.upstream.specs.{Handshake.sent_for, Registration.{answer_to, fails_or_sends, fault_of}}
+use Rattle.sasl.specs.Login as login
+use Rattle.upstream.specs.declared.registration.RegisterFault.TheVariants as fault
+use Rattle.upstream.specs.{Handshake.sent_for, Registration.{answer_to, fails_or, fault_of}}
+use Rattle.upstream.specs.Registration.{answer_of_login, fails, login_or, needs_no_login}
 use Rattle.upstream.specs.Registration.{first_lines, has_ended, is_end, is_welcome, join_lines}
 use Rattle.upstream.specs.{Registration.{reply_to, sends, welcomes}, Said.said}
 use Rattle.upstream.specs.declared.handshake.DialFault.{DialFault, TheVariants.{Memory, Register}}
@@ -30,19 +33,22 @@ sent_bytes network before done rest lines is =
     rw (is, sent_append network before done rest) (bytes_more (sent_for network before done) _)
 
 -- a welcome sends JOIN for each channel
-welcome_in : (ended w : Bool) (joins lines replies : List Parts) (f : Option RegisterFault)
-    → welcomes lines
-    ≡ (if ended then sends [] else if w then welcomes joins else fails_or_sends f replies)
-    → (if ended then sends [] else if w then welcomes joins else fails_or_sends f replies)
-    ≡ welcomes joins
-welcome_in ended w joins lines replies f is = grind arith
+welcome_in : (ended w needs : Bool) (joins lines replies : List Parts) (f : Option RegisterFault)
+    (a : login.Answer) → welcomes lines
+    ≡ (if ended then sends [] else if w then if needs then welcomes joins
+    else fails fault.SaslFailed else fails_or f (login_or a replies))
+    → (if ended then sends [] else if w then if needs then welcomes joins
+    else fails fault.SaslFailed else fails_or f (login_or a replies)) ≡ welcomes joins
+welcome_in ended w needs joins lines replies f a is = grind arith
 
 pub welcome_is : (network : NetworkSettings) (before : List Parts) (line : Parts)
     (lines : List Parts) → welcomes lines ≡ answer_to network before line
     → answer_to network before line ≡ welcomes (join_lines network)
 welcome_is network before line lines is =
-    welcome_in (has_ended before) (is_welcome (said line)) (join_lines network) lines
-    (reply_to network before line (said line)) (fault_of before (said line)) is
+    welcome_in (has_ended network before) (is_welcome (said line))
+    (needs_no_login network.sasl before) (join_lines network) lines
+    (reply_to network before line (said line)) (fault_of before (said line))
+    (answer_of_login network.sasl before line) is
 
 -- ---- the line at a place of some lines, behind those that were taken
 
@@ -60,9 +66,9 @@ module _ (network : NetworkSettings) (before lines : List Parts) (i : ℕ) (line
       rw (sent_bytes network before (take i lines) (line ∷ []) _ one, append-nil)
       (Appends-trans u v w _ _ first next)
 
-  pub still_going : has_ended (before ++ take i lines) ≡ false
+  pub still_going : has_ended network (before ++ take i lines) ≡ false
       → is_end (answer_to network (before ++ take i lines) line) ≡ false
-      → has_ended (before ++ take (i + 1) lines) ≡ false
+      → has_ended network (before ++ take (i + 1) lines) ≡ false
   still_going going none =
       rw one_behind
       (ended_step network (before ++ take i lines) line ∙ or_from _ _ going none)

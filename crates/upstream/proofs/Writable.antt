@@ -72,13 +72,23 @@ pub user_is_writable : (user realname : List ℕ) → text.is_word user ≡ true
 user_is_writable user realname word line =
     rw (word_is_word user word, word_is_clean user word, one_line_is_clean realname line)
 
--- one of the channels is clean
-pub channel_is_clean : (channels : List (List ℕ)) (i : ℕ) (channel : List ℕ)
+-- one of the channels is a word
+pub channel_is_word : (channels : List (List ℕ)) (i : ℕ) (channel : List ℕ)
     → list_all text.is_word channels ≡ true
-    → i < length channels → channel ≡ get_or channels i channel → is_clean channel ≡ true
-channel_is_clean channels i channel words within is =
-    word_is_clean channel
-    (rw (← is) at (AllPass-from_list_all text.is_word channels words i channel within))
+    → i < length channels → channel ≡ get_or channels i channel → text.is_word channel ≡ true
+channel_is_word channels i channel words within is =
+    rw (← is) at (AllPass-from_list_all text.is_word channels words i channel within)
+
+-- JOIN with a key can be written
+pub keyed_is_writable : (channel key : List ℕ) → text.is_word channel ≡ true
+    → text.is_channel_key key ≡ true
+    → is_writable (command (codes "JOIN") (channel ∷ key ∷ [])) ≡ true
+keyed_is_writable channel key word clean =
+    rw (
+      word_is_word channel word,
+      word_is_clean channel word,
+      word_is_clean key (and_parts (text.is_word key) _ clean).0,
+    )
 
 -- PONG can be written where the PING can
 pub pong_is_writable : (ping : Parts) → is_writable ping ≡ true

@@ -57,7 +57,7 @@ abbrev pub IsCauseOf : NetworkSettings → List ℕ → DialFault → Type 0
 IsCauseOf network bytes Memory = Unit {0}
 IsCauseOf network bytes Write = is_too_long bytes ≡ false
 IsCauseOf network bytes TooLong = IsTrue (is_too_long bytes)
-IsCauseOf network bytes Read = (is_too_long bytes ≡ false) × (has_ended (lines_of bytes) ≡ false)
+IsCauseOf network bytes Read = (is_too_long bytes ≡ false) × (has_ended network (lines_of bytes) ≡ false)
 IsCauseOf network bytes (Register f) =
     (is_too_long bytes ≡ false) × HasFault network (lines_of bytes) (fails f)
 
@@ -100,7 +100,7 @@ outcome_of _ = Err Read
 pub record IsGoing (network : NetworkSettings) (was now : Option (List ℕ)) (register : Progress)
     (lines : List Parts) : Type 0 where
   pub taken : HasTaken network lines register
-  pub going : has_ended lines ≡ false
+  pub going : has_ended network lines ≡ false
   pub sent : Appends was now (bytes_of (sent_for network [] lines))
 
 -- the same, of each network at which it began

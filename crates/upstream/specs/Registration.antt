@@ -1,16 +1,20 @@
 -- What a registration sends, and how it ends, after a list of lines of the network (RFC 2812,
 -- section 3.1; IRCv3 capability negotiation). How often another nick is tried, that it gets a mark
 -- more each time, and the limit of lines are our own choice.
-use Rattle.std.specs.Prelude.{ℕ, ◌+◌, ◌-◌, Bool, true, false, ◌&&◌, ◌||◌, ◌==◌, nat_le, List, []}
+use Rattle.std.specs.Prelude.{ℕ, ◌+◌, Bool, true, false, ◌&&◌, ◌||◌, ◌==◌, nat_le, List, []}
 use Rattle.std.specs.Prelude.{◌∷◌, ◌++◌}
-use Rattle.std.specs.Prelude.{length, map, filter, count_by, slice_get, codes, unwrap_or, replicate}
+use Rattle.std.specs.Prelude.{length, map, filter, count_by, codes, unwrap_or, replicate}
 use Rattle.std.specs.Prelude.{position, take}
-use Rattle.std.specs.Prelude.{Option, Some, None, if◌then◌else◌}
+use Rattle.std.specs.Prelude.{Option, Some, None, if◌then◌else◌, is_some, not}
 use Rattle.std.specs.List.{join_by, list_any, slice_split}
 use Rattle.std.specs.Str.{bytes_eq}
 use Rattle.irc_line.specs.Line.{Parts}
 use Rattle.irc_line.specs.Writing.{untagged_line}
-use Rattle.bnc_config.specs.Settings.{NetworkSettings}
+use Rattle.bnc_config.specs.Settings.{ChannelKey, NetworkSettings, SaslSettings, key_for}
+use Rattle.sasl.specs.Login as login
+use Rattle.sasl.specs.Offer as sasl_offer
+use Rattle.sasl.specs.Response.{mechanism_of}
+use Rattle.sasl.specs.Said.{last_param}
 use Rattle.upstream.specs.Said.{said}
 use Rattle.upstream.specs.declared.offers.Offered.{Offered}
 use Rattle.upstream.specs.declared.registration.RegisterFault.{RegisterFault}
@@ -58,11 +62,23 @@ request_of (name ∷ names) =
 abbrev pub pong_line : Parts → Parts
 pong_line line = command (codes "PONG") line.params
 
-abbrev pub join_line : List ℕ → Parts
-join_line channel = command (codes "JOIN") (channel ∷ [])
+abbrev pub key_params : Option (List ℕ) → List (List ℕ)
+key_params None = []
+key_params (Some key) = key ∷ []
 
+-- a channel is joined with its key, if the settings have one (RFC 2812, section 3.2.1)
+abbrev pub join_line : List ChannelKey → List ℕ → Parts
+join_line keys channel = command (codes "JOIN") (channel ∷ key_params (key_for keys channel))
+
+-- a line for each channel, in the order of the settings
+abbrev pub channel_lines : NetworkSettings → List Parts
+channel_lines network = map (join_line network.options.keys) network.join
+
+-- what is sent once we are in: if the settings have lines to be sent before the channels are joined,
+-- nothing
 abbrev pub join_lines : NetworkSettings → List Parts
-join_lines network = map join_line network.join
+join_lines network =
+    if length network.options.on_connect == 0 then channel_lines network else []
 
 -- ---- the capabilities that are asked for
 
@@ -76,10 +92,6 @@ abbrev pub is_list : Said → Bool
 is_list says.List = true
 is_list says.LastList = true
 is_list _ = false
-
--- the last parameter, which is the list of a CAP LS
-abbrev pub last_param : Parts → List ℕ
-last_param line = unwrap_or (slice_get line.params (length line.params - 1)) []
 
 -- what stands in a word before its first `=`, else the word
 abbrev pub before_value : List ℕ → List ℕ
@@ -123,6 +135,46 @@ names_of offered =
     ++ (named offered.away_notify (codes "away-notify")
     ++ named offered.server_time (codes "server-time"))))
 
+-- ---- the login to an account, where the settings have one
+
+-- the line has a list that offers a login by the account's mechanism
+abbrev pub offers_login : SaslSettings → Parts → Bool
+offers_login account line =
+    is_list (said line) && sasl_offer.offers (mechanism_of account) (last_param line)
+
+abbrev pub is_login_offered : SaslSettings → List Parts → Bool
+is_login_offered account lines = list_any (offers_login account) lines
+
+abbrev pub is_last_list : Said → Bool
+is_last_list says.LastList = true
+is_last_list _ = false
+
+-- what a login does for a line behind these: it fails if the last list has come and none offered it
+-- (IRCv3 sasl 3.1, 3.2); else as `sasl` has it
+abbrev pub account_answer : SaslSettings → List Parts → Parts → login.Answer
+account_answer account before line =
+    if is_last_list (said line) && not (is_login_offered account (before ++ line ∷ []))
+    then login.fails else login.answer_to account before line
+
+abbrev pub answer_of_login : Option SaslSettings → List Parts → Parts → login.Answer
+answer_of_login None before line = login.nothing
+answer_of_login (Some account) before line = account_answer account before line
+
+-- the login failed at one of the lines, behind those before it
+abbrev pub fails_behind : Option SaslSettings → List Parts → List Parts → Bool
+fails_behind account before [] = false
+fails_behind account before (line ∷ lines) =
+    login.is_failed (answer_of_login account before line)
+    || fails_behind account (before ++ line ∷ []) lines
+
+abbrev pub has_login_failed : NetworkSettings → List Parts → Bool
+has_login_failed network lines = fails_behind network.sasl [] lines
+
+-- no login is wanted, or the network has said that we are logged in
+abbrev pub needs_no_login : Option SaslSettings → List Parts → Bool
+needs_no_login None lines = true
+needs_no_login (Some account) lines = login.is_logged_in lines
+
 -- ---- how it ends
 
 abbrev pub is_in_use : Said → Bool
@@ -140,13 +192,14 @@ is_final says.BadNick = true
 is_final says.Refused = true
 is_final _ = false
 
--- the lines ended a registration: one of them ended it, the nick was another's four times, or
--- 10,000 came (that each of these is one end, and there is no other, is a law:
+-- the lines ended a registration: one of them ended it, the login failed, the nick was another's
+-- four times, or 10,000 came (that each of these is one end, and there is no other, is a law:
 -- `laws::a_registration_ends_once`)
-abbrev pub has_ended : List Parts → Bool
-has_ended lines =
+abbrev pub has_ended : NetworkSettings → List Parts → Bool
+has_ended network lines =
     list_any (λ line. is_final (said line)) lines
-    || (nat_le 4 (tries_in lines) || nat_le 10000 (length lines))
+    || (has_login_failed network lines
+    || (nat_le 4 (tries_in lines) || nat_le 10000 (length lines)))
 
 -- ---- the answer to a line
 
@@ -169,11 +222,13 @@ fault_of before says.NickInUse =
     if tries_in before == 3 then Some fault.NickInUse else fault_by_count before
 fault_of before _ = fault_by_count before
 
--- what is sent for a line which says this, behind lines that have not ended the registration
+-- what is sent for a line which says this, behind lines that have not ended the registration, if the
+-- login sends nothing for it; with a login the negotiation of capabilities ends by the login
 abbrev pub reply_to : NetworkSettings → List Parts → Parts → Said → List Parts
 reply_to network before line says.LastList =
-    request_of (filter (is_offered (before ++ line ∷ [])) our_caps) ∷ []
-reply_to network before line says.CapAnswered = cap_end ∷ []
+    request_of (filter (is_offered (before ++ line ∷ [])) our_caps
+    ++ named (is_some network.sasl) (codes "sasl")) ∷ []
+reply_to network before line says.CapAnswered = if is_some network.sasl then [] else cap_end ∷ []
 reply_to network before line says.NickInUse =
     nick_line (marked network.nick (tries_in before + 1)) ∷ []
 reply_to network before line says.Ping = pong_line line ∷ []
@@ -183,16 +238,29 @@ abbrev pub is_welcome : Said → Bool
 is_welcome says.Welcome = true
 is_welcome _ = false
 
-abbrev pub fails_or_sends : Option RegisterFault → List Parts → Answer
-fails_or_sends (Some f) lines = fails f
-fails_or_sends None lines = sends lines
+abbrev pub fails_or : Option RegisterFault → Answer → Answer
+fails_or (Some f) answer = fails f
+fails_or None answer = answer
+
+abbrev pub login_or : login.Answer → List Parts → Answer
+login_or login.nothing lines = sends lines
+login_or (login.sends lines) _ = sends lines
+login_or login.fails _ = fails fault.SaslFailed
+
+-- a welcome is a fault as long as we are not logged in
+abbrev pub answer_to_welcome : NetworkSettings → List Parts → Answer
+answer_to_welcome network before =
+    if needs_no_login network.sasl before then welcomes (join_lines network)
+    else fails fault.SaslFailed
 
 -- the answer to a line behind these lines: nothing once it has ended
 abbrev pub answer_to : NetworkSettings → List Parts → Parts → Answer
 answer_to network before line =
-    if has_ended before then sends [] else
-    if is_welcome (said line) then welcomes (join_lines network) else
-    fails_or_sends (fault_of before (said line)) (reply_to network before line (said line))
+    if has_ended network before then sends [] else
+    if is_welcome (said line) then answer_to_welcome network before else
+    fails_or (fault_of before (said line))
+    (login_or (answer_of_login network.sasl before line)
+    (reply_to network before line (said line)))
 
 abbrev pub is_end : Answer → Bool
 is_end (sends lines) = false

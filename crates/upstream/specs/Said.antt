@@ -2,25 +2,16 @@
 -- capability negotiation). Commands and subcommands are compared without regard to the case of
 -- ASCII letters; that the subcommand of CAP is parameter 1, and its list the last, is our own
 -- choice.
-use Rattle.std.specs.Prelude.{ℕ, Bool, false, ◌&&◌, ◌||◌, ◌==◌, List, length, codes}
-use Rattle.std.specs.Prelude.{slice_get}
+use Rattle.std.specs.Prelude.{◌&&◌, ◌||◌, ◌==◌, length, codes}
 use Rattle.std.specs.Prelude.{if◌then◌else◌}
-use Rattle.std.specs.Option.{option_map_or}
-use Rattle.std.specs.Str.{bytes_eq, str_eq_ignore_ascii_case}
+use Rattle.std.specs.Str.{bytes_eq}
 use Rattle.irc_line.specs.Line.{Parts, has_command}
 use Rattle.irc_names.specs.Nick.{is_nameable}
+use Rattle.sasl.specs.Said.{has_param, has_subcommand}
 use Rattle.upstream.specs.declared.said.Said.{Said}
 use Rattle.upstream.specs.declared.said.Said.TheVariants.{BadNick, CapAnswered, LastList}
 use Rattle.upstream.specs.declared.said.Said.TheVariants.{List as SomeList}
 use Rattle.upstream.specs.declared.said.Said.TheVariants.{NickInUse, Other, Ping, Refused, Welcome}
-
--- the parameter at this place, counted from 0, passes the test
-abbrev pub has_param : (List ℕ → Bool) → ℕ → Parts → Bool
-has_param test place line = option_map_or test (slice_get line.params place) false
-
--- the subcommand of CAP is this
-abbrev pub has_subcommand : List ℕ → Parts → Bool
-has_subcommand word line = has_param (λ param. str_eq_ignore_ascii_case param word) 1 line
 
 -- of a CAP line: `CAP * LS * :names` has some names of several lists, `CAP * LS :names` the last or
 -- the only ones; `CAP * ACK` and `CAP * NAK` answer a request

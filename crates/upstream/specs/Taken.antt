@@ -1,10 +1,12 @@
 -- Where a registration stands after a list of lines.
-use Rattle.std.specs.Prelude.{◌≡◌, false, List, length}
+use Rattle.std.specs.Prelude.{◌≡◌, false, List, Option, Some, None, length}
 use Rattle.irc_line.specs.Line.{Parts}
-use Rattle.bnc_config.specs.Settings.{NetworkSettings}
+use Rattle.bnc_config.specs.Settings.{NetworkSettings, SaslSettings}
+use Rattle.sasl.specs.Login as login
 use Rattle.upstream.specs.Registration.{Answer, sends, welcomes, fails, has_ended, join_lines}
-use Rattle.upstream.specs.Registration.{offered_by, tries_in}
+use Rattle.upstream.specs.Registration.{is_login_offered, offered_by, tries_in}
 use Rattle.upstream.specs.Progress.{Progress}
+use Rattle.upstream.specs.declared.account.AccountLogin.{AccountLogin}
 use Rattle.upstream.specs.declared.registration.Step.{Step}
 use Rattle.upstream.specs.declared.registration.Step.TheVariants.{Send, Done, Fault}
 
@@ -14,6 +16,19 @@ answer_of (Send lines) = sends lines.items
 answer_of (Done lines) = welcomes lines.items
 answer_of (Fault f) = fails f
 
+-- a login to this account has taken these lines
+abbrev pub IsLogin : SaslSettings → List Parts → AccountLogin → Type 0
+IsLogin account lines known = record {
+  taken : login.HasTaken account lines known.login;
+  offered : known.is_offered ≡ is_login_offered account lines;
+}
+
+-- there is a login if one is wanted
+abbrev pub IsLoginAt : Option SaslSettings → List Parts → Option AccountLogin → Type 0
+IsLoginAt None lines None = Unit {0}
+IsLoginAt (Some account) lines (Some known) = IsLogin account lines known
+IsLoginAt _ lines _ = ⊥
+
 -- a registration that has not ended knows what the lines said of it
 abbrev pub IsAt : NetworkSettings → List Parts → Progress → Type 0
 IsAt network lines register = record {
@@ -22,11 +37,12 @@ IsAt network lines register = record {
   offered : register.offered ≡ offered_by lines;
   tries : register.tries ≡ tries_in lines;
   count : register.count ≡ length lines;
+  login : IsLoginAt network.sasl lines register.login;
 }
 
 -- a registration at the network has taken these lines
 abbrev pub HasTaken : NetworkSettings → List Parts → Progress → Type 0
 HasTaken network lines register = record {
-  over : register.is_over ≡ has_ended lines;
-  going : has_ended lines ≡ false → IsAt network lines register;
+  over : register.is_over ≡ has_ended network lines;
+  going : has_ended network lines ≡ false → IsAt network lines register;
 }

@@ -15,7 +15,7 @@ ghost use Rattle.upstream.specs.Taken.{HasTaken};
 
 use crate::OutOfMemory;
 use crate::registration::{Register, RegisterFault, Step};
-use crate::writing::send;
+use crate::writing::{send, send_any};
 use bnc_config::NetworkConfig;
 use irc_line::{InputEnd, Line, LineTaker, Splitter, read_from_start};
 use std::alloc::Global;
@@ -92,9 +92,7 @@ fn take_line<W: Write>(
 {
     match register.line(line)? {
         Step::Send(lines) => {
-            if !lines.is_empty() {
-                send(alloc, lines.as_slice(), writer)?;
-            }
+            send_any(alloc, lines.as_slice(), writer)?;
             Ok(false)
         }
         Step::Done(lines) => {
@@ -113,21 +111,21 @@ fn take_lines<W: Write>(
     writer: &mut W,
 ) -> Result<Option<usize>, DialFault>
     ensures none { (network : NetworkSettings) (before : List Parts) →
-        HasTaken network before register.old → has_ended before ≡ false →
+        HasTaken network before register.old → has_ended network before ≡ false →
         IfOk result (λ place. IfNone place (HasTaken network (before ++ lines.now) register.new
-        × (has_ended (before ++ lines.now) ≡ false)
+        × (has_ended network (before ++ lines.now) ≡ false)
         × Appends (W.contents writer.old) (W.contents writer.new)
         (bytes_of (sent_for network before lines.now)))) }
     ensures some { (network : NetworkSettings) (before : List Parts) →
-        HasTaken network before register.old → has_ended before ≡ false →
+        HasTaken network before register.old → has_ended network before ≡ false →
         IfOk result (λ place. IfSome place (λ i. IsWelcomeAt network before lines.now i
         × Appends (W.contents writer.old) (W.contents writer.new)
         (bytes_of (sent_for network before (take (i + 1) lines.now))))) }
     ensures err { (network : NetworkSettings) (before : List Parts) →
-        HasTaken network before register.old → has_ended before ≡ false →
+        HasTaken network before register.old → has_ended network before ≡ false →
         IfErr result (IsLinesCause network before lines.now) }
     ensures begun { (network : NetworkSettings) (before : List Parts) →
-        HasTaken network before register.old → has_ended before ≡ false →
+        HasTaken network before register.old → has_ended network before ≡ false →
         Begins (W.contents writer.old) (W.contents writer.new)
         (bytes_of (sent_for network before lines.now)) }
     ensures within { IfOk result (λ place. IfSome place (λ i. i < length lines.now)) }

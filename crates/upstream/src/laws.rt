@@ -1,18 +1,40 @@
 //! Laws of the definitions that the contracts cite.
 
-ghost use Rattle.std.specs.Prelude.{◌≡◌, ◌||◌, ◌++◌, ◌∷◌, [], List, false, true};
+ghost use Rattle.std.specs.Prelude.{◌≡◌, ◌||◌, ◌++◌, ◌∷◌, [], ℕ, List, Some, false, true};
 ghost use Rattle.irc_line.specs.Line.{Parts};
-ghost use Rattle.bnc_config.specs.Settings.{NetworkSettings};
-ghost use Rattle.upstream.specs.Registration.{answer_to, has_ended, is_end, sends};
+ghost use Rattle.bnc_config.specs.Settings.{NetworkSettings, SaslSettings};
+ghost use Rattle.sasl.specs.Login.{is_answered, is_logged_in};
+ghost use Rattle.upstream.specs.Registration.{answer_to, first_lines, has_ended, is_end, sends};
+ghost use Rattle.upstream.specs.Registration.{welcomes};
 
 /// A registration has ended after one more line exactly where it had ended before or this line's
 /// answer is its end; and what follows its end is answered by nothing.
 pub fn a_registration_ends_once()
-    ensures begins { has_ended [] ≡ false }
+    ensures begins { (network : NetworkSettings) → has_ended network [] ≡ false }
     ensures step { (network : NetworkSettings) (before : List Parts) (line : Parts) →
-        has_ended (before ++ line ∷ [])
-        ≡ (has_ended before || is_end (answer_to network before line)) }
+        has_ended network (before ++ line ∷ [])
+        ≡ (has_ended network before || is_end (answer_to network before line)) }
     ensures nothing_more { (network : NetworkSettings) (before : List Parts) (line : Parts) →
         is_end (answer_to network before line) ≡ true → (after : List Parts) (next : Parts) →
         answer_to network (before ++ line ∷ after) next ≡ sends [] }
+{}
+
+/// If the settings have an account, a registration completes only after the network has said that we
+/// are logged in.
+pub fn no_welcome_without_the_login()
+    ensures { (network : NetworkSettings) (account : SaslSettings) (before : List Parts)
+        (line : Parts) (lines : List Parts) → network.sasl ≡ Some account →
+        answer_to network before line ≡ welcomes lines → is_logged_in before ≡ true }
+{}
+
+/// The first lines, and the answers to all lines except the one for which `sasl` sends its response,
+/// are the same whatever the account's password is.
+pub fn the_password_is_sent_for_one_line()
+    ensures not_first { (network : NetworkSettings) (one other : SaslSettings) →
+        first_lines (record network { sasl = Some one })
+        ≡ first_lines (record network { sasl = Some other }) }
+    ensures else_alike { (network : NetworkSettings) (user one other : List ℕ)
+        (before : List Parts) (line : Parts) → is_answered before line ≡ false →
+        answer_to (record network { sasl = Some (Some (user, one)) }) before line
+        ≡ answer_to (record network { sasl = Some (Some (user, other)) }) before line }
 {}

@@ -1,6 +1,7 @@
 //! A network: the registration at it, and a connection from its first byte to its end.
 #![tactic(auto)]
 
+mod account;
 mod dialled;
 mod handshake;
 mod keeper;
@@ -18,5 +19,6 @@ pub use handshake::{DialFault, Welcomed, register};
 pub use keeper::Keeper;
 pub use link::Link;
 pub use registration::{Register, RegisterFault, Step};
+pub use sending::channel_lines;
 pub use serving::{NetworkEnd, Served, serve_network};
 pub use std::alloc::AllocError as OutOfMemory;

@@ -1,14 +1,15 @@
 //! Which capabilities a network offers.
 
-ghost use Rattle.std.specs.Prelude.{◌≡◌, ◌==◌, ◌++◌, ◌∷◌, [], List, IfOk, OnOk, map};
+ghost use Rattle.std.specs.Prelude.{◌≡◌, ◌==◌, ◌++◌, ◌∷◌, [], List, IfOk, OnOk, codes, map};
 ghost use Rattle.std.specs.List.{list_any, slice_split};
 ghost use Rattle.irc_line.specs.Line.{Parts};
-ghost use Rattle.upstream.specs.Registration.{is_word_for, last_param, named, names_of, offered_by};
+ghost use Rattle.upstream.specs.Registration.{is_word_for, named, names_of, offered_by};
 ghost use Rattle.upstream.specs.Said.{said};
 
 use crate::OutOfMemory;
 use crate::said::Said;
 use irc_line::{Line, place_of, split_byte};
+use sasl::last_param;
 use std::alloc::Global;
 
 /// Which of the capabilities that we can use were offered.
@@ -43,16 +44,6 @@ fn has_word_for(name: &[u8], list: &[u8]) -> bool
         rest = after;
     }
     is_word_for(name, rest)
-}
-
-/// The last parameter of a line; empty where it has none.
-fn last_param(line: &Line) -> &[u8]
-    ensures { result.now ≡ last_param line.now }
-{
-    match line.param(line.param_count().saturating_sub(1)) {
-        Some(param) => param,
-        None => b"",
-    }
 }
 
 /// Adds the name of a capability, where it was offered.
@@ -105,16 +96,18 @@ impl Offered {
         }
     }
 
-    /// The names of those that were offered, in the order of a request.
-    pub fn names(self, alloc: Global) -> Result<Vec<&'static str>, OutOfMemory>
-        ensures { IfOk result (λ names. map (λ n. n.now) names.items ≡ names_of self) }
+    /// The names of those that were offered, in the order of a request, and of `sasl` if we log in.
+    pub fn names(self, alloc: Global, logs_in: bool) -> Result<Vec<&'static str>, OutOfMemory>
+        ensures { IfOk result (λ names.
+            map (λ n. n.now) names.items ≡ names_of self ++ named logs_in (codes "sasl")) }
     {
-        let mut names = Vec::with_capacity(alloc, 5)?;
+        let mut names = Vec::with_capacity(alloc, 6)?;
         push_offered(&mut names, "multi-prefix", self.multi_prefix)?;
         push_offered(&mut names, "extended-join", self.extended_join)?;
         push_offered(&mut names, "account-notify", self.account_notify)?;
         push_offered(&mut names, "away-notify", self.away_notify)?;
         push_offered(&mut names, "server-time", self.server_time)?;
+        push_offered(&mut names, "sasl", logs_in)?;
         Ok(names)
     }
 }

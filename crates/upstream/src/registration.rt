@@ -1,19 +1,24 @@
 //! The registration at a network, line by line.
 
 ghost use Rattle.std.specs.Prelude.{◌≡◌, ◌≢◌, ◌<◌, ◌++◌, ◌∷◌, [], List, IfNone, IfOk, OnErr, OnOk};
+ghost use Rattle.std.specs.Prelude.{IfSome, true};
 ghost use Rattle.irc_line.specs.Line.{Parts};
 ghost use Rattle.bnc_config.specs.Settings.{NetworkSettings};
 ghost use Rattle.upstream.specs.Said.{said};
-ghost use Rattle.upstream.specs.Registration.{answer_to, fault_of, first_lines, offered_by};
-ghost use Rattle.upstream.specs.Registration.{reply_to};
-ghost use Rattle.upstream.specs.Taken.{HasTaken, IsAt, answer_of};
+ghost use Rattle.sasl.specs.Login as login;
+ghost use Rattle.upstream.specs.Registration.{answer_of_login, answer_to, answer_to_welcome};
+ghost use Rattle.upstream.specs.Registration.{fails, fault_of, first_lines, login_or, offered_by};
+ghost use Rattle.upstream.specs.Registration.{reply_to, sends};
+ghost use Rattle.upstream.specs.Taken.{HasTaken, IsAt, IsLoginAt, answer_of};
 
 use crate::OutOfMemory;
+use crate::account::AccountLogin;
 use crate::offers::Offered;
 use crate::said::Said;
 use crate::sending::{cap_end, first_lines, join_lines, nick_line, pong_line, request_line};
 use bnc_config::NetworkConfig;
 use irc_line::Line;
+use sasl::LoginStep;
 use std::alloc::Global;
 use std::marker::Model;
 use std::mem;
@@ -34,6 +39,10 @@ pub enum RegisterFault {
     /// 10,000 lines came without a welcome.
     #[error("no welcome")]
     NoWelcome,
+    /// The settings have an account, and the network did not offer, acknowledge or take the login
+    /// (902, 904, 905, 906, 908, `CAP NAK`), or welcomed us without it.
+    #[error("SASL failed")]
+    SaslFailed,
 }
 
 /// What follows from one line of the network.
@@ -41,7 +50,8 @@ pub enum RegisterFault {
 pub enum Step {
     /// These lines are to be sent; the registration goes on.
     Send(Vec<Line>),
-    /// We are in, under the nick of the line; these lines are to be sent.
+    /// We are in, under the nick of the line; these lines are to be sent: a JOIN for each channel,
+    /// or nothing if the settings have lines that are to be sent before them.
     Done(Vec<Line>),
     /// It failed.
     Fault(RegisterFault),
@@ -72,6 +82,7 @@ pub struct Register {
     tries: usize,
     // how many lines came
     count: usize,
+    login: Option<AccountLogin>,
     is_over: bool,
 }
 
@@ -88,6 +99,7 @@ impl Model for Register {
       offered = register.offered;
       tries = register.tries;
       count = register.count;
+      login = register.login;
       is_over = register.is_over;
     } };
 
@@ -96,6 +108,21 @@ impl Model for Register {
       few_tries : register.tries ≤ 3;
       few_lines : register.count ≤ 9999;
     } };
+}
+
+/// What is sent for a line, by what the login does for it and what is sent if it does nothing;
+/// `None` if the login failed.
+fn lines_of(step: LoginStep, reply: Vec<Line>) -> Option<Vec<Line>>
+    ensures some { IfSome result
+        (λ lines. login_or (login.answer_of step) reply.items ≡ sends lines.items) }
+    ensures none { IfNone result
+        (login_or (login.answer_of step) reply.items ≡ fails RegisterFault.SaslFailed) }
+{
+    match step {
+        LoginStep::Nothing => Some(reply),
+        LoginStep::Send(lines) => Some(lines),
+        LoginStep::Failed => None,
+    }
 }
 
 impl Register {
@@ -115,6 +142,7 @@ impl Register {
             offered: Offered::none(),
             tries: 0,
             count: 0,
+            login: AccountLogin::if_wanted(alloc, network.sasl())?,
             is_over: false,
         };
         Ok((register, lines))
@@ -137,8 +165,8 @@ impl Register {
         }
     }
 
-    /// What is sent for a line, where it does not end the registration; `offered` is with those of
-    /// the line.
+    /// What is sent for a line, where it does not end the registration and the login sends nothing
+    /// for it; `offered` is with those of the line.
     fn reply_to(&self, says: Said, line: &Line, offered: Offered) -> Result<Vec<Line>, OutOfMemory>
         requires { says ≡ Said.NickInUse → self.now.tries < 3 }
         ensures { (network : NetworkSettings) (before : List Parts) → IsAt network before self.now →
@@ -147,8 +175,11 @@ impl Register {
     {
         let alloc = *self.nick.allocator();
         let reply = match says {
-            Said::LastList => request_line(alloc, offered.names(alloc)?.as_slice())?,
-            Said::CapAnswered => cap_end(alloc)?,
+            Said::LastList => {
+                let names = offered.names(alloc, self.login.is_some())?;
+                request_line(alloc, names.as_slice())?
+            }
+            Said::CapAnswered if self.login.is_none() => cap_end(alloc)?,
             Said::NickInUse => nick_line(alloc, self.nick.as_slice(), self.tries + 1)?,
             Said::Ping => pong_line(alloc, line)?,
             _ => return Ok(Vec::new(alloc)),
@@ -158,10 +189,42 @@ impl Register {
         Ok(lines)
     }
 
+    /// What follows from a welcome.
+    fn welcomed(&mut self) -> Step
+        ensures answer { (network : NetworkSettings) (before : List Parts) →
+            IsAt network before self.old → answer_of result ≡ answer_to_welcome network before }
+        ensures over { self.new.is_over ≡ true }
+    {
+        let alloc = *self.nick.allocator();
+        self.is_over = true;
+        match &self.login {
+            Some(login) if !login.is_logged_in() => Step::Fault(RegisterFault::SaslFailed),
+            _ => Step::Done(mem::replace(&mut self.joins, Vec::new(alloc))),
+        }
+    }
+
+    /// What the login does for a line, which says this.
+    fn login_step(&mut self, says: Said, line: &Line) -> Result<LoginStep, OutOfMemory>
+        requires { says ≡ said line.now }
+        ensures answer { (network : NetworkSettings) (before : List Parts) →
+            IsAt network before self.old → IfOk result
+            (λ step. login.answer_of step ≡ answer_of_login network.sasl before line.now) }
+        ensures taken { (network : NetworkSettings) (before : List Parts) →
+            IsAt network before self.old → OnOk result
+            (IsLoginAt network.sasl (before ++ line.now ∷ []) self.new.login) }
+        ensures rest { self.new ≡ record self.old { login = self.new.login } }
+        ensures err { OnErr result (self.new ≡ self.old) }
+    {
+        match &mut self.login {
+            Some(login) => login.line(says, line),
+            None => Ok(LoginStep::Nothing),
+        }
+    }
+
     /// Takes a line of the network, and tells what follows from it; once it has ended, that nothing
     /// is to be sent. Of the capabilities that a network offers, `multi-prefix`, `extended-join`,
-    /// `account-notify`, `away-notify` and `server-time` are asked for. After want of memory the
-    /// registration is as it was.
+    /// `account-notify`, `away-notify` and `server-time` are asked for, and `sasl` if the settings
+    /// have an account. After want of memory the registration is as it was.
     pub fn line(&mut self, line: &Line) -> Result<Step, OutOfMemory>
         ensures answer { (network : NetworkSettings) (before : List Parts) →
             HasTaken network before self.old →
@@ -177,15 +240,18 @@ impl Register {
         }
         let says = Said::of(line);
         if let Said::Welcome = says {
-            self.is_over = true;
-            return Ok(Step::Done(mem::replace(&mut self.joins, Vec::new(alloc))));
+            return Ok(self.welcomed());
         }
         if let Some(fault) = self.fault_of(says) {
             self.is_over = true;
             return Ok(Step::Fault(fault));
         }
         let offered = self.offered.with(says, line);
-        let lines = self.reply_to(says, line, offered)?;
+        let reply = self.reply_to(says, line, offered)?;
+        let Some(lines) = lines_of(self.login_step(says, line)?, reply) else {
+            self.is_over = true;
+            return Ok(Step::Fault(RegisterFault::SaslFailed));
+        };
         self.offered = offered;
         self.count += 1;
         if let Said::NickInUse = says {

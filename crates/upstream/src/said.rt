@@ -1,12 +1,14 @@
 //! What a line says to one who registers.
 
 ghost use Rattle.std.specs.Prelude.{◌≡◌, codes};
-ghost use Rattle.upstream.specs.Said.{has_param, has_subcommand, said, said_by_cap};
+ghost use Rattle.sasl.specs.Said.{has_param};
+ghost use Rattle.upstream.specs.Said.{said, said_by_cap};
 ghost use Rattle.irc_names.specs.Nick as nick;
 ghost use Rattle.std.specs.Str.{bytes_eq};
 
 use irc_line::Line;
 use irc_names::is_nameable;
+use sasl::has_subcommand;
 
 /// What a line says to one who registers (RFC 2812, sections 3.1 and 5; IRCv3 capability
 /// negotiation).
@@ -30,16 +32,6 @@ pub(crate) enum Said {
     Ping,
     /// Anything else.
     Other,
-}
-
-/// Whether the subcommand of a CAP line is this.
-fn has_subcommand(line: &Line, word: &[u8]) -> bool
-    ensures { result ≡ has_subcommand word.now line.now }
-{
-    match line.param(1) {
-        Some(param) => param.eq_ignore_ascii_case(word),
-        None => false,
-    }
 }
 
 /// Whether parameter 2 is `*`.

@@ -4,9 +4,10 @@ ghost use Rattle.std.specs.Prelude.{◌≡◌, ◌<◌, ◌++◌, ◌∷◌, [],
 ghost use Rattle.std.specs.List.{list_all};
 ghost use Rattle.irc_line.specs.Writing.{is_clean, is_writable};
 ghost use Rattle.irc_names.specs.Nick.{is_nameable};
-ghost use Rattle.upstream.specs.Registration.{cap_end, command, first_lines, join_lines};
-ghost use Rattle.upstream.specs.Registration.{marked, nick_line, pong_line, request_of};
-ghost use Rattle.upstream.specs.Registration.{user_line};
+ghost use Rattle.bnc_config.specs.Text.{is_word};
+ghost use Rattle.upstream.specs.Registration.{cap_end, channel_lines, command, first_lines};
+ghost use Rattle.upstream.specs.Registration.{join_line, join_lines, marked, nick_line, pong_line};
+ghost use Rattle.upstream.specs.Registration.{request_of, user_line};
 
 use crate::OutOfMemory;
 use bnc_config::NetworkConfig;
@@ -70,16 +71,45 @@ pub(crate) fn first_lines(alloc: Global, network: &NetworkConfig) -> Result<Vec<
     Ok(lines)
 }
 
-/// `JOIN channel` for each channel of the settings, in their order.
-pub(crate) fn join_lines(alloc: Global, network: &NetworkConfig) -> Result<Vec<Line>, OutOfMemory>
-    ensures { IfOk result (λ lines. lines.items ≡ join_lines network.now) }
+/// `JOIN channel`, with the channel's key if the settings have one (RFC 2812, section 3.2.1).
+fn join_line(alloc: Global, network: &NetworkConfig, channel: &[u8]) -> Result<Line, OutOfMemory>
+    requires { IsTrue (is_word channel.now) }
+    ensures { IfOk result (λ line. line ≡ join_line network.now.options.keys channel.now) }
+{
+    match network.key_of(channel) {
+        Some(key) => command(alloc, b"JOIN", &[channel, key]),
+        None => command(alloc, b"JOIN", &[channel]),
+    }
+}
+
+/// `JOIN channel` for each channel of the settings, in their order, with its key if they have one:
+/// of `join = ["#a", "#b"]` and `keys = { "#B" = "secret" }`
+///
+/// ```text
+/// JOIN #a
+/// JOIN #b secret
+/// ```
+pub fn channel_lines(alloc: Global, network: &NetworkConfig) -> Result<Vec<Line>, OutOfMemory>
+    ensures { IfOk result (λ lines. lines.items ≡ channel_lines network.now) }
 {
     let channels = network.join();
     let mut lines = Vec::with_capacity(alloc, channels.len())?;
     for channel in channels {
-        push_command(alloc, &mut lines, b"JOIN", &[channel.as_bytes()])?;
+        lines.push(join_line(alloc, network, channel.as_bytes())?)?;
     }
     Ok(lines)
+}
+
+/// What is sent once we are in: a JOIN for each channel; nothing if the settings have lines that
+/// are to be sent before them.
+pub(crate) fn join_lines(alloc: Global, network: &NetworkConfig) -> Result<Vec<Line>, OutOfMemory>
+    ensures { IfOk result (λ lines. lines.items ≡ join_lines network.now) }
+{
+    if network.on_connect().is_empty() {
+        channel_lines(alloc, network)
+    } else {
+        Ok(Vec::new(alloc))
+    }
 }
 
 /// `CAP END`.

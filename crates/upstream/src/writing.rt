@@ -64,3 +64,20 @@ pub(crate) fn send<W: Write>(alloc: Global, lines: &[Line], writer: &mut W) -> R
     }
     Ok(())
 }
+
+/// Sends lines, in one write, if there are any. After a fault a beginning of them was sent.
+pub(crate) fn send_any<W: Write>(
+    alloc: Global,
+    lines: &[Line],
+    writer: &mut W,
+) -> Result<(), DialFault>
+    ensures sent { OnOk result
+        (Appends (W.contents writer.old) (W.contents writer.new) (bytes_of lines.now)) }
+    ensures begun { Begins (W.contents writer.old) (W.contents writer.new) (bytes_of lines.now) }
+    ensures err { IfErr result IsSendCause }
+{
+    match lines {
+        [] => Ok(()),
+        [_, ..] => send(alloc, lines, writer),
+    }
+}

@@ -11,9 +11,12 @@ returns c =
     let check_is =
     c.in_ok-with_check.ensures
     ∙ ap (λ (a : App). with_subcommand a (file_app (codes "check")).top) serve_is in
-    let files_are : app_of c.in_ok-with_setup.with_setup ≡ file_apps =
+    let setup_is =
     c.in_ok-with_setup.ensures
     ∙ ap (λ (a : App). with_subcommand a (file_app (codes "setup")).top) check_is in
+    let files_are : app_of c.in_ok-with_log.with_log ≡ file_apps =
+    c.in_ok-with_log.ensures
+    ∙ ap (λ (a : App). with_subcommand a (file_app (codes "log")).top) setup_is in
     let password_is : app_of c.about-password.result ≡ new_app (codes "password") = search rules in
     let password_too =
     c.in_ok-with_password.ensures.shape (search rules)

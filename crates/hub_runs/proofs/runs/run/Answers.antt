@@ -4,11 +4,12 @@ use Rattle.history.specs.Messages.{no_messages}
 use Rattle.hub_runs.specs.Ran.{none_before}
 use Rattle.std.proofs.Common.{rules}
 use Rattle.std.specs.FinMap.{empty}
+use Rattle.std.specs.Prelude.{[]}
 
 pub returns-clause-ran : goal.returns-clause-ran
 returns-clause-ran g c =
     let s = c.args.setup in
     c.go_on.ensures (none_before s.history s.first_number) (no_messages s.history s.first_number)
-    s.first_number empty s.first_session c.args.upstream_capacity (search rules)
+    s.first_number empty [] s.first_session c.args.upstream_capacity (search rules)
     (can_begin s.history s.first_number s.first_session c.args.upstream_capacity (search rules))
     c.in_ok-world.ensures.ok.0

@@ -9,8 +9,9 @@ use Rattle.journal.proofs.snapshotting.push_names.Goals as goal
 pub returns : goal.returns
 returns c =
     let told = parts_of_all c.loop-i.records.items in
-    let none : name_records (drop c.loop-i.i (fin.entries c.args.marks.now)) ≡ [] =
-    names_done c.args.marks.now c.loop-i.i
+    let none : name_records c.args.latest.now (drop c.loop-i.i (fin.entries c.args.marks.now))
+    ≡ [] =
+    names_done c.args.latest.now c.args.marks.now c.loop-i.i
     (grind (arith, nat_tests, c.loop-i-test.false, c.count-count.ensures)) in
     sym (append-nil told) ∙ ap (λ (rs : List RecordParts). told ++ rs) (sym none)
     ∙ c.loop-i.invariant

@@ -7,9 +7,9 @@ use Rattle.upstream.specs.{Registration.has_ended, Taken.HasTaken}
 abbrev pub invariant-loop-place : goal.invariant-loop-place
 invariant-loop-place g l = (network : NetworkSettings) (before : List Parts)
     → HasTaken network before l.fn.register
-    → has_ended before ≡ false → record {
+    → has_ended network before ≡ false → record {
       taken : HasTaken network (before ++ take l.place l.lines) l.register;
-      going : has_ended (before ++ take l.place l.lines) ≡ false;
+      going : has_ended network (before ++ take l.place l.lines) ≡ false;
       sent : Appends (g.W.Write.contents l.fn.writer) (g.W.Write.contents l.writer)
           (bytes_of (sent_for network before (take l.place l.lines)));
     }

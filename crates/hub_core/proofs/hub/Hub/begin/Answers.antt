@@ -10,6 +10,7 @@ invariant_of-result g c = (
     c.new.ensures.items,
     c.new-3.ensures,
     empty-shown bytes_cmp joining,
-  ) (started_runs _ _ c.args.kept.0 c.args.kept.1 c.args.kept.2 _ c.requires.upstream (search rules) c.requires.kept),
+  ) (started_runs _ _ c.args.past.history c.args.first c.args.past.marks _ _ c.requires.upstream
+      (search rules) c.requires.kept),
   subst (AreStateParts (g.V.NetworkView.view c.args.view)) (sym c.new-4.ensures.items) tt,
 )

@@ -5,7 +5,9 @@ use Rattle.hub_core.proofs.{Running.holds_on, Unread.{no_entry, nothing_kept}, W
 use Rattle.hub_core.proofs.Words.{◌∷◌, ◌≡◌, Came, Delivered, HubState, IsSome, None, Some, [], ap}
 use Rattle.hub_core.proofs.Words.{given_but, heard, hub_of, joining, length-map, lost_channels, map}
 use Rattle.hub_core.proofs.Words.{option_map, packet_for, refl, shown, state_of, subst, sym, true}
-use Rattle.hub_core.{proofs.Words.view_of, specs.{LostChannels.is_settled, Pumping.Takes}}
+use Rattle.hub_core.proofs.Words.{List, view_of}
+use Rattle.hub_core.specs.{LostChannels.{Joining, is_named, is_settled, still}, Pumping.Takes}
+use Rattle.std.proofs.Common.{filter, not}
 use Rattle.{hub_ends.specs.Came.came, net_view.proofs.StepLaw.view_unchanged}
 use Rattle.{net_view.specs.StateLines.may_need_memory, std.proofs.lemmas.Bool.true_from_ne_false}
 
@@ -89,6 +91,7 @@ module _ (g : Given.Over) (c : goal.Joined-item g) where
         images = c.saturating_add-self-inside.result;
         made = c.prepare_arrival.new.made;
         lost = c.renew.new.lost;
+        recalled = c.drop_named.new.recalled;
         parts = c.drop_outdated.new.parts;
       }
 
@@ -110,7 +113,20 @@ module _ (g : Given.Over) (c : goal.Joined-item g) where
       lost_are (heard old) item.0 (shown joining c.renew.new.lost.all) (λ k.
       rw (← all, ← c.self.invariant.0.view_is) (c.renew.ensures k
       ∙ rw c.in-Ok.ensures.made.2 (settled_as (g.V.NetworkView.view c.self.inside.view) item.0 k
-      (is_settled c.settled_by-settled.result k) _ (c.settled_by-settled.ensures k))))
+      (is_settled c.settled_by-settled.result k) _ (c.settled_by-settled.ensures.lost k))))
+
+  abbrev was : List Joining
+  was = map joining c.self.inside.recalled.items
+
+  stay : map joining c.drop_named.new.recalled.items ≡ still (view_of (heard old)) item.0 was
+  stay =
+      let dropped : map joining c.drop_named.new.recalled.items
+      ≡ filter (λ channel. not (is_named c.settled_by-settled.result channel.0)) was =
+      c.drop_named.ensures in
+      let left : filter (λ channel. not (is_named c.settled_by-settled.result channel.0)) was
+      ≡ still (g.V.NetworkView.view c.self.inside.view) item.0 was =
+      c.settled_by-settled.ensures.recalled in
+      rw c.self.invariant.0.view_is at (dropped ∙ left)
 
   abbrev takes : Takes g.I.Inlet.alone g.O.Outlet.alone old c.deliver-cut.result new
   takes = record {
@@ -122,6 +138,7 @@ module _ (g : Given.Over) (c : goal.Joined-item g) where
         c.deliver-cut.ensures.count;
     upstream = rw c.in-Ok.ensures.made.1 at c.put.ensures;
     history = rw (← c.in-Ok.ensures.made.0) c.in_default-keep.ensures.ok;
+    recalled = stay;
     number = λ some. c.in-Ok.ensures.numbered (rw c.in-Ok.ensures.made.0 some);
     images = rw (← c.in-Ok.ensures.sets, length-map) (rw c.images_of.ensures at
         c.saturating_add-self-inside.ensures);

@@ -1,0 +1,5 @@
+mod Digits
+mod Families
+mod Named
+mod Readings
+mod Words

@@ -1,0 +1,5 @@
+use Rattle.proxy_line.proofs.Families.{no_v4}
+use Rattle.proxy_line.proofs.line.v4_of.Goals as goal
+
+pub returns-in-Err-clause-none : goal.returns-in-Err-clause-none
+returns-in-Err-clause-none c = no_v4 c.args.text.now c.in-Err.ensures

@@ -1,0 +1,235 @@
+//! The thread that dials a network and serves each connection to it.
+
+use crate::clock::SystemClock;
+use crate::closing::HangingUp;
+use crate::connection::{Connection, Farewell};
+use crate::dialling::{Dialling, Next};
+use crate::host::Host;
+use crate::journaling::write_last;
+use crate::keeping::{Input, Keeping, ending_of};
+use crate::link::Link;
+use crate::network_event::{Ending, GivenUp, NetworkEvent};
+use crate::network_input::NetworkInput;
+use crate::network_output::NetworkOutput;
+use crate::opening::{Opened, Opening};
+use crate::reaching::connect;
+use crate::roster::Roster;
+use bnc_config::NetworkConfig;
+use hub_threads::{OutletEnd, Worker};
+use shell::Recalling;
+use std::alloc::Global;
+use std::io;
+use std::io::Write;
+use std::net::{Net, TcpListener, TcpStream};
+use std::random::RandomSource;
+use std::rt::Clock;
+use std::sync::{Arc, Wait};
+use std::time::Duration;
+use upstream::{DialFault, Duplex, NetworkEnd, RegisterFault, serve_network};
+
+/// Any number, by which a rest after a failed dial is longer.
+fn chance<R: RandomSource>(rt: &R) -> u64 {
+    let mut bytes = [0u8; 8];
+    match rt.fill_bytes(&mut bytes) {
+        Ok(()) => u64::from_le_bytes(bytes),
+        Err(_) => 0,
+    }
+}
+
+/// Writes what waits for a network and then QUIT, if it takes them in this time, and shuts the
+/// connection.
+fn part_with(connection: &Connection, farewell: Farewell, outlet: &mut OutletEnd, time: Duration) {
+    let mut stream = connection.stream();
+    let _ = stream.set_write_timeout(Some(time));
+    for _ in 0..u64::MAX {
+        let Some(packet) = outlet.take() else {
+            return connection.say_last("QUIT", farewell, time);
+        };
+        if stream.write_all(packet.bytes()).is_err() {
+            return connection.hang_up();
+        }
+    }
+}
+
+/// Connects to a network.
+fn come_in<'s, R: Wait + Clock + Net<Listener = TcpListener, Stream = TcpStream>>(
+    dialling: &Dialling<'_, R>,
+    settings: &'s NetworkConfig,
+) -> Result<Connection, Ending<'s>> {
+    let address = settings.address();
+    match connect(dialling, address) {
+        Ok(stream) => match Connection::new(dialling.alloc, stream) {
+            Ok(connection) => Ok(connection),
+            Err(_) => Err(Ending::GivenUp(GivenUp::NoMemory)),
+        },
+        Err(error) => {
+            if dialling.is_awaited() {
+                Err(Ending::CannotConnect { address, error })
+            } else {
+                Err(Ending::GivenUp(GivenUp::Outdated))
+            }
+        }
+    }
+}
+
+/// What a connection to a network is served with: its two ends, and the gate that shuts it when
+/// nothing more can be written.
+fn ends_of<'a, R: Wait + Clock + Copy>(
+    dialling: Dialling<'a, R>,
+    settings: &'a NetworkConfig,
+    connection: &'a Connection,
+    opening: &Opening,
+) -> io::Result<(Duplex<Input<'a, R>, NetworkOutput<R>>, HangingUp)> {
+    let Dialling {
+        rt,
+        alloc,
+        shared,
+        ..
+    } = dialling;
+    let journals = Arc::try_clone(shared.journals())?;
+    let gate = HangingUp::on(connection.share()?).with_journals(journals);
+    let wire = Opened {
+        dialling,
+        settings,
+        connection,
+        opening: opening.share()?,
+        limit: None,
+    };
+    let input = NetworkInput::start(rt, wire, shared.limits().registration)?;
+    let reader = Recalling::new(alloc, input);
+    let writer = NetworkOutput {
+        rt: *rt,
+        connection: connection.share()?,
+    };
+    Ok((Duplex { reader, writer }, gate))
+}
+
+/// What the network said last about why a connection ended.
+fn said_of<R: Wait + Clock>(
+    end: &NetworkEnd,
+    reader: &Input<'_, R>,
+    alloc: Global,
+) -> Option<Vec<u8>> {
+    let failed = matches!(
+        end,
+        NetworkEnd::NotRegistered(DialFault::Register(RegisterFault::SaslFailed))
+    );
+    if failed {
+        if let Ok(Some(text)) = reader.no_login(alloc) {
+            return Some(text);
+        }
+    }
+    reader.parting(alloc).unwrap_or(None)
+}
+
+/// Serves a connection that registers, to its end. Answers the link, and how it ended.
+fn serve<'a, R: Host>(
+    dialling: Dialling<'a, R>,
+    settings: &'a NetworkConfig,
+    connection: &'a Connection,
+    link: Link,
+) -> (Link, Ending<'static>) {
+    let Dialling { rt, alloc, .. } = dialling;
+    let limits = dialling.shared.limits();
+    let Ok(opening) = Opening::new(alloc) else {
+        return (link, Ending::GivenUp(GivenUp::NoMemory));
+    };
+    let Ok((stream, gate)) = ends_of(dialling, settings, connection, &opening) else {
+        return (link, Ending::GivenUp(GivenUp::NoMemory));
+    };
+    let mut keeping = Keeping {
+        dialling,
+        settings,
+        connection,
+        opening,
+        given_up: GivenUp::Outdated,
+    };
+    let clock = SystemClock::of(rt);
+    let worker = Worker {
+        rt: *rt,
+        alloc,
+        gate: &gate,
+        clock: &clock,
+    };
+    let over = serve_network(&worker, stream, settings, link, &mut keeping);
+    let upstream::Served {
+        end,
+        mut link,
+        stream,
+        written,
+    } = over;
+    let farewell = connection.farewell();
+    let said = said_of(&end, &stream.reader, alloc);
+    let ending = ending_of(end, said, farewell, keeping.given_up);
+    if let (Some(farewell), true) = (farewell, written.is_ok()) {
+        part_with(connection, farewell, &mut link.outlet, limits.stop);
+    }
+    connection.hang_up();
+    (link, ending)
+}
+
+/// Dials once, and serves the connection to its end.
+fn dial<R: Host + Net<Listener = TcpListener, Stream = TcpStream>>(
+    dialling: &Dialling<'_, R>,
+    roster: &Roster,
+    link: Link,
+) -> Link {
+    let settings = roster.settings_of(dialling.station.who());
+    let (Some(settings), true) = (settings, dialling.station.slot().is_ready(dialling.rt)) else {
+        // it was begun anew meanwhile
+        let _ = dialling.lose(0);
+        return link;
+    };
+    let mut link = link;
+    link.drop_unsent();
+    let (link, ending) = match come_in(dialling, settings) {
+        Ok(connection) => {
+            if dialling.registers(&connection) {
+                serve(*dialling, settings, &connection, link)
+            } else {
+                connection.hang_up();
+                (link, Ending::GivenUp(GivenUp::Outdated))
+            }
+        }
+        Err(ending) => (link, ending),
+    };
+    let again = dialling.lose(chance(dialling.rt));
+    dialling.tell_ending(&ending, again);
+    link
+}
+
+/// Dials a network whenever it may be, as often as the limits say, and serves each connection to its
+/// end, until the service ends or the network is left. What waited for a lost connection is dropped. A
+/// network that was begun anew is dialled by its own link.
+pub(crate) fn stay_connected<R: Host + Net<Listener = TcpListener, Stream = TcpStream>>(
+    dialling: &Dialling<'_, R>,
+    link: Link,
+) {
+    let Dialling {
+        rt,
+        shared,
+        station,
+        ..
+    } = dialling;
+    let mut link = link;
+    let mut dials = 0u64;
+    for _ in rt.forever() {
+        if shared.limits().dials.are_over(dials) {
+            break;
+        }
+        link = station.slot().link_of_now(*rt, link);
+        match dialling.next() {
+            Next::Dial(roster) => {
+                dials = dials.saturating_add(1);
+                link = dial(dialling, &roster, link);
+            }
+            Next::Rest(time) => station.rest(*rt, time),
+            Next::End => {
+                write_last(*rt, dialling.alloc, shared, station);
+                station.slot().close(*rt);
+                break;
+            }
+        }
+    }
+    shared.dials_no_more();
+}

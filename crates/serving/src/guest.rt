@@ -1,0 +1,140 @@
+//! A client, as its own thread knows it: what is asked about it, its last line, and its lines of the
+//! log.
+
+use crate::connection::{Connection, Farewell};
+use crate::refusals::tell_refusal;
+use crate::roster::Roster;
+use crate::session_event::SessionEvent;
+use crate::shared::Shared;
+use crate::shown::Who;
+use crate::station::Station;
+use crate::stranger_event::StrangerEvent;
+use hub_threads::WRITE_CALL;
+use std::alloc::Global;
+use std::io::Write;
+use std::net::SocketAddr;
+use std::rt::Clock;
+use std::sync::Wait;
+use std::time::Duration;
+use std::{io, thread};
+use steward::{Answer, Event, Verdict};
+
+/// After how many milliseconds a thread that waits to answer looks whether its client is to be sent
+/// its last line.
+const STEP: u64 = 50;
+
+/// A client, as its own thread knows it.
+#[derive(Clone, Copy)]
+pub(crate) struct Guest<'a, R> {
+    pub(crate) rt: &'a R,
+    pub(crate) alloc: Global,
+    pub(crate) shared: &'a Shared,
+    /// The settings by which it logs in.
+    pub(crate) roster: &'a Roster,
+    /// How often the settings had been read then.
+    pub(crate) settings: u64,
+    pub(crate) number: u64,
+    pub(crate) connection: &'a Connection,
+    pub(crate) peer: SocketAddr,
+}
+
+/// Whose a client's last line is.
+#[derive(Clone, Copy, PartialEq, Eq)]
+pub(crate) enum LastLine {
+    /// Its own thread may write one.
+    Own,
+    /// It was to be sent this one, and was.
+    Said(Farewell),
+    /// It was closed without one.
+    Closed,
+}
+
+impl<R: Wait + Clock> Guest<'_, R> {
+    /// Writes a line of the log about it.
+    pub(crate) fn tell(&self, who: Option<Who<'_>>, event: &SessionEvent) {
+        let log = self.shared.log();
+        match who {
+            Some(who) => log.tell(self.rt, &who, event),
+            None => log.tell(self.rt, &"bnc", event),
+        }
+    }
+
+    /// Logs that its login was over before it was done.
+    pub(crate) fn tell_no_login(&self, cause: &str) {
+        let peer = self.peer;
+        let event = StrangerEvent::NoLogin { peer, cause };
+        tell_refusal(self.rt, self.shared, peer.ip(), &"bnc", &event);
+    }
+
+    /// Logs that its password was wrong, or that it was right and the user has no such network.
+    pub(crate) fn tell_wrong(&self, who: Who<'_>, lacks_network: bool) {
+        let peer = self.peer;
+        let event = if lacks_network {
+            StrangerEvent::NoSuchNetwork { peer }
+        } else {
+            StrangerEvent::WrongPassword { peer }
+        };
+        tell_refusal(self.rt, self.shared, peer.ip(), &who, &event);
+    }
+
+    /// Asks what becomes of its login: right for this network, or wrong.
+    pub(crate) fn judge(&self, station: Option<&Station>) -> Answer {
+        let verdict = match station {
+            Some(station) => Verdict::Right(station.label()),
+            None => Verdict::Wrong,
+        };
+        let event = Event::Judged {
+            client: self.number,
+            settings: self.settings,
+            verdict,
+        };
+        self.shared.decide(self.rt, event)
+    }
+
+    /// Asks whose its last line is. One that was ordered is written now; if it is not this thread's
+    /// own, the connection is shut after it.
+    pub(crate) fn last_line(&self) -> LastLine {
+        let client = self.number;
+        let answer = self.shared.decide(self.rt, Event::Tells { client });
+        if answer == (Answer::MayTell { client }) {
+            return LastLine::Own;
+        }
+        match self.connection.farewell() {
+            Some(farewell) => {
+                let time = self.shared.limits().stop;
+                self.connection.say_last("ERROR", farewell, time);
+                LastLine::Said(farewell)
+            }
+            None => {
+                self.connection.hang_up();
+                LastLine::Closed
+            }
+        }
+    }
+
+    /// Writes its last line; one that has gone does not get it.
+    pub(crate) fn say(&self, line: &[u8]) {
+        let mut out = self.connection.stream();
+        let _ = out.write_all(line);
+    }
+
+    /// Waits until a time, or until it is to be sent its last line.
+    pub(crate) fn wait_until(&self, time: u64) {
+        for _ in self.rt.forever() {
+            let now = self.shared.ticks(self.rt);
+            if now > time || self.connection.is_shut() {
+                return;
+            }
+            let left = time.saturating_sub(now).saturating_add(1);
+            thread::sleep(self.rt, Duration::from_millis(left.min(STEP)));
+        }
+        unreachable!()
+    }
+
+    /// Sets what holds of its connection in a session.
+    pub(crate) fn set_timeouts(&self) -> io::Result<()> {
+        let stream = self.connection.stream();
+        stream.set_read_timeout(None)?;
+        stream.set_write_timeout(Some(Duration::from_millis(WRITE_CALL)))
+    }
+}

@@ -1,5 +1,0 @@
-use Rattle.upstream.proofs.sending.join_lines.Given as goal
-use Rattle.{std.proofs.Common.{map, take, ◌≡◌}, upstream.specs.Registration.join_line}
-
-abbrev pub invariant-loop-channel : goal.invariant-loop-channel
-invariant-loop-channel l = l.lines.items ≡ map join_line (take l.channel-index l.channels)
