@@ -1,6 +1,7 @@
 //! Settings as the program sees them: every key, what is left out, passwords and places.
 
-use bnc_config::{Config, Key, NetworkConfig, Place, UserConfig};
+use bnc_config::{Config, Key, NetworkConfig, Place, Text, UserConfig};
+use std::alloc::Global;
 use std::process::Abort;
 use std::test::Fail;
 
@@ -105,6 +106,77 @@ fn what_is_left_out_has_its_default(rt: HostRuntime) -> Result<(), Fail> {
     assert!(rt; config.history() == 500 && config.retry() == 30);
     let network = config.network(PLACE).ok_or("a network")?;
     assert!(rt; network.password().is_none() && network.join().is_empty());
+    assert!(rt; network.on_connect().is_empty() && network.join_after() == 3);
+    assert!(rt; network.keys().is_empty() && network.nicks().is_none() && !network.away());
+    assert!(rt; config.listens().len() == 1 && config.listen_proxy().is_empty());
+    assert!(rt; config.proxies().is_none());
+    Ok(())
+}
+
+/// All keys that came later, after what there must be.
+const LATER: &[u8] = b"listen = [\"host:1\", \"[::1]:2\"]
+listen_proxy = \"host:3\"
+proxies = [\"192.0.2.1\", \"::1\"]
+[[user]]
+name = \"ann\"
+salt = \"\"
+password = \"ba7816bf8f01cfea414140de5dae2223b00361a396177a9cb410ff61f20015ad\"
+[[user.network]]
+name = \"net\"
+address = \"h:1\"
+nick = \"a\"
+user = \"a\"
+realname = \"\"
+on_connect = [\"MODE a +x\", \" motd\"]
+join_after = 0
+keys = { \"#d\" = \"k\", \"#C\" = \"l\" }
+nicks = []
+away = true
+";
+
+/// The texts of some, each with a space behind.
+fn spaced(alloc: Global, texts: &[Text]) -> Result<String, Fail> {
+    let mut out = String::new(alloc);
+    for text in texts {
+        out.push_str(text.as_str())?;
+        out.push_str(" ")?;
+    }
+    Ok(out)
+}
+
+#[test]
+fn the_later_keys_are_read(rt: HostRuntime) -> Result<(), Fail> {
+    let config = Config::read(rt.alloc(), LATER)?;
+    assert!(rt; config.listen() == "host:1");
+    assert!(rt; spaced(rt.alloc(), config.listens())?.as_str() == "host:1 [::1]:2 ");
+    assert!(rt; spaced(rt.alloc(), config.listen_proxy())?.as_str() == "host:3 ");
+    let proxies = config.proxies().ok_or("proxies")?;
+    assert!(rt; spaced(rt.alloc(), proxies)?.as_str() == "192.0.2.1 ::1 ");
+    let network = config.network(PLACE).ok_or("a network")?;
+    assert!(rt; spaced(rt.alloc(), network.on_connect())?.as_str() == "MODE a +x  motd ");
+    assert!(rt; network.join_after() == 0 && network.away());
+    assert!(rt; network.nicks().is_some_and(|nicks| nicks.is_empty()));
+    Ok(())
+}
+
+/// Channels, and the keys that they have by `LATER`.
+const KEYS: [(&[u8], Option<&[u8]>); 5] = [
+    (b"#d", Some(b"k")),
+    (b"#D", Some(b"k")),
+    (b"#c", Some(b"l")),
+    (b"#e", None),
+    (b"d", None),
+];
+
+#[test]
+fn channels_have_their_keys(rt: HostRuntime) -> Result<(), Fail> {
+    let config = Config::read(rt.alloc(), LATER)?;
+    let network = config.network(PLACE).ok_or("a network")?;
+    for (channel, key) in &KEYS {
+        assert!(rt; network.key_of(channel) == *key);
+    }
+    let first = network.keys().first().ok_or("a pair")?;
+    assert!(rt; first.channel() == b"#C".as_slice() && first.key() == b"l".as_slice());
     Ok(())
 }
 

@@ -57,7 +57,7 @@ fn an_input_in_two_pieces(rt: HostRuntime) -> Result<(), Fail> {
     Ok(())
 }
 
-/// What is said 3,000 times: more than two reads ask for.
+/// A text that comes 3,000 times: more than two reads ask for.
 const SAID: &[u8] = b":bob!b@h PRIVMSG #c :some words that say nothing of the network\r\n";
 
 #[test]

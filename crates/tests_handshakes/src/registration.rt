@@ -1,5 +1,7 @@
 //! Registrations at networks, line by line.
 
+mod accounts;
+mod channels;
 mod servers;
 mod states;
 pub(crate) mod streams;
@@ -12,12 +14,6 @@ use std::process::Abort;
 use std::test::Fail;
 use test_texts::{line, texts_of};
 use upstream::{Register, Step};
-
-/// Keys of a network with a password and channels, one of which has a key.
-const MORE: &str = "password = \"secret\"\njoin = [\"#c\", \"#d key\", \"&x\"]\n";
-
-/// The same, with channels that are words.
-const CHANNELS: &str = "password = \"secret\"\njoin = [\"#c\", \"&x\"]\n";
 
 /// A step in words: the lines that are sent, after `done: ` at the welcome, or the fault.
 pub(crate) fn step_text(alloc: Global, step: &Step) -> Result<Vec<u8>, Fail> {
@@ -134,29 +130,6 @@ const A_NETWORK_THAT_OFFERS_NOTHING_THEN: [(&str, &str); 3] = [
 fn a_network_that_offers_nothing(rt: HostRuntime) -> Result<(), Fail> {
     registers(&rt, rt.alloc(), "", &A_NETWORK_THAT_OFFERS_NOTHING)?;
     registers(&rt, rt.alloc(), "", &A_NETWORK_THAT_OFFERS_NOTHING_THEN)
-}
-
-/// What comes first with a password and channels.
-const WITH_CHANNELS: [(&str, &str); 3] = [
-    (
-        "",
-        "CAP LS 302 / PASS secret / NICK ann / USER ann 0 * :Ann A",
-    ),
-    (":s 001 ann :hi", "done: JOIN #c / JOIN &x"),
-    (":s 001 ann :hi", ""),
-];
-
-#[test]
-fn a_password_and_channels(rt: HostRuntime) -> Result<(), Fail> {
-    registers(&rt, rt.alloc(), CHANNELS, &WITH_CHANNELS)
-}
-
-/// A key after a channel's name is refused.
-#[test]
-fn channels_that_are_no_words(rt: HostRuntime) -> Result<(), Fail> {
-    let settings = text_with(rt.alloc(), MORE)?;
-    assert!(rt; Config::read(rt.alloc(), settings.as_str().as_bytes()).is_err());
-    Ok(())
 }
 
 const FOUR_NICKS_ARE_TRIED: [(&str, &str); 6] = [

@@ -34,7 +34,7 @@ pub(crate) const SETUP: Setup = Setup {
     first_session: 0,
 };
 
-/// The second session is looked at, after its burst.
+/// Shown is what the second session is sent after its burst.
 pub(crate) const STORY: Story = Story {
     setup: SETUP,
     upstream: 8,

@@ -27,8 +27,8 @@ struct Client {
     late: usize,
 }
 
-/// A member with these ranks; the account where the client has both capabilities that tell of it,
-/// the away text where it has the one.
+/// A member with these ranks; the account if the client has both capabilities for it, the away text
+/// if it has the one.
 fn show_member<V: NetworkView>(
     view: &V,
     caps: Caps,
@@ -97,7 +97,7 @@ fn check_read<R: AllocGlobal + Abort>(
     Ok(())
 }
 
-/// Both sides for clients with these capabilities, one after each line from where one may come.
+/// Both sides for clients with these capabilities, one after each line from which on one may come.
 fn check_places<R: AllocGlobal + Abort>(
     rt: &R,
     session: &[&[u8]],

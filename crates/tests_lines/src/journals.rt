@@ -1,7 +1,7 @@
 //! Journals: the text of a batch, and what is recalled of whole, cut and damaged files.
 
 use frames::push_frame;
-use history::Entry;
+use history::{Entry, Marks};
 use journal::{
     Damage, PushError, RecallError, Recalled, Record, push_batch, push_header, recall, snapshot,
 };
@@ -73,7 +73,7 @@ fn names_that_can_not_be_written(rt: HostRuntime) -> Result<(), Fail> {
 }
 
 /// Appends a frame, of a text that is not too long for one.
-fn push(file: &mut Vec<u8>, text: &[u8]) -> Result<(), Fail> {
+pub(crate) fn push(file: &mut Vec<u8>, text: &[u8]) -> Result<(), Fail> {
     if text.len() > 0xFFFF_FFFF {
         return Err("too long".into());
     }
@@ -81,7 +81,7 @@ fn push(file: &mut Vec<u8>, text: &[u8]) -> Result<(), Fail> {
 }
 
 /// A journal with a frame for each text behind its header.
-fn file_of(alloc: Global, texts: &[&str]) -> Result<Vec<u8>, Fail> {
+pub(crate) fn file_of(alloc: Global, texts: &[&str]) -> Result<Vec<u8>, Fail> {
     let mut file = Vec::new(alloc);
     push_header(&mut file)?;
     for text in texts {
@@ -90,7 +90,7 @@ fn file_of(alloc: Global, texts: &[&str]) -> Result<Vec<u8>, Fail> {
     Ok(file)
 }
 
-fn recalled(alloc: Global, file: &[u8]) -> Result<Recalled, Fail> {
+pub(crate) fn recalled(alloc: Global, file: &[u8]) -> Result<Recalled, Fail> {
     Ok(recall(alloc, 500, 1, file)?)
 }
 
@@ -178,7 +178,7 @@ fn what_a_batch_says(rt: HostRuntime) -> Result<(), Fail> {
     )
 }
 
-/// A file of two batches that is cut after so many bytes.
+/// A file of two batches that is cut after this many bytes.
 fn is_cut<R: AllocGlobal + Abort>(
     rt: &R,
     file: &[u8],
@@ -273,14 +273,23 @@ const ALL_KEPT: &str = "NEXT 7\r\n\
     @time=2020-01-02T03:04:07.678Z :bob!b@h NOTICE Me :hi you\r\n\
     NEXT 14\r\n\
     NAME laptop\r\n\
+    SEEN laptop 12\r\n\
     MARK pc 8\r\n\
+    MARK phone 7\r\n\
+    SEEN phone 13\r\n\
     ON #c\r\n\
     ON #d secret\r\n";
 
 fn is_said_again<R: AllocGlobal + Abort>(rt: &R, text: &str) -> Result<(), Fail> {
     let file = file_of(rt.alloc(), &[text])?;
     let kept = recalled(rt.alloc(), &file)?.kept;
-    let records = snapshot(rt.alloc(), &kept.history, &kept.marks, &kept.channels)?;
+    let mut latest = Marks::new(rt.alloc())?;
+    for (name, number) in [(b"laptop".as_slice(), 12), (b"phone".as_slice(), 13)] {
+        latest.admit(name)?;
+        latest.set_mark(name, number);
+    }
+    let (history, channels) = (&kept.history, &kept.channels);
+    let records = snapshot(rt.alloc(), history, &kept.marked, &latest, channels)?;
     let mut again = file_of(rt.alloc(), &[])?;
     push_batch(rt.alloc(), &mut again, &records.ok_or("a number is left")?)?;
     assert!(rt; again.as_slice() == file.as_slice());
@@ -295,7 +304,7 @@ fn snapshots(rt: HostRuntime) -> Result<(), Fail> {
     Ok(())
 }
 
-/// The text that admits so many names.
+/// The text that admits this many names.
 fn names(alloc: Global, count: usize) -> Result<Vec<u8>, Fail> {
     let mut text = Vec::new(alloc);
     for i in 0..count {

@@ -19,13 +19,13 @@ fn add(alloc: Global, history: &mut History, text: &[u8]) -> Result<Result<u64, 
     Ok(history.add(entry))
 }
 
-/// Whether there may not be so many messages.
+/// Whether this capacity is refused.
 fn is_bad_capacity(alloc: Global, capacity: usize) -> bool {
     let none = History::<Global>::new(alloc, capacity, 1);
     matches!(none, Err(CapacityError::BadCapacity))
 }
 
-/// Whether there may be so many messages, and there are none at first.
+/// Whether this capacity is accepted, and there are no messages at first.
 fn is_good_capacity(alloc: Global, capacity: usize) -> bool {
     match History::<Global>::new(alloc, capacity, 1) {
         Ok(history) => history.is_empty() && history.last_number().is_none(),
@@ -233,7 +233,7 @@ fn keeps_what_is_read(history: &mut History, entry: &Entry) -> bool {
     push_read(history, entry) == Some(u64::MAX) && is_made(history.entry(0))
 }
 
-/// A message that is pushed where no number is left.
+/// A message that is pushed when no number is left.
 #[test]
 fn a_message_without_a_number(rt: HostRuntime) -> Result<(), Fail> {
     let mut history = History::<Global>::new(rt.alloc(), 2, u64::MAX)?;

@@ -17,7 +17,7 @@ fn add(alloc: Global, history: &mut History, target: &str) -> Result<u64, Fail> 
     Ok(history.add(entry.ok_or("a message")?)?)
 }
 
-/// Adds a message to each target from t0 on, so many.
+/// Adds a message to each of `count` targets, from t0 on.
 fn add_each(alloc: Global, history: &mut History, count: usize) -> Result<(), Fail> {
     for i in 0..count {
         let target = format!(in alloc; "t{i}")?;

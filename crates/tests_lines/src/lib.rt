@@ -1,7 +1,11 @@
-//! Tests alone: lines, names and network settings as they come, the messages that are kept, and
-//! journals.
+//! Tests alone: lines, names and network settings as they come, lines of proxies, logins to an
+//! account, the messages that are kept, and journals with their files.
 #![tactic(auto)]
 
+#[cfg(test)]
+mod file_faults;
+#[cfg(test)]
+mod journal_changes;
 #[cfg(test)]
 mod journals;
 #[cfg(test)]
@@ -11,6 +15,10 @@ mod kept_targets;
 #[cfg(test)]
 mod lines;
 #[cfg(test)]
+mod logins;
+#[cfg(test)]
 mod names;
+#[cfg(test)]
+mod proxies;
 #[cfg(test)]
 mod settings;

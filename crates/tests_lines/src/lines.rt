@@ -320,7 +320,7 @@ fn write_copy(alloc: Global, line: &Line, out: &mut Vec<u8>) -> Result<(), Fail>
     Ok(line.copy_in(alloc)?.write(out)?)
 }
 
-/// A PING, and behind it a clone and a copy of a line.
+/// A PING, and after it a clone and a copy of a line.
 fn behind_a_ping(alloc: Global, line: &Line) -> Result<Vec<u8>, Fail> {
     let mut out = b"PING\r\n".to_vec(alloc)?;
     write_clone(line, &mut out)?;

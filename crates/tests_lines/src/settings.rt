@@ -18,7 +18,7 @@ fn settings(alloc: Global, text: &[u8]) -> Result<Support, Fail> {
     Ok(settings)
 }
 
-/// Appends the tokens as they came, a space behind each.
+/// Appends the tokens as they came, each with a space after it.
 fn push_tokens(text: &mut Vec<u8>, settings: &Support) -> Result<(), Fail> {
     for place in 0..settings.token_count() {
         let (name, value) = settings.token(place).ok_or("no such token")?;
@@ -88,7 +88,7 @@ fn tokens_over_two_lines(rt: HostRuntime) -> Result<(), Fail> {
     Ok(())
 }
 
-/// Whether a rank has this letter and this symbol, or neither where there is no such rank.
+/// Whether a rank has this letter and this symbol, or neither if there is no such rank.
 fn is_rank(settings: &Support, rank: u8, letter: Option<u8>, symbol: Option<u8>) -> bool {
     let (Some(letter), Some(byte)) = (letter, symbol) else {
         return symbol.is_none() && settings.symbol(rank).is_none();

@@ -7,7 +7,9 @@ use crate::host::Host;
 use hub_threads::{Network, PumpEnd, Turns};
 use net_view::NetworkView;
 use quick_view::QuickView;
-use serving::{Link, Pump, Reserve, Slot, Start, begin_anew, network_with_link};
+use serving::{
+    Link, Pump, Reserve, Slot, Start, begin_anew, begin_network_anew, network_with_link,
+};
 use std::alloc::{AllocError, Global};
 use std::net::{Net, TcpListener, TcpStream};
 use std::process::Abort;
@@ -176,7 +178,7 @@ fn beginner<R: Host>(
             return;
         };
         if let Some((_, station)) = roster.networks().first() {
-            begin_anew(&rt, alloc, station.slot(), &start);
+            let _ = begin_network_anew(&rt, alloc, &shared, station, &start);
         }
     };
     Ok(thread::spawn(&rt, begin)?)

@@ -23,6 +23,8 @@ pub struct Bouncer {
     pub network: TcpListener,
     /// Where clients connect.
     pub address: SocketAddr,
+    /// By which the thread that accepts is woken.
+    pub door: TcpListener,
     /// What its threads share.
     pub shared: Arc<Shared>,
     threads: Vec<JoinHandle<()>>,
@@ -40,6 +42,7 @@ pub fn limits(accepts: u64, dials: u64) -> Limits {
         login: Duration::from_secs(10),
         crowded_login: Duration::from_secs(10),
         wrong_password: Duration::from_millis(1),
+        late: 8,
         pause: Duration::from_millis(1),
         write: Duration::from_secs(10),
         watch: Watch {
@@ -48,7 +51,10 @@ pub fn limits(accepts: u64, dials: u64) -> Limits {
         },
         dials: Turns::AtMost(dials),
         retry: Duration::from_millis(50),
+        most: Duration::from_millis(50),
+        gap: Duration::ZERO,
         connect: Duration::from_secs(10),
+        connect_in_turn: Duration::from_secs(10),
         registration: Duration::from_secs(10),
         silence: Duration::from_secs(10),
         silences: 2,
@@ -75,25 +81,27 @@ fn serve_network<R: Host + Net<Listener = TcpListener, Stream = TcpStream>>(
     limits: Limits,
     address: SocketAddr,
 ) -> Result<(Arc<Shared>, Vec<JoinHandle<()>>), Fail> {
-    let (shared, links) = Shared::new(alloc, settings(alloc, address)?, limits)?;
+    let (shared, links) = Shared::new(&rt, alloc, settings(alloc, address)?, limits)?;
     let shared = Arc::new(alloc, shared)?;
     let threads = start_networks(rt, alloc, &shared, links)?;
     Ok((shared, threads))
 }
 
-/// Starts the thread that accepts clients, and answers where they connect.
+/// Starts the thread that accepts clients, and answers the address to connect to, and the listener's other
+/// descriptor.
 fn serve_clients<R: Host + Net<Listener = TcpListener, Stream = TcpStream>>(
     rt: R,
     alloc: Global,
     shared: &Arc<Shared>,
     threads: &mut Vec<JoinHandle<()>>,
-) -> Result<SocketAddr, Fail> {
+) -> Result<(SocketAddr, TcpListener), Fail> {
     let clients = TcpListener::bind(&rt, "127.0.0.1:0")?;
     let address = clients.local_addr()?;
+    let door = clients.try_clone()?;
     let theirs = Arc::try_clone(shared)?;
     let accepting = thread::spawn(&rt, move || accept(rt, alloc, &clients, &theirs))?;
     threads.push(accepting)?;
-    Ok(address)
+    Ok((address, door))
 }
 
 /// Starts the bouncer with these limits, and no thread that writes its log.
@@ -104,10 +112,11 @@ pub fn start_unlogged<R: Host + Net<Listener = TcpListener, Stream = TcpStream>>
 ) -> Result<Bouncer, Fail> {
     let network = TcpListener::bind(&rt, "127.0.0.1:0")?;
     let (shared, mut threads) = serve_network(rt, alloc, limits, network.local_addr()?)?;
-    let address = serve_clients(rt, alloc, &shared, &mut threads)?;
+    let (address, door) = serve_clients(rt, alloc, &shared, &mut threads)?;
     Ok(Bouncer {
         network,
         address,
+        door,
         shared,
         threads,
         log: None,

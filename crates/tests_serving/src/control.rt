@@ -50,7 +50,7 @@ fn logged_of<R: Host + Net<Listener = TcpListener, Stream = TcpStream>>(
     words: &[u8],
 ) -> Result<(bool, Vec<u8>), Fail> {
     let settings = settings(alloc, "127.0.0.1:1".parse()?)?;
-    let (shared, _begun) = Shared::new(alloc, settings, limits(0, 0))?;
+    let (shared, _begun) = Shared::new(&rt, alloc, settings, limits(0, 0))?;
     let shared = Arc::new(alloc, shared)?;
     let mut words = words;
     let is_asked = obey(rt, alloc, &shared, &mut words, &Gone { alloc });
@@ -266,8 +266,8 @@ fn status_and_stop<R: Host + Net<Listener = TcpListener, Stream = TcpStream>>(
     settle(alloc, network)?;
     let mut words = b"status\nstop\n".as_slice();
     let is_asked = obey(rt, alloc, &bouncer.shared, &mut words, &Gone { alloc });
-    bouncer.shared.begin_stop();
-    stop(&rt, &bouncer.shared);
+    bouncer.shared.begin_stop(&rt);
+    stop(&rt, alloc, &bouncer.shared);
     phone.ends_with(alloc, "ERROR :bnc stops\r\n")?;
     network.ends_with(alloc, "QUIT :bnc stops\r\n")?;
     Ok(is_asked)

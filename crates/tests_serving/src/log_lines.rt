@@ -2,15 +2,17 @@
 
 use client_caps::Caps;
 use hub_core::AttachError;
-use serving::{Event, Recalling, Shown, Who};
+use serving::{Ending, NetworkEvent, SessionEvent, Shown, StrangerEvent, Who};
+use shell::Recalling;
 use std::alloc::Global;
+use std::fmt;
 use std::io::Read;
 use std::net::SocketAddr;
 use std::test::Fail;
 use test_stage::peer::same;
 
 /// Fails if an event is not written like this.
-fn is_written(alloc: Global, event: &Event, want: &str) -> Result<(), Fail> {
+fn is_written<E: fmt::Display>(alloc: Global, event: &E, want: &str) -> Result<(), Fail> {
     let text = format!(in alloc; "{event}")?;
     same(alloc, text.as_str().as_bytes(), want)
 }
@@ -36,64 +38,74 @@ fn what_the_log_tells(rt: HostRuntime) -> Result<(), Fail> {
     caps.batch = true;
     let rows = [
         (
-            Event::LoggedIn { peer, caps },
+            SessionEvent::LoggedIn { peer, caps },
             "logged in from 127.0.0.1:5000, multi-prefix batch",
         ),
         (
-            Event::CapsChanged { caps },
+            SessionEvent::CapsChanged { caps },
             "changed its capabilities, multi-prefix batch",
         ),
         (
-            Event::WrongPassword { peer },
-            "wrong password from 127.0.0.1:5000",
-        ),
-        (
-            Event::NotAttached(AttachError::NotReady),
+            SessionEvent::NotAttached(AttachError::NotReady),
             "not attached: not ready",
         ),
         (
-            Event::Cut { bytes: 9 },
+            SessionEvent::Cut { bytes: 9 },
             "session cut: it took too little; 9 bytes written",
         ),
         (
-            Event::Unsaid { lines: 7 },
+            SessionEvent::Unsaid { lines: 7 },
             "lost 7 lines that the client had not yet said",
         ),
     ];
     for (event, want) in rows {
         is_written(rt.alloc(), &event, want)?;
     }
-    Ok(())
+    let event = StrangerEvent::NoSuchNetwork { peer };
+    is_written(
+        rt.alloc(),
+        &event,
+        "login to a network that the user hasn't, from 127.0.0.1:5000",
+    )?;
+    let event = StrangerEvent::WrongPassword { peer };
+    is_written(rt.alloc(), &event, "wrong password from 127.0.0.1:5000")
 }
 
 #[test]
 fn what_the_log_tells_of_an_end(rt: HostRuntime) -> Result<(), Fail> {
+    let alloc = rt.alloc();
     let cause = "closed";
-    let retry = 30;
-    let said = Some(b"Closing Link: h (\x1bbye)".as_slice());
-    let (whole, bytes) = (false, 12);
-    let rows = [
-        (
-            Event::Lost { cause, said, retry },
-            "connection lost: closed; it said: Closing Link: h (?bye); dials again in 30 s",
-        ),
-        (
-            Event::BegunAnew,
-            "out of memory, begun anew: the messages and marks kept are gone",
-        ),
-        (
-            Event::Ended {
-                cause,
-                whole,
-                bytes,
-            },
-            "session ended: closed; cannot write; 12 bytes written",
-        ),
-    ];
-    for (event, want) in rows {
-        is_written(rt.alloc(), &event, want)?;
-    }
-    Ok(())
+    let said = Some(Vec::from_slice(alloc, b"Closing Link: h (\x1bbye)")?);
+    let ending = Ending::Lost { cause, said };
+    let event = NetworkEvent::Ended {
+        ending: &ending,
+        again: Some(30),
+    };
+    is_written(
+        alloc,
+        &event,
+        "connection lost: closed; it said: Closing Link: h (?bye); dials again in 30 s",
+    )?;
+    is_written(
+        alloc,
+        &NetworkEvent::EndedAlike { count: 12 },
+        "last reason repeated 12 times",
+    )?;
+    is_written(
+        alloc,
+        &NetworkEvent::BegunAnew,
+        "out of memory, begun anew: the messages and marks kept are gone",
+    )?;
+    let event = SessionEvent::Ended {
+        cause,
+        whole: false,
+        bytes: 12,
+    };
+    is_written(
+        alloc,
+        &event,
+        "session ended: closed; cannot write; 12 bytes written",
+    )
 }
 
 /// What a reader of this text, ten bytes at a time, keeps as the network's last words.
@@ -105,13 +117,21 @@ fn last_words(alloc: Global, text: &[u8]) -> Result<Option<Vec<u8>>, Fail> {
             break;
         }
     }
-    Ok(reader.parting(alloc))
+    Ok(reader.parting(alloc)?)
 }
 
 #[test]
 fn the_last_words_of_a_network(rt: HostRuntime) -> Result<(), Fail> {
     let alloc = rt.alloc();
-    let rows: [(&[u8], Option<&[u8]>); 4] = [
+    let rows: [(&[u8], Option<&[u8]>); 6] = [
+        (
+            b":s 465 a :You are banned\r\nERROR :Closing Link: h\r\n",
+            Some(b"You are banned"),
+        ),
+        (
+            b":s 463 a :Your host is not let in\r\n",
+            Some(b"Your host is not let in"),
+        ),
         (
             b":s 376 a :end\r\nERROR :Closing Link: h (Ping timeout)\r\n",
             Some(b"Closing Link: h (Ping timeout)"),

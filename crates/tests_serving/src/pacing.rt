@@ -11,7 +11,7 @@ use std::test::Fail;
 use std::time::{Duration, Instant};
 use test_stage::peer::Peer;
 
-/// How many lines are said at once.
+/// How many lines are sent at once.
 const LINES: u32 = 40;
 
 /// Limits for `accepts` clients, which may say `burst` bytes at once, and `pace` bytes a second.
@@ -36,7 +36,7 @@ fn lines(alloc: Global, source: &str, middle: &str) -> Result<String, Fail> {
     Ok(text)
 }
 
-/// The lines are said, with a PING in their middle.
+/// The lines are sent, with a PING in their middle.
 fn say_lines(alloc: Global, peer: &mut Peer) -> Result<(), Fail> {
     let said = lines(alloc, "", "PING :half\r\n")?;
     peer.say(said.as_str())

@@ -1,4 +1,4 @@
-//! A client that says much at once.
+//! A client that sends a lot at once.
 
 use crate::bouncer::{Bouncer, limits, start};
 use crate::coming_back::{Room, gather, leave};
@@ -6,7 +6,7 @@ use std::alloc::Global;
 use std::net::{Net, TcpListener, TcpStream};
 use std::test::Fail;
 
-/// How many lines are said at once: more than may wait for the network or for a session.
+/// How many lines are sent at once: more than may wait for the network or for a session.
 const LINES: u32 = 600;
 
 /// The lines, each after this text.

@@ -13,7 +13,7 @@ use test_stage::ann::LOGIN;
 use test_stage::peer::Peer;
 
 /// Waits until `count` logins wait, at most some ten seconds.
-fn wait_for_logins<R: Clock + Wait>(rt: &R, bouncer: &Bouncer, count: u64) {
+fn wait_for_logins<R: Clock + Wait>(rt: &R, bouncer: &Bouncer, count: usize) {
     for _ in 0..10_000 {
         if bouncer.shared.logins(rt) == count {
             return;
@@ -27,7 +27,7 @@ fn silent_ones<R: Clock + Wait + Net<Listener = TcpListener, Stream = TcpStream>
     rt: &R,
     alloc: Global,
     bouncer: &Bouncer,
-    count: u64,
+    count: usize,
 ) -> Result<Vec<Peer>, Fail> {
     let mut silent = Vec::new(alloc);
     for number in 0..count {

@@ -99,8 +99,9 @@ fn a_changed_network_is_dialled_anew(rt: HostRuntime) -> Result<(), Fail> {
     check(&rt, &mut steward, &rows)
 }
 
-/// A removed network: its client is told, has 50 to go, and then the network is sent QUIT; a dial
-/// that completes meanwhile is given up. The client of one that rests is told too.
+/// A removed network: its client gets its last line and has 50 ms to go, and then the network is
+/// sent QUIT; a dial that completes meanwhile is given up. The client of one that rests gets its
+/// last line too.
 #[test]
 fn a_removed_network_parts(rt: HostRuntime) -> Result<(), Fail> {
     let mut steward = steward(rt.alloc());
@@ -149,7 +150,7 @@ fn a_network_without_threads(rt: HostRuntime) -> Result<(), Fail> {
     check(&rt, &mut steward, &rows)
 }
 
-/// A network is begun anew once it keeps more than it may, after its client was told.
+/// A network is begun anew once it keeps more than it may, after its client got its last line.
 #[test]
 fn a_network_that_keeps_too_much(rt: HostRuntime) -> Result<(), Fail> {
     let mut steward = steward(rt.alloc());
@@ -166,8 +167,8 @@ fn a_network_that_keeps_too_much(rt: HostRuntime) -> Result<(), Fail> {
     check(&rt, &mut steward, &rows)
 }
 
-/// At a stop the client is told, then the network is sent QUIT, and it is over at its time whoever
-/// stays; nobody comes in, and nothing is dialled, reloaded or begun anew.
+/// At a stop the client gets its last line, then the network is sent QUIT, and it is over at its
+/// time whoever stays; nobody comes in, and nothing is dialled, reloaded or begun anew.
 #[test]
 fn a_stop_comes_to_its_end(rt: HostRuntime) -> Result<(), Fail> {
     let mut steward = steward(rt.alloc());

@@ -1,4 +1,4 @@
-//! What a client that comes is told of the network, by both views.
+//! What a client that attaches receives about the network, by both views.
 
 ghost use Rattle.std.specs.List.{AllByRecursion};
 ghost use Rattle.history.specs.Entry.{IsWrittenEntry};
@@ -137,7 +137,7 @@ const PERSONS_OF_SEVERAL_CHANNELS_TEXTS: [&[u8]; 9] = [
     b":al!a@h AWAY :lunch",
 ];
 
-/// Persons on two channels: each is told once, in the order of their keys, and then a message.
+/// Persons on two channels: each is sent once, in the order of their keys, and then a message.
 #[test]
 fn persons_of_several_channels(rt: HostRuntime) -> Result<(), Fail> {
     check_told(

@@ -24,7 +24,7 @@ pub(crate) fn asked(text: &[u8]) -> Result<Caps, Fail> {
     Ok(read_request(Caps::none(), text).ok_or("the request is taken")?)
 }
 
-/// The text of the image of a line that came at the beginning of 1970; `-` where there is none.
+/// The text of the image of a line that came at the beginning of 1970; `-` if there is none.
 fn image_text<V: NetworkView>(
     alloc: Global,
     view: &V,
@@ -62,7 +62,7 @@ pub(crate) fn check_images<R: AllocGlobal + Abort>(
     check_by_tables(rt, texts, &Images(rows))
 }
 
-/// The names of these capabilities, a space behind each; `-` where a request was not taken.
+/// The names of these capabilities, each with a space after it; `-` if a request was refused.
 fn names_held(alloc: Global, caps: Option<Caps>) -> Result<Vec<u8>, Fail> {
     let mut text = Vec::new(alloc);
     let Some(caps) = caps else {

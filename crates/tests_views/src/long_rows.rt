@@ -10,7 +10,7 @@ use std::process::Abort;
 use std::test::Fail;
 use welcome::state_part;
 
-/// The lines of this command that a client is told where it comes.
+/// The lines of this command that a client receives when it attaches.
 fn lines_told<V: NetworkView>(
     alloc: Global,
     view: &V,
@@ -31,7 +31,7 @@ fn lines_told<V: NetworkView>(
     Ok(out)
 }
 
-/// A command; capabilities, and its lines that are told.
+/// A command; capabilities, and its lines that are sent.
 #[derive(Clone, Copy)]
 struct Told<'a> {
     command: &'a [u8],
@@ -58,7 +58,7 @@ fn check_lines<R: AllocGlobal + Abort>(
     check_by_tables(rt, texts, &Told { command, rows })
 }
 
-/// Adds a byte so many times.
+/// Adds a byte `count` times.
 fn push_times(text: &mut Vec<u8>, byte: u8, count: usize) -> Result<(), Fail> {
     for _ in 0..count {
         text.push(byte)?;
@@ -77,7 +77,7 @@ fn push_ten(text: &mut Vec<u8>) -> Result<(), Fail> {
 }
 
 /// A name list of eleven members, of whom the last has a nick of this length: all between `start`
-/// and `end`, and the last behind a gap and its symbols.
+/// and `end`, and the last after a gap and its symbols.
 fn name_list(
     alloc: Global,
     start: &[u8],
@@ -94,7 +94,7 @@ fn name_list(
     Ok(text)
 }
 
-/// What a client with these capabilities is told of the members, after a name list.
+/// What a client with these capabilities receives about the members, after a name list.
 fn check_names<R: AllocGlobal + Abort>(
     rt: &R,
     told: &[u8],
@@ -142,7 +142,7 @@ fn a_name_longer_than_a_row(rt: HostRuntime) -> Result<(), Fail> {
     check_names(&rt, &told, b"", &wanted)
 }
 
-/// What a client is told of the settings, after a line of them.
+/// What a client receives about the settings, after a line of them.
 fn check_tokens<R: AllocGlobal + Abort>(rt: &R, told: &[u8], wanted: &[u8]) -> Result<(), Fail> {
     check_lines(
         rt,
@@ -173,8 +173,8 @@ fn tokens_up_to_twelve(rt: HostRuntime) -> Result<(), Fail> {
     Ok(())
 }
 
-/// Four tokens, of which three take 299 bytes with the spaces between them: all behind `start`, and
-/// the last, of this length, behind `gap`.
+/// Four tokens, of which three take 299 bytes with the spaces between them: all after `start`, and
+/// the last, of this length, after `gap`.
 fn token_list(
     alloc: Global,
     start: &[u8],
@@ -195,7 +195,7 @@ fn token_list(
     Ok(text)
 }
 
-/// Four tokens, of which the last has this length, are told with this before the last.
+/// Four tokens, of which the last has this length, are sent with this before the last.
 fn check_four_tokens<R: AllocGlobal + Abort>(rt: &R, len: usize, gap: &[u8]) -> Result<(), Fail> {
     let told = token_list(rt.alloc(), b":s 005 Me", b" ", len, b" :are supported")?;
     let end = b" :are supported by this server\r\n";

@@ -59,8 +59,8 @@ const LINES_WITH_THEIR_TIMES: [(&[u8], &[u8], &[u8]); 3] = [
     ),
 ];
 
-/// Lines, and what a client with server-time alone gets for them at the beginning of 1970, except
-/// where they say when they came.
+/// Lines, and what a client with server-time alone gets for them at the beginning of 1970, unless
+/// they have a time of their own.
 #[test]
 fn lines_with_their_times(rt: HostRuntime) -> Result<(), Fail> {
     check_images(&rt, &LINES_WITH_THEIR_TIMES_TEXTS, &LINES_WITH_THEIR_TIMES)

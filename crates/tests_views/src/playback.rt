@@ -206,7 +206,7 @@ fn messages_above_a_mark(rt: HostRuntime) -> Result<(), Fail> {
     )
 }
 
-/// Who missed nothing is played nothing.
+/// A client that missed nothing gets no playback.
 #[test]
 fn no_message_was_missed(rt: HostRuntime) -> Result<(), Fail> {
     let nothing: [(&[u8], &[u8]); 2] = [(b"", b""), (b"batch server-time", b"")];

@@ -24,7 +24,7 @@ fn a_rename_onto_a_person_who_is_there(rt: HostRuntime) -> Result<(), Fail> {
 }
 
 /// What the persons of a crowd do, one after the other: all three hundred, or those whose number
-/// leaves this rest, divided by three. A new nick has the number behind its letter too.
+/// leaves this rest, divided by three. A new nick has the number after its letter too.
 #[derive(Clone, Copy)]
 struct Deed<'a> {
     letter: &'a str,
@@ -54,7 +54,7 @@ const A_THIRD_IS_RENAMED: Deed<'static> = Deed {
     is_renamed: true,
 };
 
-/// The number of a crowd, from 100 to 399, that acts behind this one: 77 places further, round and
+/// The number of a crowd, from 100 to 399, that acts after this one: 77 places further, round and
 /// round.
 fn number_behind(number: usize) -> usize {
     if number < 323 {

@@ -1,4 +1,4 @@
-//! What clients of whole sessions are told, read back by a view: it shows what the network's view
+//! What clients of whole sessions receive, read back by a view: it shows what the network's view
 //! shows.
 
 use crate::clients::asked;
@@ -25,7 +25,7 @@ fn take_packet<V: NetworkView>(alloc: Global, view: &mut V, packet: &Packet) -> 
     Ok(())
 }
 
-/// A client that comes now: its view, to which nothing came, takes what it is told.
+/// A client that attaches now: its view, which has taken nothing, takes what it receives.
 fn arrive<V: NetworkView, C: NetworkView>(
     alloc: Global,
     view: &V,
@@ -39,7 +39,7 @@ fn arrive<V: NetworkView, C: NetworkView>(
     Ok(())
 }
 
-/// The settings in force as they came, a space behind each.
+/// The settings in force as they came, each with a space after it.
 fn settings_shown<V: NetworkView>(alloc: Global, view: &V) -> Result<Vec<u8>, Fail> {
     let mut text = Vec::new(alloc);
     for place in 0..view.support().token_count() {
@@ -64,7 +64,7 @@ fn have_the_same_settings<R: AllocGlobal + Abort, V: NetworkView, W: NetworkView
     Ok(())
 }
 
-/// A client that comes now with all capabilities is told what the view shows.
+/// A client that attaches now with all capabilities receives what the view shows.
 fn is_told_all<R: AllocGlobal + Abort, V: NetworkView, C: NetworkView>(
     rt: &R,
     view: &V,
@@ -80,7 +80,7 @@ fn tells_a_client<R: AllocGlobal + Abort, V: NetworkView>(rt: &R, view: &V) -> R
     is_told_all(rt, view, &mut QuickView::new(rt.alloc())?)
 }
 
-/// The same after each line of a session from where the view is ready.
+/// The same after each line of a session once the view is ready.
 fn check_arrivals<R: AllocGlobal + Abort, V: NetworkView>(
     rt: &R,
     view: &mut V,
@@ -176,7 +176,7 @@ fn knows_since<R: AllocGlobal + Abort>(
 }
 
 const IN_THE_MIDDLE_OF_NGIRCD: [(&[u8], &[u8]); 2] = [
-    // who was shown as an operator alone was voiced too, which such a client can't know
+    // a person shown as an operator alone was voiced too, which such a client can't know
     (
         b"",
         b"anna / #garden {n} [Roses, thyme and sage] anna ~bob %+eve \

@@ -1,6 +1,6 @@
 //! Each allocation refused in turn: for n from 1 on, the nth allocation of a call is refused, until
 //! the call meets no refusal. After each refusal all is as it was, and in the end the call answers
-//! what it answers where there is memory.
+//! what it answers if there is memory.
 
 mod kept;
 mod made;

@@ -7,7 +7,7 @@ use std::cell::Cell;
 /// Another allocator, of which one allocation is refused, as if there were no memory left then.
 pub(crate) struct Refusing<B: Allocator> {
     inner: B,
-    /// How many allocations there are up to the refused one; 0 where none is to be refused, or it
+    /// How many allocations there are up to the refused one; 0 if none is to be refused, or it
     /// was.
     left: Cell<u64>,
 }

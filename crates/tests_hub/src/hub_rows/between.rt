@@ -43,7 +43,7 @@ fn push_channels(text: &mut Vec<u8>, hub: &MemoryHub<QuickView>) -> Result<(), F
 }
 
 /// What the hub answers: the room to the network, whether a sign of life was asked for, the room
-/// after that, who is nearly full, and the channels of connections that were lost.
+/// after that, which sessions are nearly full, and the channels of connections that were lost.
 fn push_answers(text: &mut Vec<u8>, hub: &mut MemoryHub<QuickView>) -> Result<(), Fail> {
     push_count(text, b"room ", hub.upstream_free() as u64)?;
     push_life(text, hub.keepalive()?)?;

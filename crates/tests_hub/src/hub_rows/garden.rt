@@ -7,7 +7,7 @@ use hub_core::Setup;
 use std::process::Abort;
 use std::test::Fail;
 
-/// 500 messages are kept, and all is looked at that the first session is sent.
+/// 500 messages are kept; shown is all that the first session is sent.
 const OF_THE_FIRST: Story = Story {
     setup: Setup {
         history: 500,

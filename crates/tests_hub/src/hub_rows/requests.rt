@@ -4,7 +4,7 @@ use crate::hub_rows::STORY;
 use crate::hub_rows::scripts::{Story, check};
 use std::test::Fail;
 
-/// The first session is looked at, after its burst.
+/// Shown is what the first session is sent after its burst.
 const OF_THE_FIRST: Story = Story { of: 0, ..STORY };
 
 const LINES_THAT_ARE_ANSWERED: [&[u8]; 8] = [

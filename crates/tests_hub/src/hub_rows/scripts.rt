@@ -1,4 +1,4 @@
-//! Scripts of events, written as lines, and the text that comes of them.
+//! Scripts of events, written as lines, and the text that they give.
 
 ghost use Rattle.std.specs.Prelude.{◌≡◌, IfOk};
 ghost use Rattle.net_view.specs.View.{empty_view, view_back};
@@ -15,7 +15,7 @@ use std::process::Abort;
 use std::test::Fail;
 use tape_view::TapeView;
 
-/// How a script is run, and what is looked at: what one session is sent, from one of its packets on,
+/// How a script is run, and what is shown: what one session is sent, from one of its packets on,
 /// and whether the images that were made are counted.
 #[derive(Clone, Copy)]
 pub(crate) struct Story {

@@ -7,7 +7,7 @@ use std::process::Abort;
 use std::test::Fail;
 use test_texts::GREETING;
 
-/// All is looked at that the second session is sent.
+/// Shown is all that the second session is sent.
 const OF_THE_SECOND: Story = Story { from: 0, ..STORY };
 
 /// The burst of a client without capabilities, up to the channel's name list.

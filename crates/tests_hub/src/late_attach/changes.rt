@@ -1,5 +1,5 @@
 //! Late attach of clients whose capabilities change, from both sides: from then on a client knows
-//! what one that comes then with its new capabilities knows.
+//! what one that attaches then with its new capabilities knows.
 
 use super::known::defined_text;
 use super::received::received_by_one_that_changed;

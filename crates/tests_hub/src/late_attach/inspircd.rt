@@ -1,4 +1,4 @@
-//! Late attach at InspIRCd: each set of capabilities, and each place from where a client may come.
+//! Late attach at InspIRCd: each set of capabilities, and each place from which a client may come.
 
 use super::check_sets;
 use std::test::Fail;

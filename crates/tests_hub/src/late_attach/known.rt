@@ -48,7 +48,7 @@ fn lists(support: &Support, line: &Line, channel: &[u8], nick: &[u8]) -> bool {
     is_listed
 }
 
-/// What a person was called before a line, where that renamed them.
+/// A person's nick before a line, if the line renamed them.
 fn name_before<'a>(support: &Support, line: &'a Line, nick: &[u8]) -> Option<&'a [u8]> {
     if line.is(b"NICK") && support.mapping().same(line.param(0).unwrap_or(b""), nick) {
         return line.source_nick();
@@ -125,7 +125,7 @@ enum Told {
     Nothing,
 }
 
-/// Whether a member's highest rank is this one behind these lines.
+/// Whether this is a member's highest rank after these lines.
 fn is_top_after(
     alloc: Global,
     lines: &[&[u8]],

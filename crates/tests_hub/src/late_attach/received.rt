@@ -38,8 +38,8 @@ fn request(alloc: Global, old: Caps, new: Caps) -> Result<Event, Fail> {
     Ok(Event::Said(0, line(alloc, &text)?, Moment(0)))
 }
 
-/// The lines of a session, among them the client that comes, and behind as many lines as the last
-/// client came after, its request for the capabilities of that one.
+/// The lines of a session, with the client that comes among them; and its request for the last
+/// client's capabilities, after as many lines as that one came after.
 fn events_of(
     alloc: Global,
     session: &[&[u8]],

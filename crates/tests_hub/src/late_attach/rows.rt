@@ -28,8 +28,8 @@ const RANKS: [&[u8]; 7] = [
     b":s 353 Me = #c :Me +bob",
 ];
 
-/// Who was shown as an operator alone is no more one: whether he has a voice is not known until the
-/// next name list.
+/// A person shown as an operator alone loses that rank: whether he has a voice is not known until
+/// the next name list.
 #[test]
 fn a_rank_that_was_not_shown(rt: HostRuntime) -> Result<(), Fail> {
     let plain = Client {
@@ -51,7 +51,7 @@ fn a_rank_that_was_shown(rt: HostRuntime) -> Result<(), Fail> {
     check_text(&rt, &RANKS[..6], all, b"Me / #c +bob Me")
 }
 
-/// Each set of capabilities, and each place from where a client may come; before the name list and
+/// Each set of capabilities, and each place from which a client may come; before the name list and
 /// after it.
 #[test]
 fn ranks_for_each_set(rt: HostRuntime) -> Result<(), Fail> {
@@ -74,7 +74,7 @@ const ACCOUNT: [&[u8]; 7] = [
     b":bob!b@h JOIN #d",
 ];
 
-/// Who joins a second channel is known by the account that was told at the first.
+/// A person who joins a second channel has the account that was seen at the first one.
 #[test]
 fn an_account_that_is_not_told_again(rt: HostRuntime) -> Result<(), Fail> {
     let knows = Client {

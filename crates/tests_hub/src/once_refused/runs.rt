@@ -14,7 +14,7 @@ use std::process::Abort;
 use std::test::Fail;
 use test_texts::{GREETING, again, begins};
 
-/// A script, the text that comes of it by its story, and all that its two sessions are sent. The
+/// A script, the text that it gives by its story, and all that its two sessions are sent. The
 /// network is sent nothing.
 #[derive(Clone, Copy)]
 struct Row<'a> {

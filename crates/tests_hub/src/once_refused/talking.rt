@@ -1,4 +1,4 @@
-//! Lines of sessions that are said again.
+//! Lines of sessions that are sent again.
 
 use super::hubs::{QuickHub, hub_after, is_sent, sent_counts};
 use crate::hub_rows::BURST;
@@ -51,7 +51,7 @@ fn says<R: AllocGlobal + Abort>(
     }
 }
 
-/// Each line is answered as without a refusal, and goes where it then goes.
+/// Each line is answered, and goes on, as without a refusal.
 #[test]
 fn lines_of_two_sessions(rt: HostRuntime) -> Result<(), Fail> {
     let alloc = rt.alloc();

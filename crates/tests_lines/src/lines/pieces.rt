@@ -5,7 +5,7 @@ use std::alloc::Global;
 use std::process::Abort;
 use std::test::Fail;
 
-/// Feeds a piece, and then there are so many lines.
+/// Feeds a piece, and then there are this many lines.
 fn has_lines<R: AllocGlobal + Abort>(
     rt: &R,
     splitter: &mut Splitter,
@@ -64,7 +64,7 @@ fn a_line_cut_after_each_byte(rt: HostRuntime) -> Result<(), Fail> {
 const FIVE_THAT_ARE_NO_LINES: &[u8] =
     b"\r\n  \n\n12 x\nNI1CK x\r\nPING \0\nPING\rx\nPING x\r\r\nPING x\nPI";
 
-/// Five texts that are no lines are skipped, and the lines between and behind them are read.
+/// Five texts that are no lines are skipped, and the lines between and after them are read.
 fn five_are_skipped<R: AllocGlobal + Abort>(
     rt: &R,
     splitter: &mut Splitter,
@@ -82,7 +82,7 @@ fn what_is_no_line_is_skipped(rt: HostRuntime) -> Result<(), Fail> {
     five_are_skipped(&rt, &mut splitter, &mut lines)
 }
 
-/// So many letters behind `PING ` are a line, and one more is none: what is refused is forgotten.
+/// This many letters after `PING ` are a line, and one more is none: what is refused is forgotten.
 fn one_above<R: AllocGlobal + Abort>(
     rt: &R,
     splitter: &mut Splitter,
@@ -104,7 +104,7 @@ fn a_line_at_the_limit_and_one_above(rt: HostRuntime) -> Result<(), Fail> {
     one_above(&rt, &mut splitter, &mut lines, &most)
 }
 
-/// Three ends of lines, and a line of so many letters.
+/// Three ends of lines, and a line of this many letters.
 fn lines_in_a_piece(alloc: Global, count: usize) -> Result<Vec<u8>, Fail> {
     let mut piece = b"\n\n\n".to_vec(alloc)?;
     for _ in 0..count {

@@ -7,7 +7,7 @@ use std::process::Abort;
 use std::test::Fail;
 use test_texts::line;
 
-/// Adds the symbols of these ranks, highest first, what stands behind them, and a space.
+/// Adds the symbols of these ranks, highest first, what comes after them, and a space.
 fn push_word(
     settings: &Support,
     ranks: Ranks,
@@ -115,7 +115,7 @@ fn a_word_cut_behind_its_symbols(rt: HostRuntime) -> Result<(), Fail> {
     Ok(())
 }
 
-/// Whether a word is cut behind the symbols of both ranks.
+/// Whether a word is cut after the symbols of both ranks.
 fn is_cut_behind_its_symbols(settings: &Support) -> bool {
     let (ranks, name) = settings.split_symbols(b"+@bob!b@h");
     ranks == Ranks::none().with(0).with(1) && name == b"bob!b@h".as_slice()
@@ -176,7 +176,7 @@ fn has_one_and_two(text: &[u8]) -> bool {
     first_word(text) == Some(b"one".as_slice()) && second_word(text) == Some(b"two".as_slice())
 }
 
-/// A text before and behind the first of a byte.
+/// A text before and after the first of a byte.
 #[test]
 fn cuts_of_a_text(rt: HostRuntime) {
     let (before, behind) = cut(b'=', b"A=x=y");

@@ -27,7 +27,7 @@ enum Made {
     Catchup,
 }
 
-/// The bytes of an image; `-` where there is none.
+/// The bytes of an image; `-` if there is none.
 fn image_text<V: NetworkView, A: Allocator + Copy + Drop>(
     plain: Global,
     alloc: A,

@@ -10,7 +10,7 @@ use tape_view::TapeView;
 use test_texts::line;
 use test_views::item;
 
-/// Lines, and behind each whether the view is ready and how many tokens are in force.
+/// Lines, and after each whether the view is ready and how many tokens are in force.
 const FIXED: [(&[u8], bool, usize); 8] = [
     (b":s 005 Me A B :before the welcome", false, 0),
     (b":s 376 Me :end", false, 0),

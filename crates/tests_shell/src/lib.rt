@@ -1,0 +1,18 @@
+//! Tests alone: the readers, the pace and the writer of the shell, over streams in memory that come
+//! in pieces and fail.
+#![tactic(auto)]
+
+#[cfg(test)]
+mod after_connect;
+#[cfg(test)]
+mod clients;
+#[cfg(test)]
+mod last_lines;
+#[cfg(test)]
+mod line_by_line;
+#[cfg(test)]
+mod memory;
+#[cfg(test)]
+mod networks;
+#[cfg(test)]
+mod pace;
