@@ -11,7 +11,7 @@ trap 'rm -rf "$at"' EXIT
 mkdir "$at/want" "$at/got"
 umask 077 # bnc warns of settings that others can read
 files=$(find . -type f ! -path ./README.md)
-if grep -vE '^\./(view|attach|check|setup|words)/[^/. ]+\.(in|args|out|err|status)$' <<< "$files"; then
+if grep -vE '^\./(view|attach|check|setup|log|words)/[^/. ]+\.(in|args|out|err|status)$' <<< "$files"; then
   echo "cases: these are no parts of a case" >&2
   exit 1
 fi
@@ -21,7 +21,7 @@ for case in $(sed 's/\.[a-z]*$//' <<< "$files" | sort -u); do
   mkdir -p "$room"
   if [ "$folder" != words ]; then words=("$folder"); fi
   if [ -e "$case.args" ]; then mapfile -t -O "${#words[@]}" words < "$case.args"
-  elif [ "$folder" = check ]; then words+=(bnc.toml)
+  elif [ "$folder" = check ] || [ "$folder" = log ]; then words+=(bnc.toml)
   elif [ "$folder" = setup ]; then words+=(new.toml); fi
   if [ -e "$case.in" ]; then input=$PWD/$case.in && cat "$input" > "$room/bnc.toml"; fi
   (cd "$room" && exec timeout 60 "$bnc" "${words[@]}") < "$input" > "$at/got/out" 2> "$at/got/err" || status=$?

@@ -1,6 +1,6 @@
 #!/usr/bin/env bash
 # Shows what a bouncer does, in ten seconds: a network, bnc at it, and a laptop that leaves and attaches
-# late, with each line and who sent it. The status is 1 if the laptop is told anything wrong.
+# late, with each line and who sent it. The status is 1 if the laptop receives anything wrong.
 #
 # BNC names the program; else it is the one that was built here, or the one that is installed.
 set -eu

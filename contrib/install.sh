@@ -49,7 +49,7 @@ install -D -m 755 "$at/$name" "$prefix/bin/bnc"
 install -D -m 644 "$here/docs/bnc.1" "$prefix/share/man/man1/bnc.1"
 echo "installed $version as $prefix/bin/bnc"
 
-# so many random bytes, each as two characters
+# random bytes, as many as asked for, each as two characters
 random() { head -c "$1" /dev/urandom | od -An -tx1 | tr -d ' \n'; }
 
 # settings with a password of their own, and the FIFO that controls the program

@@ -4,8 +4,8 @@
 #
 #   contrib/prove.sh [AT_ONCE]
 #
-# AT_ONCE: how many crates may be proved at once, 3 if it is not given. A line tells of each crate
-# as it ends. What was proved is kept, so a run that was broken off goes on where it was.
+# AT_ONCE: how many crates may be proved at once, 3 if it is not given. Each crate gets a line
+# when it ends. What was proved is kept, so a run that was broken off goes on where it was.
 set -eu
 cd "$(dirname "$0")/.."
 at_once=${1:-3}

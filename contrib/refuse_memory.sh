@@ -71,7 +71,7 @@ fault() {
 }
 
 # sweep NAME KIND STATUS COMMAND..: refuses each allocation of a command that reads $at/input, and
-# ends with this status where none is refused
+# ends with this status if none is refused
 sweeps=0
 refusals=0
 sweep() {

@@ -1,5 +1,10 @@
-"""A small IRC network on the loopback range, bnc at it, and clients: for try_random.py and demo.py."""
+"""A small IRC network on the loopback range, bnc at it, and clients.
 
+For random_network.py, try_random.py, try_sasl.py, try_networks.py and demo.py.
+"""
+
+import base64
+import binascii
 import collections
 import contextlib
 import hashlib
@@ -15,8 +20,8 @@ CAPABILITIES = [
 ]
 SYMBOLS = {"o": "@", "v": "+"}
 PATIENCE = 60  # seconds that anything may take
-SETTINGS = """listen = "127.0.0.1:{client_port}"
-history = 10000
+SETTINGS = """listen = {listen}
+{top}history = 10000
 retry = 1
 [[user]]
 name = "ann"
@@ -24,12 +29,12 @@ salt = "61"
 password = "{digest}"
 [[user.network]]
 name = "net"
-address = "127.0.0.1:{network_port}"
+address = "{address}"
 nick = "ann"
 user = "ann"
 realname = "Ann"
 join = [{join}]
-"""
+{more}"""
 
 
 class Wrong(Exception):
@@ -83,19 +88,20 @@ def change_modes(channel, letters, params):
 class Client:
     """A client: what its lines tell it."""
 
-    def __init__(self, port, name, caps):
+    def __init__(self, port, name, caps, before="", host="127.0.0.1", network="net"):
         self.name, self.caps = name, caps
         self.nick, self.channels, self.messages = None, {}, []
         self.marks, self.last, self.wrong = set(), collections.deque(maxlen=5), None
         self.is_welcome, self.lock, self.is_closed = False, threading.Lock(), threading.Event()
-        self.socket = socket.create_connection(("127.0.0.1", port), PATIENCE)
-        hello = "CAP LS 302\r\n" if caps else ""
-        hello += f"PASS ann@{name}/net:bc\r\nNICK x\r\nUSER x 0 * :x\r\n"
+        self.socket = socket.create_connection((host, port), PATIENCE)
+        hello = before + ("CAP LS 302\r\n" if caps else "")
+        hello += f"PASS ann@{name}/{network}:bc\r\nNICK x\r\nUSER x 0 * :x\r\n"
         if caps:
             hello += f"CAP REQ :{' '.join(caps)}\r\nCAP END\r\n"
-        for start in range(0, len(hello), 7):
-            self.socket.sendall(hello[start : start + 7].encode())
         threading.Thread(target=self.read, daemon=True).start()
+        with contextlib.suppress(ConnectionError):  # it may be refused before it has said all
+            for start in range(0, len(hello), 7):
+                self.socket.sendall(hello[start : start + 7].encode())
 
     def read(self):
         held = b""
@@ -145,7 +151,7 @@ class Client:
             is_mark = params[1].startswith("mark")
             (self.marks.add if is_mark else self.messages.append)(params[1])
         elif command in ("ERROR", "464") or (command == "BATCH" and "batch" not in self.caps):
-            self.wrong = line
+            self.wrong = self.wrong or line
 
     def take_members(self, command, who, params):
         if command == "JOIN":
@@ -195,14 +201,21 @@ class Client:
 
 
 class Network:
-    """An IRC network, to which one user comes, by bnc."""
+    """An IRC network, to which one user comes, by bnc.
 
-    def __init__(self, channels):
+    With an account, a name and a password, it offers a login by SASL PLAIN (IRCv3 sasl 3.2, RFC
+    4616), and EXTERNAL for anybody.
+    """
+
+    def __init__(self, channels, account=None, host="127.0.0.1"):
         self.channels, self.nick = {name: Channel() for name in channels}, "ann"
+        self.account, self.mechanism, self.response = account, None, ""
+        self.logged_in = None  # the account's name
         self.joined, self.said = set(), []
         self.pings, self.pongs = 0, set()
         self.waiting, self.held, self.socket = b"", b"", None
-        self.listener = socket.create_server(("127.0.0.1", 0))
+        family = socket.AF_INET6 if ":" in host else socket.AF_INET
+        self.listener = socket.create_server((host, 0), family=family)
         self.listener.settimeout(PATIENCE)
 
     def put(self, line):
@@ -218,7 +231,7 @@ class Network:
         self.socket, _ = self.listener.accept()
         self.socket.setsockopt(socket.IPPROTO_TCP, socket.TCP_NODELAY, 1)
         self.held, self.waiting, self.joined, self.nick = b"", b"", set(), "ann"
-        self.is_open = False
+        self.is_open, self.logged_in, self.mechanism = False, None, None
         wait_for("registration", lambda: self.is_open, lambda: self.hear(0.05))
         for line in (
             ":s 001 ann :hi",
@@ -247,11 +260,14 @@ class Network:
     def take(self, line):
         command, _, rest = line.partition(" ")
         if line.startswith("CAP LS"):
-            self.put(":s CAP * LS :" + " ".join(CAPABILITIES[:5]))
+            sasl = ["sasl=EXTERNAL,PLAIN"] if self.account else []
+            self.put(":s CAP * LS :" + " ".join(CAPABILITIES[:5] + sasl))
         elif line.startswith("CAP REQ"):
             self.put(":s CAP * ACK " + rest[4:])
         elif line.startswith("CAP END"):
             self.is_open = True
+        elif command == "AUTHENTICATE":
+            self.authenticate(rest)
         elif command == "JOIN":
             for name in rest.split(" ")[0].split(","):
                 self.join(name)
@@ -261,6 +277,38 @@ class Network:
             self.put(f":s PONG s {rest}")
         elif command == "PONG":
             self.pongs.add(rest.removeprefix(":"))
+
+    def authenticate(self, param):
+        """Takes a mechanism, or a piece of a response; the last piece is shorter than 400 bytes."""
+        if self.mechanism is None:
+            if param not in ("PLAIN", "EXTERNAL"):
+                return self.put(":s 908 ann EXTERNAL,PLAIN :are available SASL mechanisms")
+            self.mechanism, self.response = param, ""
+            return self.put("AUTHENTICATE +")
+        if len(param) > 400:
+            return self.put(":s 905 ann :SASL message too long")
+        self.response += "" if param == "+" else param
+        if len(param) == 400:
+            return None
+        mechanism, self.mechanism = self.mechanism, None
+        if mechanism == "EXTERNAL":
+            name = "ann" if not self.response else None
+        else:
+            name = self.account_of(self.response)
+        if name is None:
+            return self.put(":s 904 ann :SASL authentication failed")
+        self.logged_in = name
+        self.put(f":s 900 ann ann!a@h {name} :You are now logged in as {name}")
+        return self.put(":s 903 ann :SASL authentication successful")
+
+    def account_of(self, response):
+        """The account of PLAIN's message, if it acts for itself and has the password."""
+        try:
+            acts_for, name, password = base64.b64decode(response, validate=True).split(b"\0")
+        except (binascii.Error, ValueError):
+            return None
+        is_right = (name.decode(), password.decode()) == self.account
+        return name.decode() if is_right and acts_for in (b"", name) else None
 
     def ask(self):
         """Waits until bnc has taken all that it was sent: it answers a PING after that."""
@@ -299,30 +347,38 @@ class Network:
 
 
 @contextlib.contextmanager
-def serving(program, network, join):
+def serving(program, network, join, more="", log=None, top="", listen=None):
     """Runs bnc, which joins these channels of the network, and gives the port of its clients.
 
-    It ends bnc at the end, and adds the end of its log to what was wrong.
+    `more` has further keys of the network, `top` those above it, and `listen` where bnc listens if
+    not at that port alone; "PORT" stands for it. It ends bnc at the end, and adds the end of its log to
+    what was wrong; a list `log` gets the whole of it.
     """
     reserved = reserve_port()
     client_port = reserved.getsockname()[1]
+    host, port = network.listener.getsockname()[:2]
     settings = SETTINGS.format(
-        client_port=client_port,
-        network_port=network.listener.getsockname()[1],
+        listen=(listen or '"127.0.0.1:PORT"').replace("PORT", str(client_port)),
+        top=top,
+        address=f"[{host}]:{port}" if ":" in host else f"{host}:{port}",
         digest=hashlib.sha256(b"abc").hexdigest(),
         join=", ".join(f'"{name}"' for name in join),
+        more=more,
     )
     with tempfile.TemporaryDirectory() as folder:
         path = os.path.join(folder, "bnc.toml")
         with open(path, "w", encoding="utf-8", opener=lambda p, f: os.open(p, f, 0o600)) as file:
             file.write(settings)
-        with open(os.path.join(folder, "log"), "w+", encoding="utf-8") as log:
-            bnc = subprocess.Popen([program, "serve", path], stdout=log, stderr=log)
+        with open(os.path.join(folder, "log"), "w+", encoding="utf-8") as out:
+            bnc = subprocess.Popen([program, "serve", path], stdout=out, stderr=out)
             try:
                 yield client_port
             except (Wrong, OSError) as wrong:
-                log.seek(0)
-                raise Wrong(f"{wrong}\n{log.read()[-600:]}") from wrong
+                out.seek(0)
+                raise Wrong(f"{wrong}\n{out.read()[-600:]}") from wrong
             finally:
                 bnc.kill()
                 bnc.wait(PATIENCE)
+                if log is not None:
+                    out.seek(0)
+                    log.append(out.read())

@@ -4,7 +4,7 @@
 #   contrib/tls.sh FILE.toml [-c CERTIFICATE -k KEY] [PORT=HOST:PORT]..
 #
 # Clients connect with TLS to port 6697. Without a certificate one is made beside FILE.toml, which
-# clients have to be told to trust. PORT=HOST:PORT says where a network is whose `address` in the
+# clients must be set to trust. PORT=HOST:PORT says where a network is whose `address` in the
 # settings is 127.0.0.1:PORT; its certificate is checked. The result is FILE.stunnel.conf, and the
 # last line says how to start it. docs/TLS.md has what to know.
 set -eu

@@ -139,7 +139,7 @@ say() { echo "$2" > "p/$1/127.0.0.1/in"; }
 is_there() { [ -p "p/$1/127.0.0.1/in" ] && grep -q ' 00[14] ' "$1.raw"; }
 bob() { : > bob.raw; person bob 16660; until_it 'bob is there' is_there bob; say bob '/j #c'; sleep 1; }
 
-# the members of #c as the server lists them to bob, each behind its highest symbol
+# the members of #c as the server lists them to bob, each with its highest symbol in front
 members() {
   from=$(($(wc -l < bob.raw) + 1))
   say bob '/NAMES #c'
@@ -154,7 +154,7 @@ counted() { members > server.names; [ "$(wc -l < server.names)" = "$1" ]; }
 
 all_there() { for number in $(seq $persons); do is_there "$1$number" || return 1; done; }
 
-# crowd LETTER: so many persons come to server b and to #c
+# crowd LETTER: $persons persons come to server b and to #c
 crowd() {
   for number in $(seq $persons); do person "$1$number" 16661; done
   until_it "the persons $1" all_there "$1"
