@@ -51,8 +51,8 @@ fn wait_for_log<R: Wait + Clock>(rt: &R, log: &Log, start: Instant, time: Durati
 }
 
 /// Ends the service: each client is sent `ERROR :bnc stops` after what waits for it, also one that
-/// logs in, then each network `QUIT :bnc stops`, and the journals and the log are written out. It takes no longer than
-/// the limits say; who has not taken all by then gets no more.
+/// logs in, then each network `QUIT :bnc stops`, and the journals and the log are written out. It
+/// takes no longer than the limits say; who has not taken all by then gets no more.
 pub fn stop<R: Host>(rt: &R, alloc: Global, shared: &Shared) {
     let Ok(start) = Instant::now(rt) else {
         return;
