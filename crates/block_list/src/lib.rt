@@ -1,5 +1,5 @@
 //! A list in blocks: an item that comes or goes moves a part of its own block, and one item of each
-//! block behind.
+//! block after it.
 #![tactic(auto)]
 
 mod blocks;

@@ -9,7 +9,7 @@ use std::collections::VecDeque;
 /// How many items a full block has.
 pub(crate) const BLOCK: usize = 128;
 
-/// Makes room for one item in the block at `first`: from the last block down to the one behind it,
+/// Makes room for one item in the block at `first`: from the last block down to the one after it,
 /// each takes the last item of the one before.
 pub(crate) fn make_room<T, A: Allocator>(
     blocks: &mut Vec<VecDeque<T, A>, A>,

@@ -257,7 +257,7 @@ fn pong_line<A: Allocator, B: Allocator + Drop>(
 /// | `PING x` | `:bnc PONG bnc x`; `:bnc PONG bnc` without a parameter |
 /// | any other | nothing |
 ///
-/// A client without a nick is called `*`. `OutOfMemory` is told where an allocation was refused,
+/// A client without a nick is called `*`. `OutOfMemory` if an allocation was refused,
 /// and for no other cause.
 pub fn answer<A: Allocator, B: Allocator + Copy + Drop>(
     alloc: B,

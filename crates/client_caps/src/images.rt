@@ -268,7 +268,7 @@ fn sent_as<V: NetworkView, A: Allocator, B: Allocator + Copy + Drop>(
 /// the network go; with server-time the tag `time` comes, as
 /// `@time=2020-01-02T03:04:05.678Z :bob!b@h PRIVMSG #c hi`: the line's own time, where it has one
 /// of that form, else the moment (IRCv3 multi-prefix, extended-join, account-notify, away-notify,
-/// server-time). A line that is sent as it is takes one allocation. `OutOfMemory` is told where an
+/// server-time). A line that is sent as it is takes one allocation. `OutOfMemory` if an
 /// allocation was refused, and for no other cause.
 #[tactic(auto, unfolding(crate::specs::Images::image_of))]
 pub fn image<V: NetworkView, A: Allocator, B: Allocator + Copy + Drop>(
@@ -313,7 +313,7 @@ fn push_part<V: NetworkView, A: Allocator + Copy + Drop>(
 
 /// What a client is sent for a loss of the connection: that we leave each channel, as
 /// `:Me PART #c`, in the order of the channels' keys. The view is the one before the loss.
-/// `OutOfMemory` is told where an allocation was refused, and for no other cause.
+/// `OutOfMemory` if an allocation was refused, and for no other reason.
 #[tactic(auto, using(crate::proofs::ImageMade::part_steps))]
 pub fn part_lines<V: NetworkView, A: Allocator + Copy + Drop>(
     alloc: A,

@@ -3,6 +3,7 @@
 #![tactic(auto)]
 
 mod entry;
+mod keeping;
 pub mod laws;
 mod marks;
 mod names;
@@ -10,6 +11,7 @@ mod ring;
 mod targets;
 
 pub use entry::{Entry, is_message};
+pub use keeping::Keeping;
 pub use marks::{AdmitError, Marks, NAME_LIMIT};
 pub use ring::{CAPACITY_LIMIT, CapacityError, History, PushError};
 pub use std::alloc::AllocError as OutOfMemory;

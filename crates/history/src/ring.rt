@@ -100,7 +100,7 @@ impl<A: Allocator> Model for History<A> {
     ghost invariant = { λ h. IsTied h.capacity h.kept.entries h.next h.targets };
 }
 
-/// The number behind this one; `None` behind the last one.
+/// The number after this one; `None` after the last one.
 fn number_after(number: u64) -> Option<u64>
     ensures { result ≡ number_after number }
 {

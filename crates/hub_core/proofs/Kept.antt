@@ -2,13 +2,17 @@
 use Rattle.hub_core.proofs.Words
 use Words.{◌++◌, ◌+◌, ◌<◌, ◌∷◌, ◌≡◌, AllByRecursion, Arrival, Bool, Came, EntryParts, IfSome}
 use Words.{IsSome, List, Messages, None, Option, OutletState, Parts, Some, Text, [], append-nil}
-use Words.{arith, content_said, entry_for, false, filter_map, is_message, map, map-append}
+use Words.{Kept, arith, content_said, entry_for, entry_kept, false, filter_map, is_message, map, map-append}
 use Words.{is_message_command, length, length-append, nat_tests, option_map, option_map_or}
-use Words.{option_to_list, refl, true, with_entry, ℕ}
+use Words.{View, is_spread_by, option_to_list, refl, true, with_entry, ℕ}
 use Rattle.history.{proofs.LastMessages.all_kept, specs.Entry.{IsWrittenEntry, message_of}}
 use Rattle.history.specs.Messages.{AreKeptBefore, is_missed, missed_of, no_messages, with_message}
 use Rattle.hub_core.specs.{Pumping.{Puts, pong_for}, Running.{AreMessages, AreNumbered, content}}
-use Rattle.hub_core.specs.Running.{heard_among, kept_on, said_among}
+use Rattle.hub_core.specs.Running.{IsChosen, chosen_of, heard_among, is_content_kept, kept_on, said_among}
+use Rattle.history.specs.{Entry.target_and_text, Keeping.is_kept_said}
+use Rattle.irc_names.specs.declared.case_mapping.CaseMapping.{CaseMapping}
+unfoldable use Rattle.irc_support.specs.Settings.{mapping_of}
+use Rattle.std.proofs.{Common.{if◌then◌else◌, is_some}, SliceLists.all_by_recursion_push}
 use Rattle.{irc_line.specs.Writing.untagged_line, std.proofs.Common.{◌^◌, filter}}
 use Rattle.std.proofs.lemmas.List.Elements.{filter_map-append}
 use Rattle.{std.specs.Prelude.IsTrue, welcome.proofs.EachOf.{each_kept, mapped}}
@@ -17,6 +21,15 @@ use Rattle.{std.specs.Prelude.IsTrue, welcome.proofs.EachOf.{each_kept, mapped}}
 pub entry_is_message : (x : Came)
     → IfSome (entry_for x) (λ e. IsTrue (is_message_command e.command))
 entry_is_message x = grind arith
+
+pub kept_is_message : (k : Kept) (x : Came)
+    → IfSome (entry_kept k x) (λ e. IsTrue (is_message_command e.command))
+kept_is_message k x = grind arith
+
+-- what is kept, if it is, is the message
+pub kept_if : (k : Kept) (x : Came) (is_kept : Bool) → is_kept ≡ is_some (entry_kept k x)
+    → (if is_kept then entry_for x else None) ≡ entry_kept k x
+kept_if k x is_kept e = grind (arith, e)
 
 -- what holds of each message, and of one more if it has a number
 pub all_stay : (P : ℕ × EntryParts → Type 0) (h : Messages) (e : EntryParts) (o : Option ℕ)
@@ -54,13 +67,16 @@ pub all_map : {X : Type 0} (P Q : X → Type 0) → ((x : X) → P x → Q x) �
 all_map P Q f [] all = tt
 all_map P Q f (x ∷ xs) all = grind (arith, f x, all_map P Q f xs)
 
-pub numbered_start : (first : ℕ) (h : Messages) → first < 2 ^ 64 → AreKeptBefore first h
-    → AreNumbered [] [] first h
-numbered_start first h small k = record {
+pub numbered_start : (k : Kept) (first : ℕ) (h : Messages) → first < 2 ^ 64
+    → AreKeptBefore first h → AreNumbered k [] [] first h
+numbered_start choices first h small k = record {
   began = h;
   before = k;
   order = [];
   heard_are = refl;
+  sayings = [];
+  sent_are = refl;
+  chosen = tt;
   said_are = refl;
   are = refl;
   messages = k.messages;
@@ -73,15 +89,17 @@ pub kept_more : (h : Messages) (es : List EntryParts) (e : EntryParts)
 kept_more h [] e = refl
 kept_more h (m ∷ ms) e = kept_more (with_entry h (Some m)) ms e
 
-module _ (heard : List EntryParts) (said : List (List Text)) (first : ℕ) (h : Messages)
-    (k : AreNumbered heard said first h) where
+module _ (choices : Kept) (heard : List EntryParts) (said : List (List Text)) (first : ℕ)
+    (h : Messages) (k : AreNumbered choices heard said first h) where
   -- a message more, which has its number
   one_more : (side : Bool) (e : EntryParts) (heard' : List EntryParts) (said' : List (List Text))
-      → heard_among (k.order ++ (side, e) ∷ []) ≡ heard'
-      → map content (said_among (k.order ++ (side, e) ∷ [])) ≡ said'
+      (sayings : List (Bool × List Text)) → heard_among (k.order ++ (side, e) ∷ []) ≡ heard'
+      → map (λ (s : Bool × List Text). s.1) sayings ≡ said'
+      → AllByRecursion (IsChosen choices) sayings
+      → map content (said_among (k.order ++ (side, e) ∷ [])) ≡ chosen_of sayings
       → IsSome h.next → IsTrue (is_message_command e.command) → IsWrittenEntry e
-      → AreNumbered heard' said' first (with_entry h (Some e))
-  one_more side e heard' said' h_are s_are some is written =
+      → AreNumbered choices heard' said' first (with_entry h (Some e))
+  one_more side e heard' said' sayings h_are all_are chosen s_are some is written =
       let n : first + length (k.order ++ (side, e) ∷ []) ≡ first + length k.order + 1 =
       omega (arith, length-append k.order ((side, e) ∷ [])) in
       let all = map-append (λ (m : Bool × EntryParts). m.1) k.order ((side, e) ∷ []) in
@@ -91,6 +109,9 @@ module _ (heard : List EntryParts) (said : List (List Text)) (first : ℕ) (h : 
         before = k.before;
         order = k.order ++ (side, e) ∷ [];
         heard_are = h_are;
+        sayings = sayings;
+        sent_are = all_are;
+        chosen = chosen;
         said_are = s_are;
         are = rw (all, more, ← k.are) refl;
         messages = messages_stay h (Some e) k.messages is;
@@ -102,20 +123,48 @@ module _ (heard : List EntryParts) (said : List (List Text)) (first : ℕ) (h : 
   -- it was heard
   pub numbered_heard : (e : Option EntryParts) → (IsSome e → IsSome h.next)
       → IfSome e (λ e. IsTrue (is_message_command e.command)) → IfSome e IsWrittenEntry
-      → AreNumbered (heard ++ option_to_list e) said first (with_entry h e)
+      → AreNumbered choices (heard ++ option_to_list e) said first (with_entry h e)
   numbered_heard None some is written = rw (append-nil heard) k
   numbered_heard (Some e) some is written =
-      one_more true e _ _ (grind (arith, filter_more, k.heard_are))
+      one_more true e _ _ k.sayings (grind (arith, filter_more, k.heard_are)) k.sent_are k.chosen
       (grind (arith, filter_more, append-nil, k.said_are)) (some refl) is written
+
+  -- one saying more
+  all_sent : (s : Bool × List Text)
+      → map (λ (s : Bool × List Text). s.1) (k.sayings ++ s ∷ []) ≡ said ++ s.1 ∷ []
+  all_sent s = rw (map-append (λ (s : Bool × List Text). s.1) k.sayings (s ∷ []), k.sent_are) refl
 
   -- it was said
   pub numbered_said : (e : Option EntryParts) → (IsSome e → IsSome h.next)
       → IfSome e (λ e. IsTrue (is_message_command e.command)) → IfSome e IsWrittenEntry
-      → AreNumbered heard (said ++ option_to_list (option_map content e)) first (with_entry h e)
-  numbered_said None some is written = rw (append-nil said) k
-  numbered_said (Some e) some is written =
-      one_more false e _ _ (grind (arith, filter_more, append-nil, k.heard_are))
+      → IfSome (option_map content e) (λ c. IsChosen choices (true, c))
+      → AreNumbered choices heard (said ++ option_to_list (option_map content e)) first
+      (with_entry h e)
+  numbered_said None some is written chosen = rw (append-nil said) k
+  numbered_said (Some e) some is written chosen =
+      one_more false e _ _ (k.sayings ++ (true, content e) ∷ [])
+      (grind (arith, filter_more, append-nil, k.heard_are)) (all_sent (true, content e))
+      (all_by_recursion_push (IsChosen choices) k.sayings (true, content e) k.chosen chosen)
       (grind (arith, filter_more, map-append, k.said_are)) (some refl) is written
+
+  -- it was said, and is not kept
+  pub numbered_passed : (c : Option (List Text)) → IfSome c (λ c. IsChosen choices (false, c))
+      → AreNumbered choices heard (said ++ option_to_list c) first h
+  numbered_passed None chosen = rw (append-nil said) k
+  numbered_passed (Some c) chosen = record {
+    began = k.began;
+    before = k.before;
+    order = k.order;
+    heard_are = k.heard_are;
+    sayings = k.sayings ++ (false, c) ∷ [];
+    sent_are = all_sent (false, c);
+    chosen = all_by_recursion_push (IsChosen choices) k.sayings (false, c) k.chosen chosen;
+    said_are = grind (arith, filter_more, append-nil, k.said_are);
+    are = k.are;
+    messages = k.messages;
+    written = k.written;
+    numbers = k.numbers;
+  }
 
 -- ---- packets for the network
 
@@ -124,6 +173,41 @@ pub said_content : (time : Text) (source : Option Text) (line : Parts) → is_me
     → IsSome source → content_said (untagged_line None line.command line.params ∷ [])
     ≡ option_map content (message_of time source line)
 said_content time source line e some = grind (arith, nat_tests, e)
+
+-- a message that is kept is one
+pub spread_is_message : (k : Kept) (v : View) (line : Parts) → is_spread_by k v line ≡ true
+    → is_message line ≡ true
+spread_is_message k v line e = grind (arith, e)
+
+-- what is said is kept by its target and text
+content_kept : (k : Kept) (own : Option Text) (m : CaseMapping) (command : Text) (params : List Text)
+    → is_content_kept k own m (command ∷ params)
+    ≡ option_map_or (λ p. is_kept_said k own m p.0 p.1) (target_and_text params) false
+content_kept k own m command [] = refl
+content_kept k own m command (x ∷ []) = refl
+content_kept k own m command (x ∷ y ∷ []) = refl
+content_kept k own m command (x ∷ y ∷ z ∷ zs) = refl
+
+chosen_by : (k : Kept) (own : Option Text) (m : CaseMapping) (b : Bool) (c : Option (List Text))
+    → IfSome c (λ c. is_content_kept k own m c ≡ b) → IfSome c (λ c. IsChosen k (b, c))
+chosen_by k own m b None e = tt
+chosen_by k own m b (Some c) e = (own, m, e)
+
+-- what a message says that is kept
+pub spread_chosen : (k : Kept) (v : View) (time : Text) (source : Option Text) (line : Parts)
+    → is_spread_by k v line ≡ true → IfSome (option_map content (message_of time source line))
+    (λ c. IsChosen k (true, c))
+spread_chosen k v time source line e =
+    let is = content_kept k v.own (mapping_of v.settings) line.command line.params in
+    chosen_by k v.own (mapping_of v.settings) true _ (grind (arith, is, e))
+
+-- what a message says that is not kept; what is none says nothing
+pub unspread_chosen : (k : Kept) (v : View) (line : Parts) → is_spread_by k v line ≡ false
+    → IfSome (content_said (untagged_line None line.command line.params ∷ []))
+    (λ c. IsChosen k (false, c))
+unspread_chosen k v line e =
+    let is = content_kept k v.own (mapping_of v.settings) line.command line.params in
+    chosen_by k v.own (mapping_of v.settings) false _ (grind (arith, is, e))
 
 -- what is no message says nothing
 pub unsaid : (line : Parts) → is_message line ≡ false

@@ -9,3 +9,5 @@ pub mod Running
 pub mod Splits
 pub mod Unread
 pub mod LostChannels
+pub mod JoinKeys
+pub mod WishesLemmas

@@ -3,20 +3,22 @@ use Rattle.hub_core.proofs.Words
 use Words.{◌++◌, ◌<◌, ◌∙◌, ◌∷◌, ◌≡◌, Arrival, Bool, Came, Caps, Delivered, EachFits, EntryParts}
 use Words.{Fits, HubState, IfSome, IsSome, List, Lost, Messages, None, Option, OutletState, Parts}
 use Words.{Received, Sends, SessionState, Some, Text, Took, View, [], append-nil, arith, length, ◌≤◌}
-use Words.{as_received, content_said, entry_for, false, filter_map, heard, if◌then◌else◌}
+use Words.{as_received, content_said, entry_kept, false, filter_map, heard, if◌then◌else◌}
 use Words.{is_message_command, is_online, length-append, lines_sent, lost_channels, map-append}
 use Words.{option_and_then, option_map, option_map_or, option_to_list, packet_for, packet_of, refl}
 use Words.{reverse, time_text_of, true, view_now, view_of, with_entry, with_outlet, ℕ}
 use Rattle.client_caps.{proofs.ImageLaw.{images_keep_the_view, seen_agrees}, specs.Caps.held}
 use Rattle.history.specs.{Entry.IsWrittenEntry, Marks.NameMarks, Messages.{AreKeptBefore, missed_by}}
 use Rattle.hub_core.proofs.{Each.{each_append, each_sent}, Kept.{numbered_heard, numbered_said}}
-use Rattle.hub_core.proofs.Kept.{entry_is_message, filter_more, missed_are_messages, numbered_start}
+use Rattle.hub_core.proofs.Kept.{filter_more, kept_is_message, missed_are_messages, numbered_passed}
+use Rattle.hub_core.proofs.Kept.{numbered_start}
 use Rattle.hub_core.proofs.{Kept.{pong_unsaid, puts_unsaid}, LostChannels.no_loss}
 use Rattle.hub_core.{proofs.Seats.{remain_sent, seated}, specs.Bounds.AreSeated}
 use Rattle.hub_core.specs.{Attaching.refusal_of, Given.with_caps, Online.{is_welcome, says_online}}
 use Rattle.hub_core.specs.{LostChannels.{Joining, Joinings}, Pumping.{Next, Takes}}
-use Rattle.hub_core.specs.Running.{EachAgrees, IsRunning}
-use Rattle.hub_core.specs.{Running.{content, contents_said, entries_heard}, States.{less, started_again}}
+use Rattle.hub_core.specs.Running.{EachAgrees, IsChosen, IsRunning}
+use Rattle.hub_core.specs.{Running.{content, contents_said, entries_heard}, States.{ProfileParts, less, started_by}}
+use Rattle.hub_core.specs.Wishes.{WishesState}
 use Rattle.{hub_ends.specs.Came.arrivals, irc_line.specs.Line.has_command}
 use Rattle.{irc_names.specs.Nick.is_nameable, net_view.proofs.Commands.told_of_welcome}
 use Rattle.{irc_support.specs.Tokens.Token, std.specs.{Option.option_or, Prelude.{IsTrue, codes}}}
@@ -25,7 +27,7 @@ use Rattle.net_view.specs.{LookBack.last_in, StateLines.{or_silent, told}, Step.
 use Rattle.net_view.specs.{Told.{Told, Welcomed}, Transcript.{Standing, own_after}, View.empty_view}
 use Rattle.std.proofs.{Common.◌^◌, lemmas.{Grind.flat_map-append, List.reverse-append}}
 use Rattle.std.{proofs.lemmas.List.{reverse-reverse, take_all, take_at}, specs.FinMap.empty}
-use Rattle.welcome.{proofs.BurstLaw.burst_gives_the_view, specs.Playback.burst_of}
+use Rattle.welcome.{proofs.PlayingLaw.burst_by_gives_the_view, specs.Playing.burst_by}
 
 -- ---- what was heard
 
@@ -45,12 +47,12 @@ heard_still done x now e = grind (arith, less_some done x x)
 
 -- ---- a new hub
 
-pub started_runs : (ahead : List Came) (o : OutletState) (history : Messages) (first : ℕ)
+pub started_runs : (profile : ProfileParts) (ahead : List Came) (o : OutletState) (history : Messages) (first : ℕ)
     (marks : NameMarks) (channels : List Joining) (session : ℕ) → o.sent ≡ [] → first < 2 ^ 64
     → AreKeptBefore first history → IsRunning
-    (started_again ahead o history first marks channels session) empty_view false empty
-started_runs ahead o history first marks channels session none small k =
-    grind (arith, view_start, no_loss, numbered_start first history small k)
+    (started_by profile ahead o history first marks channels session) empty_view false empty
+started_runs profile ahead o history first marks channels session none small k =
+    grind (arith, view_start, no_loss, numbered_start profile.keeping first history small k)
 
 -- ---- what sessions were sent
 
@@ -136,8 +138,8 @@ module _ {alone : Bool} {h h' : HubState} {v : View} {online : Bool} {lost : Joi
   -- it is held
   pub holds_on : (w : View) (lost' : Joinings) → w ≡ v → lost' ≡ lost → h'.held ≡ Some x
       → h'.sessions ≡ h.sessions → h'.next ≡ h.next → h'.history ≡ h.history → h'.first ≡ h.first
-      → h'.upstream.sent ≡ h.upstream.sent → IsRunning h' w online lost'
-  holds_on w lost' same still e s n k f u = grind (arith, now, less_some)
+      → h'.upstream.sent ≡ h.upstream.sent → h'.profile ≡ h.profile → IsRunning h' w online lost'
+  holds_on w lost' same still e s n k f u p = grind (arith, now, less_some)
 
 module _ {alone outlet : Bool} {h h' : HubState} {v : View} {online : Bool} {lost : Joinings}
     {cut : ℕ} (t : Takes alone outlet h cut h') (run : IsRunning h v online lost) where
@@ -148,13 +150,14 @@ module _ {alone outlet : Bool} {h h' : HubState} {v : View} {online : Bool} {los
   pub goes_on : (w : View) (online' : Bool) (lost' : Joinings)
       → w ≡ view_of (heard h ++ t.item.0 ∷ []) → online' ≡ option_map_or (λ said. said)
       (says_online t.item.0) online → lost' ≡ lost_channels (heard h ++ t.item.0 ∷ [])
-      → IfSome (entry_for t.item) IsWrittenEntry → IsRunning h' w online' lost'
+      → IfSome (entry_kept h.profile.keeping t.item) IsWrittenEntry → IsRunning h' w online' lost'
   goes_on w online' lost' view on left written =
       let all : heard h' ≡ heard h ++ t.item.0 ∷ [] = grind (arith, taken, heard_more, t.held) in
       let quiet = puts_unsaid outlet _ _ _ (pong_unsaid t.item.0) t.upstream in
       let fits = each_fits_after outlet (heard h) t.item h.sessions h'.sessions in
-      let step = numbered_heard (entries_heard h) (contents_said h) h.first h.history run.numbered
-      (entry_for t.item) t.number (entry_is_message t.item) written in
+      let k = h.profile.keeping in
+      let step = numbered_heard k (entries_heard h) (contents_said h) h.first h.history run.numbered
+      (entry_kept k t.item) t.number (kept_is_message k t.item) written in
       record {
         held_last = grind (arith, t.held, append-nil, less_none);
         view_is = rw all view;
@@ -163,7 +166,7 @@ module _ {alone outlet : Bool} {h h' : HubState} {v : View} {online : Bool} {los
         fit = rw all (fits run.fit t.sessions);
         seated = let left = remain_sent outlet _ _ _ t.sessions in
             rw t.others (seated left run.seated);
-        numbered = let more = filter_more entry_for in
+        numbered = let more = filter_more (entry_kept k) in
             grind (arith, t.held, less_none, taken, quiet, t.others, t.history, more, step);
       }
 
@@ -179,15 +182,20 @@ pub runs_with : {h : HubState} {v : View} {online : Bool} {lost : Joinings}
     lost
 runs_with ss next upstream marks run u fit seated = grind arith
 
+-- the same hub, of which clients asked for something else
+pub runs_wishing : {h : HubState} {v : View} {online : Bool} {lost : Joinings} (w : WishesState)
+    → IsRunning h v online lost → IsRunning record h { wishes = w } v online lost
+runs_wishing w run = grind arith
+
 -- the burst is read as the view
 pub attached_fits : (alone : Bool) (h : HubState) (v : View) (online : Bool) {lost : Joinings}
     (caps : Caps) (name : Option (List ℕ)) (mark : Option ℕ) (id : ℕ) (o o' : OutletState)
     → IsRunning h v online lost → v.ready ≡ true → o.sent ≡ [] → o.closed ≡ None
-    → Took alone o (burst_of v caps (missed_by mark h.history)) o'
+    → Took alone o (burst_by h.profile.playing v caps (missed_by mark h.history)) o'
     → EachFits (heard h)
     (h.sessions ++ record { id = id; name = name; caps = caps; outlet = o' } ∷ [])
 attached_fits alone h v online caps name mark id o o' run ready fresh unclosed took =
-    let gives = burst_gives_the_view (heard h) caps (missed_by mark h.history)
+    let gives = burst_by_gives_the_view h.profile.playing (heard h) caps (missed_by mark h.history)
     (rw run.view_is at ready)
     (missed_are_messages mark h.history.kept run.numbered.messages) in
     each_append (Fits (heard h)) h.sessions _ run.fit (
@@ -212,12 +220,23 @@ pub said_on : (h : HubState) (v : View) (online : Bool) {lost : Joinings}
     → history ≡ with_entry h.history e → upstream.sent ≡ h.upstream.sent ++ p ∷ []
     → content_said p ≡ option_map content e → (IsSome e → IsSome h.history.next)
     → IfSome e (λ e. IsTrue (is_message_command e.command)) → IfSome e IsWrittenEntry
+    → IfSome (option_map content e) (λ c. IsChosen h.profile.keeping (true, c))
     → EachFits (heard h) ss → AreSeated h.next ss
     → IsRunning record h { sessions = ss; upstream = upstream; history = history; images = images }
     v online lost
-said_on h v online ss upstream history images e p run k u c some is written fit seated =
-    let step = numbered_said (entries_heard h) (contents_said h) h.first h.history run.numbered e some
-    is written in
+said_on h v online ss upstream history images e p run k u c some is written chosen fit seated =
+    let step = numbered_said h.profile.keeping (entries_heard h) (contents_said h) h.first h.history
+    run.numbered e some is written chosen in
+    grind (arith, filter_more content_said, step)
+
+-- a line was sent to the network that is not kept
+pub passed_on : (h : HubState) (v : View) (online : Bool) {lost : Joinings} (upstream : OutletState)
+    (p : List Parts) → IsRunning h v online lost → upstream.sent ≡ h.upstream.sent ++ p ∷ []
+    → IfSome (content_said p) (λ c. IsChosen h.profile.keeping (false, c))
+    → IsRunning record h { upstream = upstream } v online lost
+passed_on h v online upstream p run u chosen =
+    let step = numbered_passed h.profile.keeping (entries_heard h) (contents_said h) h.first h.history
+    run.numbered (content_said p) chosen in
     grind (arith, filter_more content_said, step)
 
 -- ---- our nick

@@ -2,7 +2,7 @@
 use Rattle.hub_core.proofs.Words
 use Words.{◌≡◌, AllByRecursion, Arrival, Bool, Came, Caps, Delivered, EachFits, EntryParts, Fits, IfSome}
 use Words.{List, Messages, None, Option, OutletState, Parts, Received, Sends, SessionState, Text}
-use Words.{View, arith, entry_for, false, given_but, is_message, option_map, option_to_list}
+use Words.{Kept, View, arith, entry_for, entry_kept, false, given_but, is_message, option_map, option_to_list}
 use Words.{packet_for, packet_of, true, with_entry, with_outlet, ℕ}
 use Rattle.client_caps.{proofs.ImageWritten.nick_written, specs.Images.image_of}
 use Rattle.{hub_core.proofs.{Each.each_sent, Running.fits_sent}, irc_line.specs.Writing.is_part}
@@ -55,7 +55,10 @@ given_unread except f quiet s = grind (arith, quiet s.caps)
 pub no_entry : (x : Came) → may_need_memory x.0 ≡ true → entry_for x ≡ None
 no_entry x need = grind (arith, no_state_line)
 
+pub none_kept : (c : Kept) (x : Came) → may_need_memory x.0 ≡ true → entry_kept c x ≡ None
+none_kept c x need = grind (arith, no_entry x need)
+
 -- so where a view may have refused an item, nothing was kept of it
-pub nothing_kept : (x : Came) (h k : Messages) (e : Option EntryParts) → may_need_memory x.0 ≡ true
-    → k ≡ with_entry h e → e ≡ entry_for x → k ≡ h
-nothing_kept x h k e need is made = grind (arith, no_entry)
+pub nothing_kept : (c : Kept) (x : Came) (h k : Messages) (e : Option EntryParts)
+    → may_need_memory x.0 ≡ true → k ≡ with_entry h e → e ≡ entry_kept c x → k ≡ h
+nothing_kept c x h k e need is made = grind (arith, none_kept c x need)

@@ -5,7 +5,8 @@ pub use Rattle.hub_core.specs.Given.{Delivered, Sends, given_but, packet_for, pa
 pub use Rattle.hub_core.specs.{Given.with_outlet, Insides.{hub_of, state_of}, LostChannels.joining}
 pub use Rattle.hub_core.specs.{LostChannels.keyed, Running.{EachFits, Fits, content_said}}
 pub use Rattle.hub_core.specs.{Online.is_online, States.{HubState, SessionState, heard, view_now}}
-pub use Rattle.{hub_core.specs.Pumping.{entry_for, with_entry}, net_view.specs.View.View}
+pub use Rattle.{hub_core.specs.Pumping.{entry_for, entry_kept, with_entry}, net_view.specs.View.View}
+pub use Rattle.{history.specs.Keeping.Kept, hub_core.specs.Saying.{is_spread, is_spread_by}}
 pub use Rattle.hub_core.specs.{Running.lines_sent, Saying.{Around, Forwards, with_sessions}}
 pub use Rattle.hub_core.specs.declared.{hub.Hub.TheInside.Inside, session.Session.Session}
 pub use Rattle.{hub_ends.specs.Came.Came, irc_line.specs.Line.Parts, irc_support.specs.Text.Text}

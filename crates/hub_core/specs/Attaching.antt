@@ -9,7 +9,7 @@ use Rattle.history.specs.Entry.{EntryParts}
 use Rattle.history.specs.Messages.{Messages, missed_by, number_after}
 use Rattle.history.specs.Marks.{NameMarks, admitted, mark_of, with_mark, withdrawn}
 use Rattle.circular_buffer.specs.Buffer.{last_item}
-use Rattle.welcome.specs.Playback.{burst_of}
+use Rattle.welcome.specs.Playing.{burst_by}
 use Rattle.hub_core.specs.declared.attach.AttachError.{AttachError}
 use Rattle.hub_core.specs.declared.attach.AttachError.TheVariants as refused
 use Rattle.hub_ends.specs.Outlets.{OutletState, Took}
@@ -52,7 +52,8 @@ pub record Attaches (alone : Bool) (old : HubState) (caps : Caps) (name : Option
   pub allowed : refusal_of old name ≡ None
   pub number : old.next ≡ Some id
   pub given : OutletState
-  pub sent : Took alone outlet (burst_of (view_now old) caps (missed old name)) given
+  pub sent : Took alone outlet
+      (burst_by old.profile.playing (view_now old) caps (missed old name)) given
   pub is : new ≡ record old {
     sessions = old.sessions ++ record { id = id; name = name; caps = caps; outlet = given } ∷ [];
     next = number_after id;

@@ -10,10 +10,16 @@ use Rattle.net_view.specs.Arrival.{Arrival, Received, Lost}
 use Rattle.client_caps.specs.declared.caps.Caps.{Caps}
 use Rattle.history.specs.Entry.{EntryParts}
 use Rattle.history.specs.Messages.{Messages}
+use Rattle.history.specs.Keeping.{Kept}
 use Rattle.history.specs.Marks.{NameMarks}
+use Rattle.welcome.specs.declared.playing.Offset.{Offset}
+use Rattle.welcome.specs.declared.playing.Playing.{Playing}
 use Rattle.hub_ends.specs.Came.{Came}
 use Rattle.hub_ends.specs.Outlets.{OutletState}
-use Rattle.hub_core.specs.States.{SessionState, HubState}
+use Rattle.hub_core.specs.Away.{AwayState}
+use Rattle.hub_core.specs.JoinKeys.{JoinKeyParts}
+use Rattle.hub_core.specs.States.{SessionState, HubState, ProfileParts}
+use Rattle.hub_core.specs.Wishes.{WishesState}
 
 abbrev text_code : Coded Text
 text_code = coded_list coded_ℕ
@@ -117,27 +123,79 @@ messages_code =
 abbrev marks_code : Coded NameMarks
 marks_code = map.code text_code (coded_option coded_ℕ)
 
+abbrev kept_code : Coded Kept
+kept_code =
+    code_by (Bool × (Bool × (Bool × (List Text))))
+    (coded× coded_bool (coded× coded_bool (coded× coded_bool (coded_list text_code))))
+    (λ k. (k.ctcp, (k.server_notices, (k.to_self, k.never))))
+    (λ p. record {
+      ctcp = p.0;
+      server_notices = p.1.0;
+      to_self = p.1.1.0;
+      never = p.1.1.1;
+    }) (λ _. refl)
+
+abbrev offset_code : Coded Offset
+offset_code =
+    code_by (Bool × ℕ) (coded× coded_bool coded_ℕ) (λ o. (o.is_before, o.minutes))
+    (λ p. record { is_before = p.0; minutes = p.1 }) (λ _. refl)
+
+abbrev playing_code : Coded Playing
+playing_code =
+    code_by (Bool × (Option Offset × Bool))
+    (coded× coded_bool (coded× (coded_option offset_code) coded_bool))
+    (λ p. (p.private_batches, (p.times, p.visits)))
+    (λ p. record { private_batches = p.0; times = p.1.0; visits = p.1.1 }) (λ _. refl)
+
+abbrev profile_code : Coded ProfileParts
+profile_code =
+    code_by (Kept × Playing) (coded× kept_code playing_code) (λ p. (p.keeping, p.playing))
+    (λ p. record { keeping = p.0; playing = p.1 }) (λ _. refl)
+
+abbrev away_code : Coded AwayState
+away_code =
+    code_by (Option Text × Option Text) (coded× (coded_option text_code) (coded_option text_code))
+    (λ a. (a.asked, a.text)) (λ p. record { asked = p.0; text = p.1 }) (λ _. refl)
+
+abbrev join_key_code : Coded JoinKeyParts
+join_key_code =
+    code_by (Text × (Text × Bool)) (coded× text_code (coded× text_code coded_bool))
+    (λ k. (k.name, (k.key, k.known))) (λ p. record { name = p.0; key = p.1.0; known = p.1.1 })
+    (λ _. refl)
+
+abbrev wishes_code : Coded WishesState
+wishes_code =
+    code_by (AwayState × (Bool × List JoinKeyParts))
+    (coded× away_code (coded× coded_bool (coded_list join_key_code)))
+    (λ w. (w.away, (w.nick, w.keys)))
+    (λ p. record { away = p.0; nick = p.1.0; keys = p.1.1 }) (λ _. refl)
+
 abbrev pub hub_code : Coded HubState
 hub_code =
-    code_by (List Came × (List Came × (Option Came × (List SessionState × (Option ℕ ×
-    (OutletState × (Messages × (ℕ × (NameMarks × (ℕ × (List (Text × Option Text))))))))))))
-    (coded× (coded_list came_code) (coded× (coded_list came_code) (coded× (coded_option came_code)
+    code_by (ProfileParts × (List Came × (List Came × (Option Came × (List SessionState × (Option ℕ ×
+    (OutletState × (Messages × (ℕ × (NameMarks × (ℕ × (List (Text × Option Text) ×
+    (WishesState)))))))))))))
+    (coded× profile_code (coded× (coded_list came_code) (coded× (coded_list came_code)
+    (coded× (coded_option came_code)
     (coded× (coded_list session_code) (coded× (coded_option coded_ℕ) (coded× outlet_code
     (coded× messages_code (coded× coded_ℕ (coded× marks_code (coded× coded_ℕ
-    (coded_list (coded× text_code (coded_option text_code)))))))))))))
-    (λ h. let rest : OutletState × (Messages × (ℕ × (NameMarks × (ℕ × (List (Text × Option Text)))))) =
-    (h.upstream, (h.history, (h.first, (h.marks, (h.images, h.recalled))))) in
-    (h.taken, (h.ahead, (h.held, (h.sessions, (h.next, rest))))))
+    (coded× (coded_list (coded× text_code (coded_option text_code))) (wishes_code)))))))))))))
+    (λ h. let rest : OutletState × (Messages × (ℕ × (NameMarks × (ℕ × (List (Text × Option Text) ×
+    (WishesState)))))) =
+    (h.upstream, (h.history, (h.first, (h.marks, (h.images, (h.recalled, h.wishes)))))) in
+    (h.profile, (h.taken, (h.ahead, (h.held, (h.sessions, (h.next, rest)))))))
     (λ p. record {
-      taken = p.0;
-      ahead = p.1.0;
-      held = p.1.1.0;
-      sessions = p.1.1.1.0;
-      next = p.1.1.1.1.0;
-      upstream = p.1.1.1.1.1.0;
-      history = p.1.1.1.1.1.1.0;
-      first = p.1.1.1.1.1.1.1.0;
-      marks = p.1.1.1.1.1.1.1.1.0;
-      images = p.1.1.1.1.1.1.1.1.1.0;
-      recalled = p.1.1.1.1.1.1.1.1.1.1;
+      profile = p.0;
+      taken = p.1.0;
+      ahead = p.1.1.0;
+      held = p.1.1.1.0;
+      sessions = p.1.1.1.1.0;
+      next = p.1.1.1.1.1.0;
+      upstream = p.1.1.1.1.1.1.0;
+      history = p.1.1.1.1.1.1.1.0;
+      first = p.1.1.1.1.1.1.1.1.0;
+      marks = p.1.1.1.1.1.1.1.1.1.0;
+      images = p.1.1.1.1.1.1.1.1.1.1.0;
+      recalled = p.1.1.1.1.1.1.1.1.1.1.1.0;
+      wishes = p.1.1.1.1.1.1.1.1.1.1.1.1;
     }) (λ _. refl)

@@ -8,7 +8,8 @@ use Rattle.hub_ends.specs.Came.{Came, came}
 use Rattle.hub_ends.specs.Outlets.{OutletState}
 use Rattle.hub_core.specs.declared.hub.Hub.TheInside.{Inside}
 use Rattle.hub_core.specs.LostChannels.{joining}
-use Rattle.hub_core.specs.States.{SessionState, HubState}
+use Rattle.hub_core.specs.States.{SessionState, HubState, profile_of}
+use Rattle.hub_core.specs.Wishes.{wishes_of}
 
 -- a session, by what its outlet is
 abbrev pub state_of : {O : Type 0} → (O → OutletState) → Session O → SessionState
@@ -23,6 +24,7 @@ state_of outlet s = record {
 abbrev pub hub_of : {V I O M : Type 0} → (taken ahead : I → List Came) → (O → OutletState)
     → Inside V I O M → HubState
 hub_of taken ahead outlet h = record {
+  profile = profile_of h.profile;
   taken = taken h.inlet;
   ahead = ahead h.inlet;
   held = option_map came h.held;
@@ -34,4 +36,5 @@ hub_of taken ahead outlet h = record {
   marks = h.marks;
   images = h.images;
   recalled = map joining h.recalled.items;
+  wishes = wishes_of h.wishes;
 }

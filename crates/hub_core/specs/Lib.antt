@@ -7,6 +7,9 @@ pub mod Online
 pub mod Running
 pub mod Insides
 pub mod Pumping
+pub mod Away
+pub mod JoinKeys
+pub mod Wishes
 pub mod Attaching
 pub mod Saying
 pub mod Upkeep

@@ -2,13 +2,14 @@
 use Rattle.std.specs.Prelude.{◌≡◌, ◌⊎◌, ◌↔◌, ◌+◌, ℕ, List, [], ◌∷◌, ◌++◌, Option, None, Some}
 use Rattle.std.specs.Prelude.{IsSome, Bool, true, length, min, cond, is_some, codes, if◌then◌else◌}
 use Rattle.std.specs.Prelude.{Result, Ok, Err}
-use Rattle.std.specs.Option.{option_map_or, unwrap_or}
+use Rattle.std.specs.Option.{option_and_then, option_map_or, unwrap_or}
 use Rattle.irc_line.specs.Line.{Parts, has_command}
 use Rattle.irc_line.specs.Tags.{time_of}
 use Rattle.irc_line.specs.Writing.{untagged_line}
 use Rattle.net_view.specs.Arrival.{Arrival, Received, Lost}
 use Rattle.client_caps.specs.Moment.{time_text_of}
 use Rattle.history.specs.Entry.{EntryParts, message_of}
+use Rattle.history.specs.Keeping.{Kept, if_kept, is_kept_heard}
 use Rattle.history.specs.Messages.{Messages, with_message}
 use Rattle.hub_ends.specs.Came.{Came}
 use Rattle.hub_core.specs.declared.hub.Pumped.{Pumped}
@@ -19,14 +20,19 @@ use Rattle.hub_ends.specs.Outlets.{OutletState, Took}
 use Rattle.hub_core.specs.LostChannels.{still}
 use Rattle.hub_core.specs.States.{HubState, view_now}
 use Rattle.hub_core.specs.Given.{Delivered, all_sets_but, packet_for}
+use Rattle.hub_core.specs.Wishes.{wishes_heard}
 
 -- ---- of an item
 
--- what is kept of an item: a message, with the time that its tag tells, else when it came
+-- the message that an item is, with the time that its tag tells, else when it came
 abbrev pub entry_for : Came → Option EntryParts
 entry_for (Received line, moment) =
     message_of (unwrap_or (time_of line) (time_text_of moment)) line.source line
 entry_for (Lost, moment) = None
+
+-- what is kept of an item that was heard
+abbrev pub entry_kept : Kept → Came → Option EntryParts
+entry_kept k x = option_and_then (if_kept (is_kept_heard k)) (entry_for x)
 
 -- what the network is answered: PONG to a PING, with its parameters (RFC 2812, section 3.7.3)
 abbrev pub pong_for : Arrival → Option (List Parts)
@@ -67,8 +73,9 @@ pub record Next (alone : Bool) (old : HubState) (x : Came) (new : HubState) : Ty
 
 -- ---- the step
 
--- One more item was taken in: each session was sent its packet or is gone; a message is kept; a
--- PING was answered where there was room.
+-- One more item was taken in: each session was sent its packet or is gone; a message is kept, if
+-- the profile keeps it; a PING was answered where there was room; what clients asked for is granted
+-- or refused.
 pub record Takes (inlet outlet : Bool) (old : HubState) (cut : ℕ) (new : HubState) : Type 0 where
   pub item : Came
   pub comes : Next inlet old item new
@@ -77,9 +84,10 @@ pub record Takes (inlet outlet : Bool) (old : HubState) (cut : ℕ) (new : HubSt
       new.sessions
   pub left : cut + length new.sessions ≡ length old.sessions
   pub upstream : Puts outlet old.upstream (pong_for item.0) new.upstream
-  pub history : new.history ≡ with_entry old.history (entry_for item)
-  pub number : IsSome (entry_for item) → IsSome old.history.next
+  pub history : new.history ≡ with_entry old.history (entry_kept old.profile.keeping item)
+  pub number : IsSome (entry_kept old.profile.keeping item) → IsSome old.history.next
   pub recalled : new.recalled ≡ still (view_now old) item.0 old.recalled
+  pub wishes : new.wishes ≡ wishes_heard (view_now old) item.0 old.wishes
   pub images : new.images
       ≡ counted (old.images + images_for item.0 (length (all_sets_but None [] old.sessions)))
   pub others : new ≡ record old {
@@ -91,11 +99,12 @@ pub record Takes (inlet outlet : Bool) (old : HubState) (cut : ℕ) (new : HubSt
     history = new.history;
     images = new.images;
     recalled = new.recalled;
+    wishes = new.wishes;
   }
 
--- the item is a message, and there is no number for it
+-- the item is a message that is kept, and there is no number for it
 abbrev pub Spends : HubState → Came → Type 0
-Spends h x = IsSome (entry_for x) × (h.history.next ≡ None)
+Spends h x = IsSome (entry_kept h.profile.keeping x) × (h.history.next ≡ None)
 
 -- the item is held, and nothing else has changed
 pub record Holds (inlet : Bool) (old : HubState) (e : HubError) (new : HubState) : Type 0 where

@@ -1,5 +1,5 @@
 -- What holds of every hub whenever nobody is in a call.
-use Rattle.std.specs.Prelude.{◌≡◌, ◌≤◌, ◌+◌, List, [], ◌∷◌, ◌++◌, Option, Some, None, Bool}
+use Rattle.std.specs.Prelude.{◌≡◌, ◌≤◌, ◌+◌, List, [], ◌∷◌, ◌++◌, Option, Some, None, Bool, false}
 use Rattle.std.specs.Prelude.{ℕ, IsTrue, length, map, if◌then◌else◌}
 use Rattle.std.specs.List.{flat_map, filter_map, AllByRecursion}
 use Rattle.std.specs.Option.{option_to_list}
@@ -11,12 +11,14 @@ use Rattle.net_view.specs.View.{View, view_of}
 use Rattle.client_caps.specs.Caps.{held}
 use Rattle.client_caps.specs.LateAttach.{as_received}
 use Rattle.history.specs.Entry.{EntryParts, is_message, is_message_command}
+use Rattle.history.specs.Keeping.{Kept, is_kept_said}
+use Rattle.irc_names.specs.declared.case_mapping.CaseMapping.{CaseMapping}
 use Rattle.history.specs.Messages.{AreKeptBefore, AreWrittenMessages, Messages, numbered}
 use Rattle.irc_support.specs.Text.{Text}
 use Rattle.hub_core.specs.Bounds.{AreSeated}
 use Rattle.hub_core.specs.Online.{is_online}
 use Rattle.hub_core.specs.LostChannels.{Joinings, lost_channels}
-use Rattle.hub_core.specs.Pumping.{entry_for, with_entry}
+use Rattle.hub_core.specs.Pumping.{entry_kept, with_entry}
 use Rattle.hub_core.specs.States.{SessionState, HubState, less, heard}
 
 -- the lines of some packets, in order
@@ -58,9 +60,9 @@ abbrev pub content_said : List Parts → Option (List Text)
 content_said (line ∷ []) = if is_message line then Some (line.command ∷ line.params) else None
 content_said _ = None
 
--- the messages that a hub heard, and what those say that it sent to the network
+-- the messages that a hub heard and keeps, and what those say that it sent to the network
 abbrev pub entries_heard : HubState → List EntryParts
-entries_heard h = filter_map entry_for (less h.taken h.held)
+entries_heard h = filter_map (entry_kept h.profile.keeping) (less h.taken h.held)
 
 abbrev pub contents_said : HubState → List (List Text)
 contents_said h = filter_map content_said h.upstream.sent
@@ -77,16 +79,33 @@ abbrev pub kept_on : Messages → List EntryParts → Messages
 kept_on h [] = h
 kept_on h (e ∷ es) = kept_on (with_entry h (Some e)) es
 
+-- whether a message that was said with this content is kept, by our nick and the mapping of then
+abbrev pub is_content_kept : Kept → Option Text → CaseMapping → List Text → Bool
+is_content_kept k own mapping (command ∷ target ∷ text ∷ []) = is_kept_said k own mapping target text
+is_content_kept k own mapping _ = false
+
+-- it is kept or not by the nick and the mapping that we had when it was said
+abbrev pub IsChosen : Kept → Bool × List Text → Type 0
+IsChosen k s =
+    (own : Option Text) × (mapping : CaseMapping) × (is_content_kept k own mapping s.1 ≡ s.0)
+
+abbrev pub chosen_of : List (Bool × List Text) → List (List Text)
+chosen_of sayings = filter_map (λ s. if s.0 then Some s.1 else None) sayings
+
 -- What is kept is what the hub began with, and then the messages that it heard and those that it
--- sent to the network, each with the next number: there is an order of both in which it kept them.
--- They can be written.
-pub record AreNumbered (heard : List EntryParts) (said : List (List Text)) (first : ℕ)
+-- sent to the network and keeps, each with the next number: there is an order of both in which it
+-- kept them. They can be written.
+pub record AreNumbered (k : Kept) (heard : List EntryParts) (said : List (List Text)) (first : ℕ)
     (h : Messages) : Type 0 where
   pub began : Messages
   pub before : AreKeptBefore first began
   pub order : List (Bool × EntryParts)
   pub heard_are : heard_among order ≡ heard
-  pub said_are : map content (said_among order) ≡ said
+  -- all that it sent to the network, and whether each is kept
+  pub sayings : List (Bool × List Text)
+  pub sent_are : map (λ (s : Bool × List Text). s.1) sayings ≡ said
+  pub chosen : AllByRecursion (IsChosen k) sayings
+  pub said_are : map content (said_among order) ≡ chosen_of sayings
   pub are : h ≡ kept_on began (map (λ m. m.1) order)
   pub messages : AreMessages h.kept
   pub written : AreWrittenMessages h
@@ -103,4 +122,4 @@ pub record IsRunning (h : HubState) (v : View) (online : Bool) (lost : Joinings)
   pub lost_is : lost ≡ lost_channels (heard h)
   pub fit : EachFits (heard h) h.sessions
   pub seated : AreSeated h.next h.sessions
-  pub numbered : AreNumbered (entries_heard h) (contents_said h) h.first h.history
+  pub numbered : AreNumbered h.profile.keeping (entries_heard h) (contents_said h) h.first h.history

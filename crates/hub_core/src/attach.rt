@@ -8,7 +8,7 @@ ghost use Rattle.std.specs.Option.{option_and_then};
 ghost use Rattle.std.specs.Vec.{vec_len, vec_capacity};
 ghost use Rattle.history.specs.Messages.{AreWrittenMessages, missed_by, number_after};
 ghost use Rattle.history.specs.Marks.{mark_of};
-ghost use Rattle.welcome.specs.Playback.{burst_of};
+ghost use Rattle.welcome.specs.Playing.{burst_by};
 ghost use Rattle.hub_ends.specs.Outlets.{FindsRoom};
 ghost use Rattle.hub_core.specs.Attaching.{Attaches, Refuses, names_full, refusal_of};
 ghost use Rattle.hub_core.specs.Attaching.{is_new_name, missed, with_name, without_name};
@@ -27,12 +27,12 @@ use net_view::{NetworkView, OutOfMemory};
 use network_tables::copy_of;
 use std::alloc::Global;
 use thiserror::Error;
-use welcome::{Packet, burst_from};
+use welcome::{Packet, Playing, burst_from_by};
 
 /// Why a session was not attached, in the order in which the reasons are looked for.
 #[derive(Clone, Copy, Debug, PartialEq, Eq, Error)]
 pub enum AttachError {
-    /// The network has not told all that a client is told first: no `376`, `422` or JOIN came
+    /// The network has not said all that a client needs first: no `376`, `422` or JOIN came
     /// after its welcome.
     #[error("not ready")]
     NotReady,
@@ -124,18 +124,19 @@ fn burst_over<V: NetworkView>(
     history: &History,
     mark: Option<u64>,
     caps: Caps,
+    playing: Playing,
     parts: &mut Vec<StatePart>,
 ) -> Result<Packet, OutOfMemory>
     requires ready { (V.view view.now).ready ≡ true }
     requires written { AreWrittenMessages history.now }
     requires parts { AreStateParts (V.view view.now) parts.old.items }
     ensures burst { IfOk result (λ packet.
-        packet ≡ burst_of (V.view view.now) caps (missed_by mark history.now)) }
+        packet ≡ burst_by playing (V.view view.now) caps (missed_by mark history.now)) }
     ensures parts { AreStateParts (V.view view.now) parts.new.items }
 {
     let missed = history.missed(alloc, mark)?;
     let state = state_part_for(alloc, view, caps, parts)?;
-    burst_from(alloc, &state, view, caps, &missed)
+    burst_from_by(alloc, playing, &state, view, caps, &missed)
 }
 
 /// The burst for a client with this mark. Where memory is refused, the state parts that are kept
@@ -146,19 +147,20 @@ fn burst_for<V: NetworkView>(
     history: &History,
     mark: Option<u64>,
     caps: Caps,
+    playing: Playing,
     parts: &mut Vec<StatePart>,
 ) -> Result<Packet, OutOfMemory>
     requires ready { (V.view view.now).ready ≡ true }
     requires written { AreWrittenMessages history.now }
     requires parts { AreStateParts (V.view view.now) parts.old.items }
     ensures burst { IfOk result (λ packet.
-        packet ≡ burst_of (V.view view.now) caps (missed_by mark history.now)) }
+        packet ≡ burst_by playing (V.view view.now) caps (missed_by mark history.now)) }
     ensures parts { AreStateParts (V.view view.now) parts.new.items }
 {
-    match burst_over(alloc, view, history, mark, caps, parts) {
+    match burst_over(alloc, view, history, mark, caps, playing, parts) {
         Err(_) if !parts.is_empty() => {
             parts.clear();
-            burst_over(alloc, view, history, mark, caps, parts)
+            burst_over(alloc, view, history, mark, caps, playing, parts)
         }
         made => made,
     }
@@ -194,7 +196,7 @@ fn make_room<O: Outlet>(
     Ok(())
 }
 
-/// The number behind this one; `None` behind the last one.
+/// The number after this one; `None` after the last one.
 fn number_after(number: u64) -> Option<u64>
     ensures { result ≡ number_after number }
 {
@@ -234,7 +236,7 @@ impl<V: NetworkView + Drop, I: Inlet, O: Outlet> Hub<V, I, O> {
         ensures ok { IfOk result (λ parts. (self.old.next ≡ Some parts.0) ×
             (refusal_of self.old (option_map (λ n. n.now) name.entry) ≡ None) ×
             (option_map (λ c. c.items) parts.1 ≡ option_map (λ n. n.now) name.entry) ×
-            (parts.2 ≡ burst_of (view_now self.old) caps
+            (parts.2 ≡ burst_by self.old.profile.playing (view_now self.old) caps
             (missed self.old (option_map (λ n. n.now) name.entry)))) }
         ensures refused { IfErr result (λ e. (refusal_of self.old
             (option_map (λ n. n.now) name.entry) ≡ Some e) ⊎ ((refusal_of self.old
@@ -244,8 +246,16 @@ impl<V: NetworkView + Drop, I: Inlet, O: Outlet> Hub<V, I, O> {
         let id = self.admission(name)?;
         let mark = mark_of(&self.marks, name);
         let own_name = copy_of(self.alloc, name)?;
-        let (view, history) = (&self.view, &self.history);
-        let burst = burst_for(self.alloc, view, history, mark, caps, &mut self.parts)?;
+        let (view, history, playing) = (&self.view, &self.history, self.profile.playing);
+        let burst = burst_for(
+            self.alloc,
+            view,
+            history,
+            mark,
+            caps,
+            playing,
+            &mut self.parts,
+        )?;
         Ok((id, own_name, burst))
     }
 
@@ -254,7 +264,7 @@ impl<V: NetworkView + Drop, I: Inlet, O: Outlet> Hub<V, I, O> {
     /// the name missed. Answers its number.
     ///
     /// After a refusal nothing has changed, and the outlet is handed back. The reasons come in the
-    /// order of [`AttachError`]; `OutOfMemory` is told where an allocation was refused. So the name
+    /// order of [`AttachError`]; `OutOfMemory` if an allocation was refused. So the name
     /// is admitted before the outlet is asked for room, and withdrawn again where there is none.
     pub fn attach(
         &mut self,

@@ -7,8 +7,10 @@ ghost use Rattle.history.specs.Messages.{AreKeptBefore, is_capacity};
 
 use crate::image_table::Made;
 use crate::lost::{LostChannel, LostChannels};
+use crate::profile::Profile;
 use crate::session::{Session, place_of};
 use crate::state_parts::StatePart;
+use crate::wishes::Wishes;
 use client_caps::{Caps, Moment};
 use history::{CapacityError, History, Marks};
 use hub_ends::{Inlet, Outlet, SessionId};
@@ -81,6 +83,7 @@ impl From<OutOfMemory> for HubError {
 #[derive(Drop)]
 pub struct Hub<V: NetworkView + Drop, I: Inlet, O: Outlet> {
     pub(crate) alloc: Global,
+    pub(crate) profile: Profile,
     pub(crate) view: V,
     pub(crate) inlet: I,
     // what was taken and could not be dealt with
@@ -102,6 +105,8 @@ pub struct Hub<V: NetworkView + Drop, I: Inlet, O: Outlet> {
     pub(crate) recalled: Vec<LostChannel>,
     // the state parts of the view, for the sets of capabilities that were asked for since it changed
     pub(crate) parts: Vec<StatePart>,
+    // what clients asked for that outlives a connection
+    pub(crate) wishes: Wishes,
 }
 
 impl<V: NetworkView + Drop, I: Inlet, O: Outlet> Model for Hub<V, I, O> {
@@ -125,7 +130,8 @@ impl<V: NetworkView + Drop, I: Inlet, O: Outlet> Model for Hub<V, I, O> {
 }
 
 impl<V: NetworkView + Drop, I: Inlet, O: Outlet> Hub<V, I, O> {
-    ghost use Rattle.hub_core.specs.States.{view_now, heard, started, started_again, started_from};
+    ghost use Rattle.hub_core.specs.States.{view_now, heard, profile_of, started, started_by};
+    ghost use Rattle.hub_core.specs.States.{started_from, started_new};
     ghost use Rattle.hub_core.specs.Bounds.{IsBounded};
     ghost use Rattle.hub_core.specs.Online.{is_online};
     ghost use Rattle.hub_core.specs.Running.{EachAgrees, IsRunning};
@@ -153,6 +159,27 @@ impl<V: NetworkView + Drop, I: Inlet, O: Outlet> Hub<V, I, O> {
         ensures bad { IsErrOf result CapacityError.BadCapacity
             ↔ (is_capacity setup.history ≡ false) }
     {
+        Hub::start_by(alloc, view, inlet, upstream, setup, Profile::whole(alloc))
+    }
+
+    /// A hub of these parts, as `start` makes it, which keeps messages and plays them back by this
+    /// profile. A hub that is started without one keeps each message.
+    pub fn start_by(
+        alloc: Global,
+        view: V,
+        inlet: I,
+        upstream: O,
+        setup: Setup,
+        profile: Profile,
+    ) -> Result<Hub<V, I, O>, CapacityError>
+        requires view { V.view view ≡ empty_view }
+        requires inlet { I.taken inlet ≡ [] }
+        requires upstream { (O.state upstream).sent ≡ [] }
+        ensures ok { IfOk result (λ hub. hub ≡ started_new (profile_of profile) (I.ahead inlet)
+            (O.state upstream) setup.history setup.first_number setup.first_session) }
+        ensures bad { IsErrOf result CapacityError.BadCapacity
+            ↔ (is_capacity setup.history ≡ false) }
+    {
         let history = History::new(alloc, setup.history, setup.first_number)?;
         let marks = Marks::new(alloc)?;
         let first = setup.first_number;
@@ -168,6 +195,7 @@ impl<V: NetworkView + Drop, I: Inlet, O: Outlet> Hub<V, I, O> {
                 channels: Vec::new(alloc),
             },
             setup.first_session,
+            profile,
         ))
     }
 
@@ -180,13 +208,14 @@ impl<V: NetworkView + Drop, I: Inlet, O: Outlet> Hub<V, I, O> {
         first: u64,
         past: Past,
         first_session: SessionId,
+        profile: Profile,
     ) -> Hub<V, I, O>
         requires view { V.view view ≡ empty_view }
         requires inlet { I.taken inlet ≡ [] }
         requires upstream { (O.state upstream).sent ≡ [] }
         requires kept { AreKeptBefore first past.history }
-        ensures { result ≡ started_again (I.ahead inlet) (O.state upstream) past.history first
-            past.marks (map joining past.channels.items) first_session }
+        ensures { result ≡ started_by (profile_of profile) (I.ahead inlet) (O.state upstream)
+            past.history first past.marks (map joining past.channels.items) first_session }
     {
         let Past {
             history,
@@ -195,6 +224,7 @@ impl<V: NetworkView + Drop, I: Inlet, O: Outlet> Hub<V, I, O> {
         } = past;
         Hub {
             alloc,
+            profile,
             view,
             inlet,
             held: None,
@@ -210,6 +240,7 @@ impl<V: NetworkView + Drop, I: Inlet, O: Outlet> Hub<V, I, O> {
             lost: Table::new(alloc),
             recalled: channels,
             parts: Vec::new(alloc),
+            wishes: Wishes::none(alloc),
         }
     }
 
@@ -237,11 +268,13 @@ impl<V: NetworkView + Drop, I: Inlet, O: Outlet> Hub<V, I, O> {
             marks,
             channels: Vec::new(alloc),
         };
-        Hub::start_again(alloc, view, inlet, upstream, past, first_session)
+        let profile = Profile::whole(alloc);
+        Hub::start_again(alloc, view, inlet, upstream, past, first_session, profile)
     }
 
     /// A hub of these parts, without sessions, that goes on from what was before: as `start_from`,
-    /// and the channels that we were on then are to be joined again, as those that a loss took.
+    /// and the channels that we were on then are to be joined again, as those that a loss took. It
+    /// keeps messages and plays them back by this profile; what was kept before stays.
     pub fn start_again(
         alloc: Global,
         view: V,
@@ -249,17 +282,29 @@ impl<V: NetworkView + Drop, I: Inlet, O: Outlet> Hub<V, I, O> {
         upstream: O,
         past: Past,
         first_session: SessionId,
+        profile: Profile,
     ) -> Hub<V, I, O>
         requires view { V.view view ≡ empty_view }
         requires inlet { I.taken inlet ≡ [] }
         requires upstream { (O.state upstream).sent ≡ [] }
         requires kept { (first : ℕ) × AreKeptBefore first past.history }
         ensures { (first : ℕ) → past.history.next ≡ Some first → result
-            ≡ started_again (I.ahead inlet) (O.state upstream) past.history first past.marks
-            (map joining past.channels.items) first_session }
+            ≡ started_by (profile_of profile) (I.ahead inlet) (O.state upstream) past.history first
+            past.marks (map joining past.channels.items) first_session }
     {
         match past.history.next_number() {
-            Some(first) => Hub::begin(alloc, view, inlet, upstream, first, past, first_session),
+            Some(first) => {
+                Hub::begin(
+                    alloc,
+                    view,
+                    inlet,
+                    upstream,
+                    first,
+                    past,
+                    first_session,
+                    profile,
+                )
+            }
             None => unreachable!(),
         }
     }
@@ -373,6 +418,22 @@ impl<V: NetworkView + Drop, I: Inlet, O: Outlet> Hub<V, I, O> {
         ensures { map joining result.now ≡ self.now.recalled }
     {
         &self.recalled
+    }
+
+    /// The text by which we are away: that of the last AWAY that was forwarded before a 306, unless
+    /// a 305 came since. It outlives a loss, so that it can be said again (RFC 2812, section 4.1).
+    pub fn away_text(&self) -> Option<&[u8]>
+        ensures { option_map (λ text. text.now) result ≡ self.now.wishes.away.text }
+    {
+        self.wishes.away.text.as_deref()
+    }
+
+    /// Whether a client has asked for a nick, by a NICK that was forwarded, since the connection was
+    /// lost last (RFC 2812, section 3.1.2).
+    pub fn is_nick_chosen(&self) -> bool
+        ensures { result ≡ self.now.wishes.nick }
+    {
+        self.wishes.nick
     }
 
     /// How many images were made: for each line pumped, and for each message forwarded, one for

@@ -3,23 +3,28 @@
 #![tactic(auto)]
 
 mod attach;
+mod away;
 mod deliver;
 mod detach;
 mod forgetting;
 mod hub;
 mod image_table;
 mod incoming;
+mod join_keys;
+mod key_news;
 mod lost;
 mod memory;
 mod messages;
 mod outlets;
 mod prepare;
+mod profile;
 mod pump;
 mod respond;
 mod said;
 mod session;
 mod state_parts;
 mod upkeep;
+mod wishes;
 
 pub use attach::{AttachError, NoSession};
 pub use forgetting::ForgetFault;
@@ -27,4 +32,5 @@ pub use history::CapacityError;
 pub use hub::{Hub, HubError, Past, Pumped, Setup};
 pub use lost::{LostChannel, channel_key};
 pub use net_view::OutOfMemory;
+pub use profile::Profile;
 pub use said::Said;

@@ -137,7 +137,7 @@ pub fn lost_by<V: NetworkView>(
 }
 
 /// Whether the nick is ours.
-fn is_us<V: NetworkView>(view: &V, nick: &[u8]) -> bool
+pub fn is_us<V: NetworkView>(view: &V, nick: &[u8]) -> bool
     ensures { result ≡ is_us (standing_of (V.view view.now))
         (key_by (V.view view.now).settings nick.now) }
 {

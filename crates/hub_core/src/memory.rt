@@ -11,7 +11,7 @@ use hub_ends::{Inlet, MemoryInlet, MemoryOutlet, Outlet, SessionId};
 use net_view::{Item, NetworkView, OutOfMemory};
 
 impl<V: NetworkView + Drop, O: Outlet> Hub<V, MemoryInlet, O> {
-    /// Puts an item behind those that wait in the inlet. After a refusal nothing has changed.
+    /// Puts an item after those that wait in the inlet. After a refusal nothing has changed.
     pub fn put(&mut self, item: Item, moment: Moment) -> Result<(), OutOfMemory>
         ensures ok { OnOk result (self.new
             ≡ with_ahead self.old (self.old.ahead ++ came (item, moment) ∷ [])) }

@@ -3,32 +3,31 @@
 ghost use Rattle.std.specs.Prelude.{ℕ, ◌≡◌, IfErr, IfOk, IfSome, IsSome, OnErr, OnOk, is_some};
 ghost use Rattle.net_view.specs.Arrival.{arrival_of};
 ghost use Rattle.history.specs.Entry.{IsWrittenEntry};
-ghost use Rattle.hub_core.specs.Pumping.{entry_for, with_entry};
+ghost use Rattle.history.specs.Keeping.{kept_by};
+ghost use Rattle.hub_core.specs.Pumping.{entry_for, entry_kept, with_entry};
 
 use crate::hub::HubError;
 use client_caps::{Moment, shown_time};
-use history::{Entry, History, PushError, is_message};
+use history::{Entry, History, Keeping, PushError};
 use net_view::{Item, OutOfMemory};
 use std::alloc::Global;
 
-/// Whether an item is a message.
-pub fn is_kept(item: &Item) -> bool
-    ensures { (moment : ℕ) → result ≡ is_some (entry_for (arrival_of item.now, moment)) }
+/// Whether an item that was heard is a message that is kept.
+pub fn is_kept(keeping: &Keeping, item: &Item) -> bool
+    ensures { (moment : ℕ) → result
+        ≡ is_some (entry_kept (kept_by keeping.now) (arrival_of item.now, moment)) }
 {
     match item {
-        Item::Line(line) => line.source().is_some() && is_message(line),
+        Item::Line(line) => keeping.is_kept_heard(line),
         Item::Lost => false,
     }
 }
 
-/// The entry of an item, where it is a message. No date is formatted for what is none.
+/// The entry of an item, if it is a message.
 pub fn entry_of(alloc: Global, item: &Item, moment: Moment) -> Result<Option<Entry>, OutOfMemory>
     ensures made { IfOk result (λ entry. entry ≡ entry_for (arrival_of item.now, moment.0)) }
     ensures written { IfOk result (λ entry. IfSome entry IsWrittenEntry) }
 {
-    if !is_kept(item) {
-        return Ok(None);
-    }
     match item {
         Item::Line(line) => {
             let time = shown_time(line, moment);

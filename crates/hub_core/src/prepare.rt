@@ -1,6 +1,7 @@
 //! What sessions are to be sent next.
 
-ghost use Rattle.std.specs.Prelude.{◌≡◌, ◌↔◌, [], None, Option, IfOk, IfSome, IsErrOf, IsSome};
+ghost use Rattle.std.specs.Prelude.{◌≡◌, ◌↔◌, [], None, Option, IfOk, IfSome, IsErrOf, IsSome, true};
+ghost use Rattle.std.specs.Prelude.{if◌then◌else◌};
 ghost use Rattle.std.specs.Prelude.{OnOk, map, option_map};
 ghost use Rattle.std.specs.List.{AllByRecursion};
 ghost use Rattle.net_view.specs.Arrival.{arrival_of};
@@ -12,7 +13,7 @@ ghost use Rattle.hub_core.specs.Pumping.{entry_for};
 use crate::hub::HubError;
 use crate::image_table::{Made, shared_packet_for};
 use crate::incoming::Incoming;
-use crate::messages::{entry_of, is_kept};
+use crate::messages::entry_of;
 use crate::session::Session;
 use history::{Entry, History};
 use hub_ends::{Outlet, SessionId};
@@ -70,18 +71,19 @@ fn prepare<V: NetworkView, O: Outlet>(
 }
 
 /// Makes what an item leads to: what each session but one is to be sent, and the entry of a
-/// message. Nothing is sent yet.
+/// message, if it is to be kept. Nothing is sent yet, and no date is formatted for what is not kept.
 pub fn prepare_item<V: NetworkView, O: Outlet>(
     incoming: &Incoming<'_, V>,
     sessions: &mut Vec<Session<O>>,
     history: &History,
     except: Option<SessionId>,
+    is_kept: bool,
     made: &mut Vec<Made>,
 ) -> Result<Option<Entry>, HubError>
     ensures states { map (state_of O.state) sessions.new.items
         ≡ map (state_of O.state) sessions.old.items }
-    ensures made { IfOk result (λ entry. entry
-        ≡ entry_for (arrival_of incoming.now.item.now, incoming.now.moment.0)) }
+    ensures made { IfOk result (λ entry. entry ≡ (if is_kept then
+        entry_for (arrival_of incoming.now.item.now, incoming.now.moment.0) else None)) }
     ensures written { IfOk result (λ entry. IfSome entry IsWrittenEntry) }
     ensures coming { OnOk result (AllByRecursion (λ s. s.coming
         ≡ given_but except (packet_for (V.view incoming.now.view.now)
@@ -91,13 +93,15 @@ pub fn prepare_item<V: NetworkView, O: Outlet>(
     ensures sets { OnOk result (map (λ m. m.caps) made.new.items ≡ all_sets_but except []
         (map (state_of O.state) sessions.old.items)) }
     ensures spent { IsErrOf result HubError.Spent ↔
-        (IsSome (entry_for (arrival_of incoming.now.item.now, incoming.now.moment.0)) ×
-        (history.now.next ≡ None)) }
+        ((is_kept ≡ true) × (history.now.next ≡ None)) }
 {
-    if history.next_number().is_none() && is_kept(incoming.item) {
+    if is_kept && history.next_number().is_none() {
         return Err(HubError::Spent);
     }
     prepare(incoming, sessions, except, made)?;
+    if !is_kept {
+        return Ok(None);
+    }
     let entry = entry_of(incoming.alloc, incoming.item, incoming.moment)?;
     Ok(entry)
 }

@@ -13,20 +13,22 @@ ghost use Rattle.hub_core.specs.Given.{all_sets_but, given_but, packet_for};
 ghost use Rattle.hub_core.specs.Insides.{state_of};
 ghost use Rattle.hub_core.specs.LostChannels.{keyed, lost_by};
 ghost use Rattle.hub_core.specs.Online.{is_welcome, says_online};
-ghost use Rattle.hub_core.specs.Pumping.{Comes, Pumps, entry_for, pong_for};
+ghost use Rattle.history.specs.Keeping.{kept_by};
+ghost use Rattle.hub_core.specs.Pumping.{Comes, Pumps, entry_kept, pong_for};
 
 use crate::deliver::deliver;
 use crate::hub::{Hub, HubError, Pumped};
 use crate::image_table::{Made, images_of};
 use crate::incoming::Incoming;
+use crate::key_news::news_of;
 use crate::lost::{LostChannels, LostEntry, drop_named, lost_by, renew, settled_by};
-use crate::messages::keep;
+use crate::messages::{is_kept, keep};
 use crate::outlets::put;
 use crate::prepare::prepare_item;
 use crate::session::Session;
 use crate::state_parts::{drop_if_short, drop_outdated};
 use client_caps::Moment;
-use history::{Entry, History};
+use history::{Entry, History, Keeping};
 use hub_ends::{Inlet, Outlet};
 use irc_line::Line;
 use irc_names::is_nameable;
@@ -93,18 +95,20 @@ fn online_after(online: bool, item: &Item) -> bool
 
 /// Makes what an item from the network leads to: that for the sessions, the answer to a PING, and
 /// the channels that are to be joined again from here on, for which room is made.
-#[tactic(auto, using(irc_line::proofs::Outcomes::no_value, irc_line::proofs::Outcomes::not_ok))]
+#[tactic(auto, using(irc_line::proofs::Outcomes::no_value, irc_line::proofs::Outcomes::not_ok, crate::proofs::Kept::kept_if))]
 fn prepare_arrival<V: NetworkView, O: Outlet>(
     incoming: &Incoming<'_, V>,
     sessions: &mut Vec<Session<O>>,
     history: &History,
+    keeping: &Keeping,
     made: &mut Vec<Made>,
     lost: &mut LostChannels,
 ) -> Result<(Option<Entry>, Option<Packet>, Option<Vec<LostEntry>>), HubError>
     ensures states { map (state_of O.state) sessions.new.items
         ≡ map (state_of O.state) sessions.old.items }
     ensures made { IfOk result (λ r.
-        (r.0 ≡ entry_for (arrival_of incoming.now.item.now, incoming.now.moment.0)) ×
+        (r.0 ≡ entry_kept (kept_by keeping.now)
+        (arrival_of incoming.now.item.now, incoming.now.moment.0)) ×
         (r.1 ≡ pong_for (arrival_of incoming.now.item.now)) ×
         (option_map (λ channels. map (λ e. keyed e.value) channels.items) r.2
         ≡ lost_by (V.view incoming.now.view.now) (arrival_of incoming.now.item.now))) }
@@ -120,10 +124,12 @@ fn prepare_arrival<V: NetworkView, O: Outlet>(
     ensures sets { OnOk result (map (λ m. m.caps) made.new.items ≡ all_sets_but None []
         (map (state_of O.state) sessions.old.items)) }
     ensures spent { IsErrOf result HubError.Spent ↔
-        (IsSome (entry_for (arrival_of incoming.now.item.now, incoming.now.moment.0)) ×
+        (IsSome (entry_kept (kept_by keeping.now)
+        (arrival_of incoming.now.item.now, incoming.now.moment.0)) ×
         (history.now.next ≡ None)) }
 {
-    let entry = prepare_item(incoming, sessions, history, None, made)?;
+    let is_kept = is_kept(keeping, incoming.item);
+    let entry = prepare_item(incoming, sessions, history, None, is_kept, made)?;
     let pong = pong_of(incoming.alloc, incoming.item)?;
     let new = lost_by(incoming.alloc, incoming.view, incoming.item, lost)?;
     Ok((entry, pong, new))
@@ -132,13 +138,13 @@ fn prepare_arrival<V: NetworkView, O: Outlet>(
 impl<V: NetworkView + Drop, I: Inlet, O: Outlet> Hub<V, I, O> {
     /// Tries the held item, or else takes the next one from the inlet. For a line, each session is
     /// sent its image, as its client's capabilities have it, by the view before the line; a message
-    /// is kept; a PING puts a PONG with its parameters into the outlet to the network, where there
+    /// is kept, if the profile keeps it; a PING puts a PONG with its parameters into the outlet to the network, where there
     /// is room. For a loss each session is sent that we leave the channels. A session whose outlet
     /// has no room is cut.
     ///
     /// After an error the item is held and nothing else has changed; the next pump tries it again.
-    /// `Spent` comes exactly where the item is a message for which there is no number, and before
-    /// memory is asked for. `OutOfMemory` is told where an allocation was refused.
+    /// `Spent` comes exactly where the item is a message to be kept for which there is no number, and
+    /// before memory is asked for. `OutOfMemory` if an allocation was refused.
     pub fn pump(&mut self) -> Result<Pumped, HubError>
         ensures step { Pumps I.alone O.alone self.old result self.new }
     {
@@ -151,9 +157,9 @@ impl<V: NetworkView + Drop, I: Inlet, O: Outlet> Hub<V, I, O> {
             item: &item,
             moment,
         };
-        let (sessions, history) = (&mut self.sessions, &self.history);
+        let (sessions, kept, by) = (&mut self.sessions, &self.history, &self.profile.keeping);
         let (made, lost) = (&mut self.made, &mut self.lost);
-        let (entry, pong, new) = match prepare_arrival(&incoming, sessions, history, made, lost) {
+        let (entry, pong, new) = match prepare_arrival(&incoming, sessions, kept, by, made, lost) {
             Ok(made) => made,
             Err(e) => {
                 self.held = Some((item, moment));
@@ -167,6 +173,7 @@ impl<V: NetworkView + Drop, I: Inlet, O: Outlet> Hub<V, I, O> {
             return Err(e);
         }
         let settled = settled_by(&self.view, &item, &self.lost, &self.recalled);
+        let news = news_of(&self.view, &item, &self.wishes.keys);
         // A message is no state line, so the view takes it: here nothing was kept.
         if let Err(_) = self.view.take(&item) {
             self.held = Some((item, moment));
@@ -178,6 +185,7 @@ impl<V: NetworkView + Drop, I: Inlet, O: Outlet> Hub<V, I, O> {
         self.online = online_after(self.online, &item);
         renew(&mut self.lost, settled, new);
         drop_named(&mut self.recalled, settled);
+        self.wishes.hear(&item, news);
         put(&mut self.upstream, pong);
         let cut = deliver(&mut self.sessions);
         Ok(Pumped::Taken { cut })

@@ -3,9 +3,10 @@
 ghost use Rattle.std.specs.Prelude.{◌≡◌, ◌∷◌, ◌<◌, [], true, IsSome, IfErr, IfOk};
 ghost use Rattle.std.specs.List.{list_any};
 ghost use Rattle.irc_line.specs.Line.{has_command};
-ghost use Rattle.history.specs.Entry.{is_message};
 ghost use Rattle.hub_core.specs.Online.{is_online};
-ghost use Rattle.hub_core.specs.Saying.{Forwards, Says, Sent, meaning, meant_by, own_line, sent_up};
+ghost use Rattle.history.specs.Keeping.{kept_by};
+ghost use Rattle.hub_core.specs.Saying.{Forwards, Says, Sent, is_spread, is_spread_by, meaning, meant_by};
+ghost use Rattle.hub_core.specs.Saying.{own_line, sent_up};
 ghost use Rattle.hub_core.specs.States.{heard};
 ghost use Rattle.hub_core.specs.Saying.{unheard_commands};
 
@@ -18,8 +19,9 @@ use crate::outlets::put_into_room;
 use crate::prepare::prepare_item;
 use crate::respond::respond;
 use crate::session::place_of;
+use crate::wishes::wish_of;
 use client_caps::{Asked, Moment, answers_tell_nothing};
-use history::is_message;
+use history::Keeping;
 use hub_ends::{Inlet, Outlet, SessionId};
 use irc_line::Line;
 use net_view::{Item, NetworkView, OutOfMemory};
@@ -90,7 +92,7 @@ fn meaning(line: &Line) -> Meant
 }
 
 /// The packet of a line as the network is sent it.
-fn upward(alloc: Global, line: &Line) -> Result<Packet, OutOfMemory>
+pub fn upward(alloc: Global, line: &Line) -> Result<Packet, OutOfMemory>
     ensures { IfOk result (λ packet. packet ≡ sent_up line.now ∷ []) }
 {
     let bare = line.copy_as_in(alloc, None, line.command())?;
@@ -105,6 +107,13 @@ fn from_us<V: NetworkView>(alloc: Global, view: &V, line: &Line) -> Result<Line,
     line.copy_as_in(alloc, view.own(), line.command())
 }
 
+/// Whether a line is a message that is kept, and so one for the other sessions.
+fn is_spread<V: NetworkView>(keeping: &Keeping, view: &V, line: &Line) -> bool
+    ensures { result ≡ is_spread_by (kept_by keeping.now) (V.view view.now) line.now }
+{
+    keeping.is_kept_said(view.own(), view.support().mapping(), line)
+}
+
 impl<V: NetworkView + Drop, I: Inlet, O: Outlet> Hub<V, I, O> {
     /// Sends a message of ours to the network, and to the sessions but the speaker's.
     fn spread(
@@ -116,7 +125,7 @@ impl<V: NetworkView + Drop, I: Inlet, O: Outlet> Hub<V, I, O> {
     ) -> Result<Said, HubError>
         requires online { is_online (heard self.old) ≡ true }
         requires packet { packet ≡ sent_up line.now ∷ [] }
-        requires message { is_message line.now ≡ true }
+        requires message { is_spread self.old line.now ≡ true }
         requires number { IsSome self.old.history.next }
         requires room { 0 < self.old.upstream.free }
         ensures ok { IfOk result (λ said. (said ≡ Said.Forwarded) ×
@@ -135,6 +144,7 @@ impl<V: NetworkView + Drop, I: Inlet, O: Outlet> Hub<V, I, O> {
             &mut self.sessions,
             &self.history,
             Some(id),
+            true,
             &mut self.made,
         )?;
         keep(&mut self.history, entry)?;
@@ -151,7 +161,7 @@ impl<V: NetworkView + Drop, I: Inlet, O: Outlet> Hub<V, I, O> {
         if !self.online {
             return Ok(Said::Offline);
         }
-        let is_for_all = is_message(line);
+        let is_for_all = is_spread(&self.profile.keeping, &self.view, line);
         if is_for_all && self.history.next_number().is_none() {
             return Err(HubError::Spent);
         }
@@ -165,20 +175,26 @@ impl<V: NetworkView + Drop, I: Inlet, O: Outlet> Hub<V, I, O> {
         if is_for_all {
             return self.spread(id, packet, line, moment);
         }
+        let wish = match wish_of(self.alloc, &self.view, &self.wishes, line) {
+            Ok(wish) => wish,
+            Err(_) => return Err(HubError::OutOfMemory),
+        };
         put_into_room(&mut self.upstream, packet);
+        self.wishes.say(wish);
         Ok(Said::Forwarded)
     }
 
     /// Does what a line that the session's client said asks for. PING and CAP are answered to the
     /// session, but for CAP END; it is cut where its outlet has no room for the answer. A CAP REQ is
     /// granted where it can be taken; where the capabilities are others then, the catch-up stands
-    /// behind the answer, in one packet. What is for
+    /// after the answer, in one packet. What is for
     /// the network goes there without tags and source; a message, which is PRIVMSG or NOTICE with
-    /// two parameters, goes to each other session too, as its client reads it, and is kept.
+    /// two parameters, goes to each other session too, as its client reads it, and is kept: if the profile
+    /// keeps it.
     ///
     /// After `Quit` the caller detaches the session. After `NoSession`, `Offline` and `Busy`, and
     /// after an error, nothing has changed. `Spent` comes exactly where we are online and the line
-    /// is a message for which there is no number, and before memory is asked for. `OutOfMemory` is
+    /// is a message to be kept for which there is no number, and before memory is asked for. `OutOfMemory` is
     /// told where an allocation was refused.
     pub fn said(&mut self, id: SessionId, line: &Line, moment: Moment) -> Result<Said, HubError>
         ensures { Says O.alone self.old id line.now moment.0 result self.new }

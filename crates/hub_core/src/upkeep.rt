@@ -6,12 +6,14 @@ ghost use Rattle.hub_core.specs.Insides.{state_of};
 ghost use Rattle.hub_ends.specs.Outlets.{FindsRoom};
 ghost use Rattle.hub_core.specs.Given.{with_outlet};
 ghost use Rattle.hub_core.specs.Saying.{Stays};
-ghost use Rattle.hub_core.specs.Upkeep.{AreFreed, Frees, KeepsAlive, is_nearly_full};
+ghost use Rattle.hub_core.specs.Upkeep.{AreFreed, Asks, Frees, KeepsAlive, is_nearly_full};
 ghost use Rattle.hub_core.specs.Upkeep.{life_asked, nearly_full};
 
 use crate::hub::Hub;
 use crate::outlets::put_into_room;
+use crate::said::upward;
 use crate::session::Session;
+use history::is_message;
 use hub_ends::{Inlet, Outlet, SessionId};
 use irc_line::{Line, MakeError};
 use net_view::{NetworkView, OutOfMemory};
@@ -72,7 +74,7 @@ fn all_nearly_full<O: Outlet>(
 impl<V: NetworkView + Drop, I: Inlet, O: Outlet> Hub<V, I, O> {
     /// Puts `PING bnc` into the outlet to the network, where we are online and there is room, and
     /// answers whether it did. The answer of the network, a PONG, is for nobody. After
-    /// `OutOfMemory`, which is told where an allocation was refused, nothing was put.
+    /// `OutOfMemory`, which is the answer if an allocation was refused, nothing was put.
     pub fn keepalive(&mut self) -> Result<bool, OutOfMemory>
         ensures { KeepsAlive O.alone self.old result self.new }
     {
@@ -89,9 +91,31 @@ impl<V: NetworkView + Drop, I: Inlet, O: Outlet> Hub<V, I, O> {
         Ok(true)
     }
 
+    /// Puts a line of our own into the outlet to the network, without tags and source, if it is no
+    /// message, we are online and there is room; answers whether it did. After `OutOfMemory`, which
+    /// is the answer if an allocation was refused, nothing was put.
+    pub fn ask(&mut self, line: &Line) -> Result<bool, OutOfMemory>
+        ensures { Asks O.alone self.old line.now result self.new }
+    {
+        if !self.online {
+            return Ok(false);
+        }
+        if is_message(line) {
+            return Ok(false);
+        }
+        if !self.upstream.room() {
+            return Ok(false);
+        }
+        let Ok(packet) = upward(self.alloc, line) else {
+            return Err(OutOfMemory);
+        };
+        put_into_room(&mut self.upstream, packet);
+        Ok(true)
+    }
+
     /// The numbers of the sessions whose outlets have less room than for a quarter of the packets
     /// that they hold at most, or for none, in the order in which the sessions were attached.
-    /// `OutOfMemory` is told where an allocation was refused. Nothing changes, but that more room
+    /// `OutOfMemory` if an allocation was refused. Nothing changes, but that more room
     /// may be known of.
     pub fn nearly_full(&mut self) -> Result<Vec<SessionId>, OutOfMemory>
         ensures hub { Frees O.alone self.old self.new }

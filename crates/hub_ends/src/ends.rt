@@ -67,7 +67,7 @@ pub trait Outlet: Drop {
             ((state self.old).free ≡ 0)) };
 
     /// Closes the outlet with the number of its session; a second time nothing changes. A closed
-    /// outlet counts as full. The other end is told of it where there is room.
+    /// outlet counts as full. The other end learns of it if there is room.
     fn close(&mut self, id: SessionId)
         ensures sent { (state self.new).sent ≡ (state self.old).sent }
         ensures capacity { (state self.new).capacity ≡ (state self.old).capacity }

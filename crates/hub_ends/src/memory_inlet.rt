@@ -55,7 +55,7 @@ impl MemoryInlet {
         }
     }
 
-    /// Puts an item behind those that wait, and keeps a copy of it. `OutOfMemory` is told where an
+    /// Puts an item after those that wait, and keeps a copy of it. `OutOfMemory` if an
     /// allocation was refused, and for no other cause; then nothing has changed.
     pub fn put(&mut self, item: Item, moment: Moment) -> Result<(), OutOfMemory>
         ensures taken { taken_of self.new ≡ taken_of self.old }

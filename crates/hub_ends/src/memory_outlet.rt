@@ -26,7 +26,7 @@ impl MemoryOutlet {
     ghost use Rattle.hub_ends.specs.Memory.{drained_from, free_of, pending_of, state_of};
     ghost use Rattle.hub_ends.specs.Outlets.{new_outlet};
 
-    /// An outlet for this many packets at a time. `OutOfMemory` is told where an allocation was
+    /// An outlet for this many packets at a time. `OutOfMemory` if an allocation was
     /// refused, and for no other cause.
     pub fn new(alloc: Global, capacity: usize) -> Result<MemoryOutlet, OutOfMemory>
         ensures { IfOk result (λ o. (state_of o ≡ new_outlet capacity) × (pending_of o ≡ 0)) }
@@ -64,7 +64,7 @@ impl MemoryOutlet {
     }
 
     /// Takes out up to `n` packets, oldest first, and keeps them; answers how many it took.
-    /// `OutOfMemory` is told where an allocation was refused, and for no other cause; then nothing
+    /// `OutOfMemory` if an allocation was refused, and for no other reason; then nothing
     /// has changed.
     pub fn drain(&mut self, n: usize) -> Result<usize, OutOfMemory>
         ensures sent { (state_of self.new).sent ≡ (state_of self.old).sent }

@@ -41,7 +41,7 @@ module _ (l : Limits) (whole left right : Vec ℕ Global) (moment : Moment)
       (lines_at (rest ++ left.items) moment.0)
       (lines_at (rest_of (rest ++ left.items) ++ right.items) moment.0)) (rests rest)
   behind ds rest (e ∷ es) later =
-      behind (with_event ds rest e (answer_to l ds rest e)) (rest_behind rest e) es later
+      behind (with_event l.before.profile.keeping ds rest e (answer_to l ds rest e)) (rest_behind rest e) es later
 
 pub two_halves : (l : Limits) (before later : List Event) (whole left right : Vec ℕ Global)
     (moment : Moment) → whole.items ≡ left.items ++ right.items

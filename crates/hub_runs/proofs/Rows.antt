@@ -5,6 +5,7 @@ use Prim.Native.String.{String}
 use Rattle.client_caps.specs.{Caps.no_caps, Request.request_of}
 use Rattle.client_caps.specs.declared.moment.Moment.{Moment}
 use Rattle.hub_core.specs.declared.hub.Pumped.TheVariants.{Taken}
+use Rattle.hub_core.specs.States.{whole_profile}
 use Rattle.hub_ends.specs.Came.{Came}
 use Rattle.hub_runs.specs.Course.{Asked, Deed, Joined, Took, held_since, session_then}
 use Rattle.hub_runs.specs.Ran.{none_before}
@@ -58,7 +59,7 @@ boundaries = (refl, refl, refl, refl)
 -- two messages of each target are kept, the next session is 7, and the outlet to the network has
 -- room for four packets
 abbrev setup : Limits
-setup = record { before = none_before 2 1; first_session = 7; upstream = 4 }
+setup = record { before = none_before whole_profile 2 1; first_session = 7; upstream = 4 }
 
 -- before the network is ready
 too_early : (name : Option (Vec ℕ Global))

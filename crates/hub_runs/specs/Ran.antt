@@ -5,7 +5,7 @@ use Rattle.std.specs.List.{range_with_len}
 use Rattle.std.specs.Option.{unwrap_or}
 use Rattle.hub_ends.specs.Came.{Came}
 use Rattle.hub_ends.specs.Outlets.{OutletState}
-use Rattle.hub_core.specs.States.{HubState, heard, less}
+use Rattle.hub_core.specs.States.{HubState, ProfileParts, heard, less}
 use Rattle.hub_runs.specs.declared.event.Event.{Event}
 use Rattle.hub_runs.specs.declared.outcome.Reply.{Reply}
 use Rattle.hub_runs.specs.declared.outcome.Stop.{Stop}
@@ -37,13 +37,18 @@ EndsAt events done (Some s) last taken world =
 
 -- Nothing was before: no message, mark or name. Of the messages that come the last ones are kept,
 -- of which the first has this number.
-abbrev pub none_before : ℕ → ℕ → Before
-none_before capacity first =
-    record { kept = history_of capacity first; mark = λ name. None; names = [] }
+abbrev pub none_before : ProfileParts → ℕ → ℕ → Before
+none_before profile capacity first = record {
+  profile = profile;
+  kept = history_of capacity first;
+  mark = λ name. None;
+  names = [];
+}
 
 -- these messages, marks and names were before
 abbrev pub before_of : HubState → Before
 before_of start = record {
+  profile = start.profile;
   kept = kept_on start.history;
   mark = λ name. mark_of name start.marks;
   names = fin.keys start.marks;
@@ -56,6 +61,7 @@ KeepsOn kept = (ms : List EntryParts) (e : Option EntryParts) → (IsSome e → 
 
 -- a run can begin with this hub, and with what was before
 pub record CanRun (b : Before) (h : HubState) : Type 0 where
+  pub profile : h.profile ≡ b.profile
   pub history : h.history ≡ b.kept []
   pub messages : AreMessages h.history.kept
   pub marks : (name : Text) → mark_of name h.marks ≡ b.mark name
@@ -88,7 +94,7 @@ pub record RanFrom (b : Before) (start : WorldState) (events : List Event) (done
       ≡ transcript_of (take done events) ++ taken
   -- late attach: each session attached, was first sent the burst with what its name had missed, and
   -- its client knows what is to be known since
-  pub late_attach : EachHasAttached start (take done events) replies
+  pub late_attach : EachHasAttached b.profile.playing start (take done events) replies
       (with_items (deeds_of (limits_from b start.hub) (take done events)) taken) (heard world.hub)
       world.hub.sessions
   -- what each event was answered is what the events before it say
@@ -113,8 +119,8 @@ pub record RanFrom (b : Before) (start : WorldState) (events : List Event) (done
 -- a run of events that begins with nothing
 abbrev pub Ran : WorldState → List Event → ℕ → Option Stop → List Reply → WorldState → Type 0
 Ran start events done stopped_by replies world =
-    RanFrom (none_before start.hub.history.capacity start.hub.first) start events done stopped_by
-    replies world
+    RanFrom (none_before start.hub.profile start.hub.history.capacity start.hub.first) start events
+    done stopped_by replies world
 
 -- a run of events that goes on from the messages and marks that it begins with
 abbrev pub RanOn : WorldState → List Event → ℕ → Option Stop → List Reply → WorldState → Type 0

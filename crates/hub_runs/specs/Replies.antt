@@ -9,6 +9,7 @@ use Rattle.irc_line.specs.Line.{Parts}
 use Rattle.irc_support.specs.Text.{Text}
 use Rattle.net_view.specs.Arrival.{Lost}
 use Rattle.history.specs.Entry.{is_message}
+use Rattle.history.specs.Keeping.{Kept}
 use Rattle.hub_ends.specs.Came.{Came}
 use Rattle.hub_core.specs.declared.attach.AttachError.{AttachError}
 use Rattle.hub_core.specs.declared.attach.AttachError.TheVariants as refused
@@ -21,12 +22,14 @@ use Rattle.hub_core.specs.declared.said.Meant.TheVariants as means
 use Rattle.hub_core.specs.declared.said.Said.{Said}
 use Rattle.hub_core.specs.declared.said.Said.TheVariants as said
 use Rattle.hub_core.specs.Online.{is_online}
-use Rattle.hub_core.specs.Saying.{meaning}
+use Rattle.hub_core.specs.Saying.{is_spread_by, meaning}
+use Rattle.net_view.specs.View.{View}
 use Rattle.hub_runs.specs.declared.event.Event.{Event}
 use Rattle.hub_runs.specs.declared.event.Event.TheVariants as on
 use Rattle.hub_runs.specs.declared.outcome.Reply.{Reply}
 use Rattle.hub_runs.specs.declared.outcome.Reply.TheVariants as reply
-use Rattle.hub_runs.specs.Course.{Asked, Before, Deed, Drained, Drew, Joined, Left, Spoke, Took, heard_back}
+use Rattle.hub_runs.specs.Course.{Asked, Before, Deed, Drained, Drew, Joined, Left, Passed, Spoke}
+use Rattle.hub_runs.specs.Course.{Took, heard_back}
 use Rattle.hub_runs.specs.Course.{kept_then, view_then, waiting, with_items}
 use Rattle.hub_runs.specs.Presence.{is_among, is_there, names_then, next_then, there, waits}
 use Rattle.hub_runs.specs.Worlds.{lines_at, name_of, rest_behind}
@@ -52,22 +55,28 @@ answer_of (reply.Detach r) = OfDetach (is_ok r)
 answer_of (reply.Said r) = OfLine r
 answer_of (reply.Drained taken) = OfDrain taken
 
+-- a line that went to the network: a message that is not kept went there alone
+abbrev pub spoken : Kept → View → ℕ → Parts → ℕ → Deed
+spoken k v id line moment =
+    if is_message line && not (is_spread_by k v line) then Passed id line
+    else Spoke id line moment
+
 -- what has happened after an event, by what it was answered, where these bytes had come behind the
 -- last LF
-abbrev pub with_event : List Deed → List ℕ → Event → Answer → List Deed
-with_event older rest (on.Up bytes moment) _ =
+abbrev pub with_event : Kept → List Deed → List ℕ → Event → Answer → List Deed
+with_event k older rest (on.Up bytes moment) _ =
     with_items older (lines_at (rest ++ bytes.items) moment.0)
-with_event older rest (on.Lost moment) _ = Took (Lost, moment.0) ∷ older
-with_event older rest (on.Attach caps name capacity) (OfAttach (Ok id)) =
+with_event k older rest (on.Lost moment) _ = Took (Lost, moment.0) ∷ older
+with_event k older rest (on.Attach caps name capacity) (OfAttach (Ok id)) =
     Joined id (name_of name) caps capacity ∷ older
-with_event older rest (on.Detach id) (OfDetach true) = Left id ∷ older
-with_event older rest (on.Said id line moment) (OfLine (Ok said.Forwarded)) =
-    Spoke id line moment.0 ∷ older
-with_event older rest (on.Said id line moment) (OfLine (Ok said.Answered)) = Asked id line ∷ older
-with_event older rest (on.Said id line moment) (OfLine (Ok said.Cut)) = Asked id line ∷ older
-with_event older rest (on.Drained (Some id) most) (OfDrain count) = Drew id count ∷ older
-with_event older rest (on.Drained None most) (OfDrain count) = Drained count ∷ older
-with_event older rest _ _ = older
+with_event k older rest (on.Detach id) (OfDetach true) = Left id ∷ older
+with_event k older rest (on.Said id line moment) (OfLine (Ok said.Forwarded)) =
+    spoken k (view_then older) id line moment.0 ∷ older
+with_event k older rest (on.Said id line moment) (OfLine (Ok said.Answered)) = Asked id line ∷ older
+with_event k older rest (on.Said id line moment) (OfLine (Ok said.Cut)) = Asked id line ∷ older
+with_event k older rest (on.Drained (Some id) most) (OfDrain count) = Drew id count ∷ older
+with_event k older rest (on.Drained None most) (OfDrain count) = Drained count ∷ older
+with_event k older rest _ _ = older
 
 -- ---- by what happened before
 
@@ -123,7 +132,8 @@ module _ (l : Limits) where
   abbrev pub forward_then : List Deed → Parts → Result Said HubError
   forward_then deeds line =
       forward_by (is_online (reverse (heard_back deeds)))
-      (is_message line && is_none (kept_then l.before deeds).next)
+      (is_spread_by l.before.profile.keeping (view_then deeds) line
+      && is_none (kept_then l.before deeds).next)
       (nat_lt (waiting l.upstream deeds) l.upstream)
 
   -- a line of a session that is there, by what it means
@@ -157,13 +167,15 @@ module _ (l : Limits) where
   abbrev pub deeds_behind : List Deed → List ℕ → List Event → List Deed
   deeds_behind older rest [] = older
   deeds_behind older rest (e ∷ es) =
-      deeds_behind (with_event older rest e (answer_to older rest e)) (rest_behind rest e) es
+      deeds_behind (with_event l.before.profile.keeping older rest e (answer_to older rest e))
+      (rest_behind rest e) es
 
   abbrev pub answers_behind : List Deed → List ℕ → List Event → List Answer
   answers_behind older rest [] = []
   answers_behind older rest (e ∷ es) =
       answer_to older rest e
-      ∷ answers_behind (with_event older rest e (answer_to older rest e)) (rest_behind rest e) es
+      ∷ answers_behind (with_event l.before.profile.keeping older rest e (answer_to older rest e))
+      (rest_behind rest e) es
 
   -- what happened in events, the newest first
   abbrev pub deeds_of : List Event → List Deed

@@ -22,7 +22,7 @@ use Rattle.hub_core.specs.declared.hub.HubError.TheVariants as fault
 use Rattle.hub_core.specs.declared.hub.Pumped.{Pumped}
 use Rattle.history.specs.Marks.{NameMarks}
 use Rattle.history.specs.Messages.{Messages}
-use Rattle.hub_core.specs.States.{HubState, started, started_again}
+use Rattle.hub_core.specs.States.{HubState, ProfileParts, started_by, started_new, whole_profile}
 use Rattle.hub_core.specs.Pumping.{Pumps}
 use Rattle.hub_core.specs.Attaching.{Attaches, Detaches, Lacks, Refuses}
 use Rattle.hub_core.specs.Saying.{Says}
@@ -50,20 +50,26 @@ world_of hub rest gone = record { hub = hub; rest = rest; gone = gone }
 abbrev pub outlets_of : List MemoryOutlet → List OutletState
 outlets_of outlets = map state_of outlets
 
--- what a run begins with
-abbrev pub beginning : ℕ → ℕ → ℕ → ℕ → WorldState
-beginning history first_number first_session upstream_capacity = record {
-  hub = started [] (new_outlet upstream_capacity) history first_number first_session;
+-- what a run begins with that has this profile
+abbrev pub beginning_by : ProfileParts → ℕ → ℕ → ℕ → ℕ → WorldState
+beginning_by profile history first_number first_session upstream_capacity = record {
+  hub = started_new profile [] (new_outlet upstream_capacity) history first_number first_session;
   rest = [];
   gone = [];
 }
 
+-- what a run begins with
+abbrev pub beginning : ℕ → ℕ → ℕ → ℕ → WorldState
+beginning history first_number first_session upstream_capacity =
+    beginning_by whole_profile history first_number first_session upstream_capacity
+
 -- what a run begins with that goes on from these messages, the next of which has this number, these
 -- marks, and these channels that are to be joined again
-abbrev pub beginning_from : Messages → ℕ → NameMarks → List (Text × Option Text) → ℕ → ℕ
-    → WorldState
-beginning_from history first marks channels first_session upstream_capacity = record {
-  hub = started_again [] (new_outlet upstream_capacity) history first marks channels first_session;
+abbrev pub beginning_from : ProfileParts → Messages → ℕ → NameMarks → List (Text × Option Text)
+    → ℕ → ℕ → WorldState
+beginning_from profile history first marks channels first_session upstream_capacity = record {
+  hub = started_by profile [] (new_outlet upstream_capacity) history first marks channels
+      first_session;
   rest = [];
   gone = [];
 }

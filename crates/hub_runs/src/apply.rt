@@ -59,7 +59,7 @@ fn lose<V: NetworkView + Drop>(
     Ok(Reply::Lost(did))
 }
 
-/// A client's name as the hub is told it.
+/// A client's name as the hub gets it.
 fn name_of(name: &Option<Vec<u8>>) -> Option<&[u8]>
     ensures { option_map (λ n. n.now) result ≡ name_of name.now }
 {

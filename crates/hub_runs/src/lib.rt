@@ -10,4 +10,4 @@ mod runs;
 
 pub use event::Event;
 pub use outcome::{MemoryHub, Reply, Run, StartError, Stop, World};
-pub use runs::{run, run_from};
+pub use runs::{run, run_by, run_from};

@@ -36,7 +36,7 @@ pub trait LineTaker<A> {
         ensures ends { (began : Self) (before : List Parts) → is_after began before self.old →
             IfSome result (λ answer. ends began (before ++ lines.items) answer self.new) };
 
-    /// Is told before each read, and after each that gave bytes.
+    /// Is called before each read, and after each that gave bytes.
     fn pass(&self, _point: ReadPoint) {}
 }
 
@@ -81,7 +81,7 @@ fn take_piece<A, T: LineTaker<A>>(
     }
 }
 
-/// Reads an input piece by piece, and has its lines taken, in order, behind what the splitter
+/// Reads an input piece by piece, and has its lines taken, in order, after what the splitter
 /// holds: until the taker answers, the input ends or fails, or a piece is refused. Of a piece that
 /// is refused no line is taken.
 ///
@@ -120,7 +120,7 @@ pub fn read_lines<A, T: LineTaker<A>, R: Read>(
 }
 
 /// Reads an input from its start as `read_lines` does; hands back the splitter too, with the bytes
-/// behind the last line.
+/// after the last line.
 #[tactic(auto, using(crate::proofs::InputRead::read_anew))]
 pub fn read_from_start<A, T: LineTaker<A>, R: Read>(
     alloc: Global,

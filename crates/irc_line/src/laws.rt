@@ -9,7 +9,7 @@ ghost use Rattle.irc_line.specs.Writing.{is_writable, text_of, written};
 ghost use Rattle.irc_line.specs.Lines.{HasNoLf, with_lf, segments_of, ended_of, lines_of, rest_of};
 ghost use Rattle.irc_line.specs.Lines.{skipped_of, start, fed, fed_all, lines_all};
 
-/// Any bytes are segments without LF, each with an LF behind it, and then a rest without LF; and
+/// Any bytes are segments without LF, each with an LF after it, and then a rest without LF; and
 /// segments and a rest of which bytes are made in this way are the ones that are read off them.
 pub fn the_segments()
     ensures whole { (bytes : List ℕ) → flat_map with_lf (ended_of bytes) ++ rest_of bytes ≡ bytes }
@@ -45,7 +45,7 @@ pub fn the_grammar()
 {}
 
 /// Parts can be written and read back exactly where the test says so; and where it says no, there
-/// is no text at all that is read as them. Lines written one behind the other are a stream of them.
+/// is no text at all that is read as them. Lines written one after the other are a stream of them.
 pub fn what_is_written()
     ensures again { (line : Parts) →
         IsTrue (is_writable line) ↔ (line_of (text_of line) ≡ Some line) }

@@ -227,14 +227,14 @@ impl<A: Allocator> Line<A> {
         Ok(Line { text, command_at })
     }
 
-    /// What stands behind the `@`.
+    /// What follows the `@`.
     pub fn tags(&self) -> Option<&[u8]>
         ensures { option_map (λ part. part.now) result ≡ self.now.tags }
     {
         split_marked(b'@', trim(&self.text)).0
     }
 
-    /// What stands behind the first `:`, as `bob!b@h`.
+    /// What follows the first `:`, as `bob!b@h`.
     pub fn source(&self) -> Option<&[u8]>
         ensures { option_map (λ part. part.now) result ≡ self.now.source }
     {

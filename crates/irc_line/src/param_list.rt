@@ -11,7 +11,7 @@ use std::marker::Model;
 /// The parameters of a line that are left, in order. See [`Line::params`](crate::Line::params).
 #[derive(Clone, Drop)]
 pub struct Params<'a> {
-    // the text behind what was taken
+    // the text after what was taken
     rest: &'a [u8],
 }
 
@@ -25,7 +25,7 @@ impl<'a> Model for Params<'a> {
 }
 
 impl<'a> Params<'a> {
-    /// The parameters of what stands behind a command.
+    /// The parameters of what follows a command.
     pub(crate) fn of(text: &'a [u8]) -> Params<'a>
         ensures { result ≡ params_at false text.now }
     {

@@ -30,7 +30,7 @@ pub fn place_of(byte: u8, text: &[u8]) -> Option<usize>
     memchr(byte, text)
 }
 
-/// What stands before the first such byte, and what stands behind it.
+/// What stands before the first such byte, and what follows it.
 pub fn split_byte(byte: u8, text: &[u8]) -> Option<(&[u8], &[u8])>
     ensures none { IfNone result (slice_split (λ b. b == byte) text.now ≡ text.now ∷ []) }
     ensures some { IfSome result
@@ -53,7 +53,7 @@ pub fn split_token(text: &[u8]) -> (&[u8], &[u8])
     }
 }
 
-/// The part behind the mark, where the text begins with one, and what stands behind that.
+/// The part after the mark, if the text begins with one, and what follows that.
 pub fn split_marked(mark: u8, text: &[u8]) -> (Option<&[u8]>, &[u8])
     ensures part { option_map (λ part. part.now) result.0 ≡ marked mark text.now }
     ensures after { result.1.now ≡ after_marked mark text.now }
@@ -95,7 +95,7 @@ pub fn is_a_command(text: &[u8]) -> bool
     !text.is_empty() && are_letters(text) || text.len() == 3 && are_digits(text)
 }
 
-/// The parameter at the front of what stands behind a command, and what stands behind it.
+/// The parameter at the front of what follows a command, and what follows it.
 pub fn next_param(text: &[u8]) -> Option<(&[u8], &[u8])>
     ensures none { IfNone result (params_at false text.now ≡ []) }
     ensures some { IfSome result
@@ -112,7 +112,7 @@ pub fn next_param(text: &[u8]) -> Option<(&[u8], &[u8])>
     Some(split_token(rest))
 }
 
-/// The parameter at this place in what stands behind a command.
+/// The parameter at this place in what follows a command.
 pub fn nth_param(text: &[u8], place: usize) -> Option<&[u8]>
     ensures { option_map (λ param. param.now) result ≡ slice_get (params_at false text.now) place }
 {
@@ -125,7 +125,7 @@ pub fn nth_param(text: &[u8], place: usize) -> Option<&[u8]>
     Some(param)
 }
 
-/// How many parameters there are in what stands behind a command.
+/// How many parameters there are in what follows a command.
 pub fn count_params(text: &[u8]) -> usize
     ensures { result ≡ length (params_at false text.now) }
 {

@@ -45,7 +45,7 @@ impl From<OutOfMemory> for FeedError {
 /// is dropped (RFC 2812, section 2.3).
 #[derive(Drop)]
 pub struct Splitter<A: Allocator = Global> {
-    // what stands behind the last LF
+    // what stands after the last LF
     rest: Vec<u8, A>,
     skipped: u64,
 }
@@ -70,7 +70,7 @@ fn strip_cr(segment: &[u8]) -> &[u8]
     }
 }
 
-/// Whether somewhere more than `LINE_LIMIT` bytes stand without LF, once the piece stands behind
+/// Whether somewhere more than `LINE_LIMIT` bytes stand without LF, once the piece stands after
 /// the rest.
 ///
 /// The last LF within reach is looked for, so that most of the piece is passed over unread.
@@ -112,7 +112,7 @@ fn read_segment<A: Allocator + Drop, B: Allocator>(
     }
 }
 
-/// Adds the lines that the bytes hold; answers what stands behind the last LF, and how many
+/// Adds the lines that the bytes hold; answers what stands after the last LF, and how many
 /// segments are skipped.
 fn read_lines<'a, A: Allocator + Copy, B: Allocator>(
     alloc: A,
@@ -177,7 +177,7 @@ fn read_first<A: Allocator + Copy, B: Allocator>(
 }
 
 /// Adds the lines that the rest and the piece hold, and leaves the new rest; answers how many
-/// segments are skipped. After an error more may stand behind the old rest and the old lines.
+/// segments are skipped. After an error more may follow the old rest and the old lines.
 fn read_on<A: Allocator + Copy, B: Allocator>(
     rest: &mut Vec<u8, A>,
     piece: &[u8],

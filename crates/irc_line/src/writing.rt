@@ -29,7 +29,7 @@ fn is_a_word(param: &[u8]) -> bool
     }
 }
 
-/// Adds a part behind its mark, and a space.
+/// Adds a part after its mark, and a space.
 pub fn push_marked<A: Allocator>(
     mark: u8,
     part: Option<&[u8]>,
@@ -59,7 +59,7 @@ fn push_param<A: Allocator>(param: &[u8], out: &mut Vec<u8, A>) -> Result<(), Ou
     Ok(())
 }
 
-/// Adds the parameters of what stands behind a command.
+/// Adds the parameters of what follows a command.
 pub fn push_params<A: Allocator>(text: &[u8], out: &mut Vec<u8, A>) -> Result<(), OutOfMemory>
     ensures ok { OnOk result
         (out.new.items ≡ out.old.items ++ flat_map param_text (params_at false text.now)) }
@@ -130,7 +130,7 @@ pub fn write_line<A: Allocator>(
     done
 }
 
-/// How many bytes a part takes behind its mark, with a space.
+/// How many bytes a part takes after its mark, with a space.
 pub fn part_room(part: Option<&[u8]>) -> usize {
     part.map_or(0, |part| part.len().saturating_add(2))
 }

@@ -23,7 +23,7 @@ fn set_kind(kinds: &mut [Kind; LETTERS], letters: &[u8], kind: Kind)
     }
 }
 
-/// The list before the first comma, and the lists behind it.
+/// The list before the first comma, and the lists after it.
 fn first_list(value: &[u8]) -> (&[u8], &[u8])
     ensures list { result.0.now ≡ (cut_at 44 value.now).0 }
     ensures rest { result.1.now ≡ unwrap_or (cut_at 44 value.now).1 [] }

@@ -6,7 +6,7 @@ ghost use Rattle.irc_support.specs.Text.{cut_at, has_byte};
 use irc_line::place_of;
 
 /// What stands before the first such byte, else the whole text; and, where there is one, what
-/// stands behind it.
+/// follows it.
 pub fn cut(byte: u8, text: &[u8]) -> (&[u8], Option<&[u8]>)
     ensures before { result.0.now ≡ (cut_at byte text.now).0 }
     ensures behind { option_map (λ rest. rest.now) result.1 ≡ (cut_at byte text.now).1 }

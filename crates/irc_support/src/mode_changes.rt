@@ -90,7 +90,7 @@ fn changes_of<'a, A: Allocator>(
     }
 }
 
-/// The changes of the letters in the parameter at this place, which take what stands behind it.
+/// The changes of the letters in the parameter at this place, which take what follows it.
 fn changes_from<'a, A: Allocator, B: Allocator>(
     support: &'a Support<A>,
     line: &'a Line<B>,
@@ -106,7 +106,7 @@ fn changes_from<'a, A: Allocator, B: Allocator>(
 /// The changes that a MODE or a 324 line lists, read by these settings: none for any other line. It
 /// takes no memory.
 ///
-/// MODE has its letters in parameter 1, 324 in parameter 2, and what they take behind it, as in
+/// MODE has its letters in parameter 1, 324 in parameter 2, and what they take after it, as in
 /// `:s MODE #c +lo-v 5 bob eve` (where the letters stand in a 324 is our own choice). The sign is
 /// plus until the text says otherwise. Prefix letters and kinds A and B take a parameter always, C
 /// where it is set, D and unknown letters never. A letter that finds no parameter left comes

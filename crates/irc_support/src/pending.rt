@@ -37,7 +37,7 @@ fn stays<A: Allocator>(tokens: &Table<A>, names: &Names<A>, place: usize) -> boo
 }
 
 /// Takes the tokens of these names away, in one pass: each token that stays moves to the front,
-/// behind those that stayed before it.
+/// after those that stayed before it.
 fn remove<A: Allocator + Copy>(tokens: &mut Table<A>, names: &Names<A>)
     ensures entries { tokens_in tokens.new.entries
         ≡ kept names.now.keys (tokens_in tokens.old.entries) }

@@ -78,7 +78,7 @@ fn is_a_ranking(letters: &[u8], symbols: &[u8]) -> bool
         && are_distinct(symbols)
 }
 
-/// What stands behind the byte that a text begins with; `None` where it does not begin with this
+/// What follows the byte that a text begins with; `None` where it does not begin with this
 /// byte.
 fn behind(byte: u8, text: &[u8]) -> Option<&[u8]>
     ensures found { IfSome result (λ rest. text.now ≡ byte ∷ rest.now) }

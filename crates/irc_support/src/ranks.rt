@@ -45,7 +45,7 @@ impl Ranks {
     pub fn has(self, rank: u8) -> bool
         ensures value { result ≡ has_rank self rank }
         ensures small { IsTrue result → rank < 16 }
-        // A set is told by what it answers.
+        // A set is known by what it answers.
         ensures set { self ≡ ranks_that (has_rank self) }
     {
         rank < 16 && self.bits >> rank & 1 == 1

@@ -134,7 +134,7 @@ impl<A: Allocator + Copy> Support<A> {
 
     /// Takes a 005 line. Its tokens are the parameters between the first and the last: `NAME` and
     /// `NAME=value` set, `-NAME` removes, and one without a name says nothing (our own choice). Any
-    /// other line changes nothing and takes no memory. Want of memory comes before the first
+    /// other line changes nothing and takes no memory. `OutOfMemory` comes before the first
     /// change.
     pub fn take<B: Allocator>(&mut self, line: &Line<B>) -> Result<(), OutOfMemory>
         ensures taken { OnOk result (self.new ≡ settings_after self.old line.now) }
@@ -164,7 +164,7 @@ impl<A: Allocator> Support<A> {
     }
 
     /// The name of the token at this place, counted from 0, and its value: `None` where no `=`
-    /// stood behind the name, which is read as an empty value and written as it came. `None` from
+    /// followed the name, which is read as an empty value and written as it came. `None` from
     /// `token_count` on.
     #[tactic(auto, using(crate::proofs::TokenTable::token_places))]
     pub fn token(&self, place: usize) -> Option<(&[u8], Option<&[u8]>)>
@@ -210,7 +210,7 @@ impl<A: Allocator> Support<A> {
         self.prefix.symbol(rank)
     }
 
-    /// The ranks whose symbols stand at the front of a word of a name list, and what stands behind
+    /// The ranks whose symbols stand at the front of a word of a name list, and what follows
     /// the symbols: of `@+bob!b@h` with `PREFIX=(ov)@+` the ranks 0 and 1, and `bob!b@h`.
     pub fn split_symbols<'b>(&self, word: &'b [u8]) -> (Ranks, &'b [u8])
         ensures ranks { result.0

@@ -11,7 +11,7 @@ use irc_line::Line;
 use std::alloc::Allocator;
 use std::hash::{BuildHasherDefault, FoldHasher};
 
-/// The tokens: each name with its value, where a `=` stood behind it.
+/// The tokens: each name with its value, if a `=` followed it.
 pub type Table<A> = IndexMap<Vec<u8, A>, Option<Vec<u8, A>>, BuildHasherDefault<FoldHasher>, A>;
 
 /// A change of the tokens with all the memory that it needs.

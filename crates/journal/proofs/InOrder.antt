@@ -96,6 +96,13 @@ front_is : (ps : List (Bor (List ℕ))) (start : KeptParts) (n : ℕ) (d : Damag
 front_is ps start n d s =
     texts_taken n ps ∙ ap (take n) s.are ∙ take_at s.front (s.next ∷ s.later) n s.count
 
+-- so many payloads are there
+pub stops_within : (all ps : List (Bor (List ℕ))) (start : KeptParts) (n : ℕ) (d : Damage)
+    → all ≡ ps → StopsAt (texts all) start n d → n ≡ length (take n ps)
+stops_within all ps start n d same s =
+    sym s.count ∙ ap length (sym (front_is all start n d s))
+    ∙ length-map (take n all) (λ (p : Bor (List ℕ)). p.now) ∙ ap (λ qs. length (take n qs)) same
+
 pub recalled_all : (bytes : List ℕ) (ps : List (Bor (List ℕ))) (rest : List ℕ)
     (start kept : KeptParts) (n used : ℕ) → Splits bytes (texts ps) rest
     → TakesAll (texts ps) start kept → n ≡ length ps → used ≡ length (flat_map frame (texts ps))

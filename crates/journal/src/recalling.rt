@@ -138,13 +138,13 @@ pub fn recall(
     ensures cut { (batches : List (List RecordParts)) (n : ℕ) → AreBatches batches →
         bytes.now ≡ take n (file_of batches) → IfOk result (λ r.
         IsAfterBeginning batches (nothing capacity first) (kept_parts r.kept)) }
-    // Of what was written, and bytes behind it that begin no frame, all batches are.
+    // Of what was written, and bytes after it that begin no frame, all batches are.
     ensures whole { (batches : List (List RecordParts)) (torn : List ℕ) (kept : KeptParts) →
         AreBatches batches → frame_at torn ≡ None → bytes.now ≡ file_of batches ++ torn →
         after_all batches (nothing capacity first) ≡ Ok kept → IfOk result (λ r.
         (kept_parts r.kept ≡ kept) × (r.damage ≡ None) × (r.batches ≡ length batches)
         × (r.used ≡ length (file_of batches))) }
-    // A sound frame behind them that does not count ends it, with all before it, and is told.
+    // A sound frame after them that does not count ends it, with all before it, and is reported.
     ensures damaged { (batches : List (List RecordParts)) (bad more : List ℕ) (kept : KeptParts)
         (why : Damage) → AreBatches batches → length bad < 2 ^ 32 →
         bytes.now ≡ file_of batches ++ (frame bad ++ more) →

@@ -2,6 +2,8 @@
 use Rattle.std.specs.Prelude.{◌+◌, ◌-◌, ◌*◌, ◌^◌, ℕ, Bool, true, false, ◌&&◌, Option, None, Some}
 use Rattle.std.specs.Prelude.{if◌then◌else◌, min, nat_le, nat_lt}
 use Rattle.journal_files.specs.declared.file_state.FileState.{FileState}
+use Rattle.journal_files.specs.declared.journal_file.Beginning.{Beginning}
+use Rattle.journal_files.specs.declared.journal_file.Beginning.TheVariants as beginning
 use Rattle.journal_files.specs.declared.outcome.Deed.{Deed}
 use Rattle.journal_files.specs.declared.outcome.Deed.TheVariants as deed
 use Rattle.journal_files.specs.declared.outcome.Outcome.{Outcome}
@@ -41,6 +43,22 @@ sum_within a b = min (a + b) (2 ^ 64 - 1)
 -- after a fault nothing is done for a while
 abbrev pub rested : ℕ → FileState → FileState
 rested now s = record s { rest_until = sum_within now fault_pause }
+
+-- a file was opened of which so many bytes count: it is not known how many its last snapshot had
+abbrev pub opened : ℕ → FileState
+opened bytes = record {
+  size = bytes;
+  snapshot = 0;
+  is_sound = true;
+  rest_until = 0;
+  compact_from = 0;
+}
+
+-- by what stood in it
+abbrev pub begun : Beginning → ℕ → FileState → FileState
+begun beginning.Fresh bytes s = s
+begun beginning.Whole bytes s = opened bytes
+begun (beginning.Cut damaged) bytes s = opened bytes
 
 -- a batch of so many bytes was appended, or not
 abbrev pub appended : Outcome → ℕ → ℕ → FileState → FileState

@@ -26,11 +26,12 @@ pub struct FileState {
 
 impl FileState {
     ghost use Rattle.std.specs.Prelude.{◌≡◌, ◌<◌, ℕ, None, Some, false, true};
-    ghost use Rattle.journal_files.specs.FileStates.{appended, cut_after, deed_for, is_long, not_replaced, replaced};
+    ghost use Rattle.journal_files.specs.FileStates.{appended, cut_after, deed_for, is_long, not_replaced, opened, replaced};
 
     /// No file yet, or one that holds nothing: it is to be written anew.
     pub fn fresh() -> FileState
-        ensures { (now : ℕ) → deed_for Wanted.Batch now result ≡ Deed.Replace }
+        ensures deed { (now : ℕ) → deed_for Wanted.Batch now result ≡ Deed.Replace }
+        ensures sound { result.is_sound ≡ false }
     {
         FileState {
             size: 0,
@@ -43,9 +44,7 @@ impl FileState {
 
     /// A file of so many bytes, all of which count.
     pub fn of_size(size: u64) -> FileState
-        ensures size { result.size ≡ size }
-        ensures sound { result.is_sound ≡ true }
-        ensures due { result.rest_until ≡ 0 }
+        ensures { result ≡ opened size }
     {
         FileState {
             size,

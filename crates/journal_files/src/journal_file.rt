@@ -5,6 +5,7 @@ use crate::file_state::FileState;
 use crate::outcome::{Deed, Outcome, Wanted};
 use std::alloc::{AllocError, Global};
 use std::io;
+use std::marker::Model;
 use thiserror::Error;
 
 /// Why a network has no journal. Its file, if there is one, is as it was.
@@ -67,13 +68,24 @@ pub enum Beginning {
 pub struct JournalFile {
     folder: String,
     path: String,
-    new: String,
+    replacement: String,
     damaged: String,
     lock: Lock,
     state: FileState,
 }
 
+impl Model for JournalFile {
+    ghost use Rattle.journal_files.specs.declared.file_state.FileState.{FileState};
+
+    ghost Value = { FileState };
+
+    ghost view = { λ file. file.state };
+}
+
 impl JournalFile {
+    ghost use Rattle.std.specs.Prelude.{◌≡◌, IfOk, OnErr, OnOk, false, length};
+    ghost use Rattle.journal_files.specs.FileStates.{appended, begun, deed_for, fault_pause, not_replaced, replaced, sum_within};
+
     /// Locks the file of this name in a folder, which is made if there is none, and reads it. The
     /// bytes are none if there is no file.
     pub fn open<D: Disk>(
@@ -81,12 +93,15 @@ impl JournalFile {
         alloc: Global,
         folder: &str,
         name: &str,
-    ) -> Result<(JournalFile, Vec<u8>), OpenError> {
+    ) -> Result<(JournalFile, Vec<u8>), OpenError>
+        // It is not begun: nothing is cut yet, and nothing will be appended.
+        ensures unbegun { IfOk result (λ r. r.0.is_sound ≡ false) }
+    {
         let path = format!(in alloc; "{folder}/{name}")?;
         let lock = format!(in alloc; "{folder}/{name}:lock")?;
         let file = JournalFile {
             folder: String::from_str(alloc, folder)?,
-            new: format!(in alloc; "{folder}/{name}:new")?,
+            replacement: format!(in alloc; "{folder}/{name}:new")?,
             damaged: format!(in alloc; "{folder}/{name}:damaged")?,
             lock: locked(disk, folder, lock.as_str())?,
             path,
@@ -98,14 +113,13 @@ impl JournalFile {
         }
     }
 
-    /// Goes on behind those of its bytes that count, at the front; moves the others to the file of
-    /// damaged ends. After an error nothing is cut, and no journal is to be written.
-    pub fn begin<D: Disk>(
-        &mut self,
-        disk: &D,
-        bytes: &[u8],
-        used: usize,
-    ) -> Result<Beginning, OpenError> {
+    /// Goes on after those of its bytes that count, at the front; moves the others to the file of
+    /// damaged ends. It allocates nothing. After an error nothing is cut, and no journal is to be
+    /// written.
+    pub fn begin<D: Disk>(&mut self, disk: &D, bytes: &[u8], used: usize) -> io::Result<Beginning>
+        ensures ok { IfOk result (λ beginning. self.new ≡ begun beginning used self.old) }
+        ensures err { OnErr result (self.new ≡ self.old) }
+    {
         if used == 0 || used > bytes.len() {
             return Ok(Beginning::Fresh);
         }
@@ -116,7 +130,7 @@ impl JournalFile {
         }
         let saved = disk.append(self.damaged.as_str(), rest);
         if let Some(e) = saved.error {
-            return Err(OpenError::Io(e));
+            return Err(e);
         }
         disk.cut(self.path.as_str(), used as u64)?;
         self.state = FileState::of_size(used as u64);
@@ -137,12 +151,17 @@ impl JournalFile {
     }
 
     /// What is to be done to it now.
-    pub fn next(&self, wanted: Wanted, now: u64) -> Deed {
+    pub fn next(&self, wanted: Wanted, now: u64) -> Deed
+        ensures { result ≡ deed_for wanted now self.now }
+    {
         self.state.next(wanted, now)
     }
 
-    /// Appends a batch.
-    pub fn append<D: Disk>(&mut self, disk: &D, frame: &[u8], now: u64) -> Result<(), Fault> {
+    /// Appends a batch. After a fault nothing is done for a while.
+    pub fn append<D: Disk>(&mut self, disk: &D, frame: &[u8], now: u64) -> Result<(), Fault>
+        ensures ok { OnOk result (self.new ≡ appended Outcome.Done (length frame.now) now self.old) }
+        ensures err { OnErr result (self.new.rest_until ≡ sum_within now fault_pause) }
+    {
         let done = disk.append(self.path.as_str(), frame);
         let cut = self.state.appended(done.outcome, frame.len() as u64, now);
         if let Some(size) = cut {
@@ -151,10 +170,14 @@ impl JournalFile {
                 return Err(Fault::NotCut(e));
             }
         }
-        match (done.outcome, done.error) {
-            (Outcome::NotWritten, Some(e)) => Err(Fault::NotWritten(e)),
-            (Outcome::NotSynced, Some(e)) => Err(Fault::NotSynced(e)),
-            _ => Ok(()),
+        let error = match done.error {
+            Some(e) => e,
+            None => io::ErrorKind::Other.into(),
+        };
+        match done.outcome {
+            Outcome::Done => Ok(()),
+            Outcome::NotWritten => Err(Fault::NotWritten(error)),
+            Outcome::NotSynced => Err(Fault::NotSynced(error)),
         }
     }
 
@@ -165,8 +188,11 @@ impl JournalFile {
         bytes: &[u8],
         wanted: Wanted,
         now: u64,
-    ) -> Result<(), Fault> {
-        let (folder, new) = (self.folder.as_str(), self.new.as_str());
+    ) -> Result<(), Fault>
+        ensures ok { OnOk result (self.new ≡ replaced (length bytes.now)) }
+        ensures err { OnErr result (self.new ≡ not_replaced wanted now self.old) }
+    {
+        let (folder, new) = (self.folder.as_str(), self.replacement.as_str());
         match disk.replace(folder, new, self.path.as_str(), bytes) {
             Ok(()) => {
                 self.state.replaced(bytes.len() as u64);

@@ -1,7 +1,7 @@
 //! What a journal reads of a hub.
 
 use history::{AdmitError, Marks};
-use hub_core::{LostChannel, channel_key};
+use hub_core::channel_key;
 use hub_threads::RingHub;
 use journal::Channel;
 use net_view::NetworkView;
@@ -23,13 +23,16 @@ fn push_channel(
     Ok(())
 }
 
-/// Adds a channel that is to be joined again.
-fn push_lost(
-    alloc: Global,
-    channels: &mut Vec<Channel>,
-    channel: &LostChannel,
-) -> Result<(), AllocError> {
-    push_channel(alloc, channels, &channel.name, channel.key.as_deref())
+/// The key that the network told of for a channel, or else the one by which a client joined it.
+fn key_or_joined<'a, V: NetworkView + Drop>(
+    hub: &'a RingHub<V>,
+    name: &[u8],
+    told: Option<&'a [u8]>,
+) -> Option<&'a [u8]> {
+    match told {
+        Some(key) => Some(key),
+        None => hub.joined_key(name),
+    }
 }
 
 /// The channels that are to be joined after a restart, each with its key: those that we are on, those
@@ -42,16 +45,18 @@ pub fn channels_of<V: NetworkView + Drop>(
     let view = hub.view();
     for i in 0..view.channel_count() {
         if let Some(channel) = view.channel_at(i) {
-            push_channel(alloc, &mut channels, channel.name, channel_key(view, i))?;
+            let key = key_or_joined(hub, channel.name, channel_key(view, i));
+            push_channel(alloc, &mut channels, channel.name, key)?;
         }
     }
     for i in 0..hub.lost_channel_count() {
         if let Some(channel) = hub.lost_channel_at(i) {
-            push_lost(alloc, &mut channels, channel)?;
+            let key = key_or_joined(hub, &channel.name, channel.key.as_deref());
+            push_channel(alloc, &mut channels, &channel.name, key)?;
         }
     }
     for channel in hub.recalled_channels() {
-        push_lost(alloc, &mut channels, channel)?;
+        push_channel(alloc, &mut channels, &channel.name, channel.key.as_deref())?;
     }
     Ok(channels)
 }

@@ -10,5 +10,5 @@ mod writing;
 
 pub use due::Due;
 pub use journal_files::{Disk, Fault, OpenError};
-pub use opening::{Found, NoJournal, Opened, open};
+pub use opening::{Found, FoundJournal, NoJournal, Opened, open};
 pub use writing::{Journal, WriteError};

@@ -1,6 +1,6 @@
 //! A journal that is opened, and recalled.
 
-ghost use Rattle.std.specs.Prelude.{IfOk};
+ghost use Rattle.std.specs.Prelude.{◌≡◌, IfOk, false};
 ghost use Rattle.journal.specs.Recalls.{CanBegin};
 
 use crate::copying::copied;
@@ -8,8 +8,9 @@ use crate::writing::Journal;
 use history::Marks;
 use hub_core::{LostChannel, Past};
 use journal::{Channel, Damage, Kept, RecallError, Recalled, Written, recall};
-use journal_files::{Beginning, Disk, JournalFile, OpenError};
+use journal_files::{Disk, JournalFile, OpenError};
 use std::alloc::{AllocError, Global};
+use std::io;
 use thiserror::Error;
 
 /// Why a network has no journal. Its file, if there is one, is as it was.
@@ -32,6 +33,12 @@ impl From<OpenError> for NoJournal {
     }
 }
 
+impl From<io::Error> for NoJournal {
+    fn from(e: io::Error) -> NoJournal {
+        NoJournal::File(OpenError::Io(e))
+    }
+}
+
 impl From<RecallError> for NoJournal {
     fn from(e: RecallError) -> NoJournal {
         NoJournal::Recall(e)
@@ -51,17 +58,48 @@ pub struct Found {
     pub messages: usize,
     /// How many client names.
     pub names: usize,
-    /// How many bytes after the good ones, which were moved to the file of damaged ends.
+    /// How many bytes after the good ones, which `begin` moves to the file of damaged ends.
     pub damaged: u64,
     /// Why the first batch among them does not count, if it is whole.
     pub damage: Option<Damage>,
 }
 
+/// A journal that was found. Its file is as it was.
+#[derive(Drop)]
+pub struct FoundJournal {
+    file: JournalFile,
+    // what stands in it, and how much of that counts
+    bytes: Vec<u8>,
+    used: usize,
+    written: Written,
+    latest: Marks,
+}
+
+impl FoundJournal {
+    /// The journal, to be written from now on; a damaged end of its file is moved to that of damaged
+    /// ends. It allocates nothing, so what else a network needs is allocated before. After an error
+    /// nothing is cut, and no journal is to be written.
+    pub fn begin<D: Disk>(self, disk: &D) -> io::Result<Journal>
+        ensures written { IfOk result (λ journal. journal.written ≡ self.written) }
+        ensures latest { IfOk result (λ journal. journal.latest ≡ self.latest) }
+    {
+        let FoundJournal {
+            mut file,
+            bytes,
+            used,
+            written,
+            latest,
+        } = self;
+        file.begin(disk, &bytes, used)?;
+        Ok(Journal::new(file, written, latest))
+    }
+}
+
 /// What was opened.
 #[derive(Drop)]
 pub struct Opened {
-    /// The journal.
-    pub journal: Journal,
+    /// The journal, which is not begun.
+    pub journal: FoundJournal,
     /// What its hub goes on from.
     pub past: Past,
     /// What was found.
@@ -108,8 +146,16 @@ pub(crate) fn parts(alloc: Global, kept: Kept) -> Result<(Past, Written, Marks),
     Ok((past, written, latest))
 }
 
+/// How many bytes stand after those that count; none if the file is to be written anew.
+fn damaged_bytes(bytes: &[u8], used: usize) -> u64 {
+    if used == 0 {
+        return 0;
+    }
+    bytes.len().saturating_sub(used) as u64
+}
+
 /// Opens the journal of this name in a folder, and recalls it for a history of this capacity. Messages
-/// are numbered from 1. After an error the file is as it was.
+/// are numbered from 1. The file stays as it is, whatever comes of it, until the journal is begun.
 pub fn open<D: Disk>(
     disk: &D,
     alloc: Global,
@@ -118,8 +164,10 @@ pub fn open<D: Disk>(
     capacity: usize,
 ) -> Result<Opened, NoJournal>
     ensures begins { IfOk result (λ o. CanBegin o.past.history) }
+    // So a network for which memory is refused later leaves its file as it was, too.
+    ensures unbegun { IfOk result (λ o. o.journal.file.is_sound ≡ false) }
 {
-    let (mut file, bytes) = JournalFile::open(disk, alloc, folder, name)?;
+    let (file, bytes) = JournalFile::open(disk, alloc, folder, name)?;
     let recalled = recall(alloc, capacity, 1, &bytes)?;
     let Recalled {
         kept,
@@ -127,19 +175,21 @@ pub fn open<D: Disk>(
         damage,
         ..
     } = recalled;
-    let damaged = match file.begin(disk, &bytes, used)? {
-        Beginning::Cut(damaged) => damaged,
-        Beginning::Fresh | Beginning::Whole => 0,
-    };
     let found = Found {
         messages: kept.history.len(),
         names: kept.marks.count(),
-        damaged,
+        damaged: damaged_bytes(&bytes, used),
         damage,
     };
     let (past, written, latest) = parts(alloc, kept)?;
     Ok(Opened {
-        journal: Journal::new(file, written, latest),
+        journal: FoundJournal {
+            file,
+            bytes,
+            used,
+            written,
+            latest,
+        },
         past,
         found,
     })

@@ -112,7 +112,10 @@ impl Model for Journal {
 
 impl Journal {
     /// The journal of a file that holds this.
-    pub(crate) fn new(file: JournalFile, written: Written, latest: Marks) -> Journal {
+    pub(crate) fn new(file: JournalFile, written: Written, latest: Marks) -> Journal
+        ensures written { result.written ≡ written }
+        ensures latest { result.latest ≡ latest }
+    {
         Journal {
             file,
             written,

@@ -69,7 +69,7 @@ pub trait NetworkView {
             ≡ option_map (λ channel. channel.topic) (channel_shown (view self.now) i) };
 
     /// The mode at place `j` of the channel at place `i`: its letter, and its parameter, where it
-    /// has one. Modes are ordered by the bytes of their letters; `None` behind the last one.
+    /// has one. Modes are ordered by the bytes of their letters; `None` after the last one.
     fn mode_at(&self, i: usize, j: usize) -> Option<(u8, Option<&[u8]>)>
         ensures { option_map mode_parts result ≡ mode_shown (view self.now) i j };
 

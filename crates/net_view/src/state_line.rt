@@ -137,7 +137,7 @@ fn actor<A: Allocator>(line: &Line<A>) -> Option<&[u8]>
     if is_nameable(nick) { Some(nick) } else { None }
 }
 
-/// Whether the text can stand as a parameter with others behind it: not empty, no `:` at its head,
+/// Whether the text can stand as a parameter with others after it: not empty, no `:` at its head,
 /// no space (RFC 2812, section 2.3.1: middle).
 pub fn is_word(text: &[u8]) -> bool
     ensures { result ≡ is_word text.now }
@@ -271,7 +271,7 @@ fn told_by_mode_reply<A: Allocator>(line: &Line<A>) -> Option<Telling<'_, A>>
     Some(Telling::Listed { channel, line })
 }
 
-/// What a line tells that has a channel at this place, and its topic behind it.
+/// What a line tells that has a channel at this place, and its topic after it.
 fn told_by_topic_at<A: Allocator>(line: &Line<A>, place: usize) -> Option<Telling<'_, A>>
     requires { place ≤ 1 }
     ensures { (settings : List Token) →

@@ -29,7 +29,7 @@ impl<'v, V: NetworkView> Model for Modes<'v, V> {
     ghost view = { λ s. drop s.place (modes_at (V.view s.view.now) s.channel) };
 }
 
-/// The place behind that of a mode. Letters rise from place to place, so none stands at a place
+/// The place after that of a mode. Letters rise from place to place, so none stands at a place
 /// above it.
 fn place_behind(letter: u8, place: usize) -> usize
     requires { place ≤ letter }
@@ -50,7 +50,7 @@ impl<'v, V: NetworkView> Modes<'v, V> {
         }
     }
 
-    /// The next mode; `None` behind the last one.
+    /// The next mode; `None` after the last one.
     pub fn next(&mut self) -> Option<(u8, Option<&'v [u8]>)>
         ensures { YieldsFirstBy mode_parts (λ left. left) self.old result self.new }
     {
@@ -91,7 +91,7 @@ impl<'v, V: NetworkView> Members<'v, V> {
         }
     }
 
-    /// The next member; `None` behind the last one.
+    /// The next member; `None` after the last one.
     pub fn next(&mut self) -> Option<Member<'v>>
         ensures { YieldsFirstBy parts_of (λ left. left) self.old result self.new }
     {

@@ -1,4 +1,4 @@
-//! Marks by which most keys that a table does not hold are told without a search.
+//! Marks by which most keys that a table does not hold are known without a search.
 
 ghost use Rattle.std.specs.Prelude.{◌≡◌, IfOk, T, map, set, true};
 ghost use Rattle.std.specs.FinMap as fin;

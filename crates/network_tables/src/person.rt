@@ -73,7 +73,7 @@ pub fn new_person<A: Allocator + Copy>(
     })
 }
 
-/// Names a person, who may come into sight, and tells the account, where one is told. What else is
+/// Names a person, who may come into sight, and tells the account, if one is known. What else is
 /// known of the person stays. The person is first looked for in the cell `near`, if that is known.
 /// Answers the number of the person's cell.
 #[tactic(auto, using(crate::proofs::SwapLemmas::swaps))]

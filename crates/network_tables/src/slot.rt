@@ -34,7 +34,7 @@ pub(crate) fn new_entry<V: Drop, A: Allocator + Copy>(
     )?)
 }
 
-/// An entry behind a pointer, with the first eight bytes of its key beside it: what stands behind a
+/// An entry behind a pointer, with the first eight bytes of its key beside it: what follows a
 /// place is small to move, and a search seldom reads a key.
 #[derive(Drop)]
 pub(crate) struct Slot<V, A: Allocator> {

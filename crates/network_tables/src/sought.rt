@@ -29,7 +29,7 @@ pub(crate) fn order(key: &[u8], sought: Sought<'_>) -> Ordering
     }
 }
 
-/// How a key stands to what is looked for, where their heads are one: what stands behind the first
+/// How a key stands to what is looked for, where their heads are one: what follows the first
 /// eight bytes tells, where there is so much of both.
 pub(crate) fn order_behind(key: &[u8], sought: Sought<'_>) -> Ordering
     ensures { AreBytesTo 8 key.now → AreBytesTo 8 (sought_key sought.entry) →
@@ -45,7 +45,7 @@ pub(crate) fn order_behind(key: &[u8], sought: Sought<'_>) -> Ordering
     mapping.order_to_key(rest(name), rest(key)).reverse()
 }
 
-/// What stands behind the first eight bytes.
+/// What follows the first eight bytes.
 fn rest(text: &[u8]) -> &[u8]
     requires { 8 ≤ length text.now }
     ensures { result.now ≡ drop 8 text.now }
@@ -53,7 +53,7 @@ fn rest(text: &[u8]) -> &[u8]
     &text[8..]
 }
 
-/// The byte at a place of a key; 0 behind its end.
+/// The byte at a place of a key; 0 after its end.
 fn key_byte_at(key: &[u8], place: usize) -> u8
     ensures byte { result ≡ get_or key.now place 0 }
     ensures small { result < 256 }
@@ -61,7 +61,7 @@ fn key_byte_at(key: &[u8], place: usize) -> u8
     if place < key.len() { key[place] } else { 0 }
 }
 
-/// The byte at a place of a name's key; 0 behind its end.
+/// The byte at a place of a name's key; 0 after its end.
 fn name_byte_at(mapping: CaseMapping, name: &[u8], place: usize) -> u8
     ensures byte { result ≡ get_or (key_of mapping name.now) place 0 }
     ensures small { result < 256 }

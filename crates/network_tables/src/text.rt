@@ -31,7 +31,7 @@ pub fn copy_of<A: Allocator>(
     }
 }
 
-/// A copy of a text that may be told, and then may be absent.
+/// A copy of a text that may be known, and then may be absent.
 pub fn copy_of_told<A: Allocator>(
     alloc: A,
     told: Option<Option<&[u8]>>,

@@ -15,7 +15,7 @@ use std::marker::Model;
 /// their names, and in each channel the members. It keeps no line.
 ///
 /// A reader by place takes one step. A line takes a few binary searches, and a move of what stands
-/// behind the place where a table changes; QUIT, NICK and a member's leaving do so in each channel.
+/// after the place where a table changes; QUIT, NICK and a member's leaving do so in each channel.
 /// Only `take` of a line that tells something to keep may need memory: a loss, PART, KICK and QUIT
 /// never do.
 pub struct TableView<A: Allocator = Global> {

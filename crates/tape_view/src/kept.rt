@@ -158,7 +158,7 @@ pub(crate) fn ready_in<A: Allocator>(kept: &[Kept<A>]) -> bool
 }
 
 /// Makes these settings, which were in force after these lines, the ones after a line that tells
-/// this. `OutOfMemory` is told before a change.
+/// this. `OutOfMemory` comes before a change.
 pub(crate) fn take_settings<A: Allocator + Copy, B: Allocator>(
     alloc: A,
     support: &mut Support<A>,

@@ -103,7 +103,7 @@ impl<'a, A: Allocator> Tape<'a, A> {
         is_same(self.support, a, b)
     }
 
-    /// The last line, and the tape before it; `None` where nothing was told since the connection
+    /// The last line, and the tape before it; `None` if nothing was received since the connection
     /// was lost, or since the network took us in. Then we are on no channel.
     #[tactic(auto, using(crate::proofs::TapeLast::command_last, crate::proofs::TapeLast::no_lines, crate::proofs::TapeLast::off_after, crate::proofs::TapeLast::tape_none))]
     pub(crate) fn split_last(&self) -> Option<(Said<'a, A>, Tape<'a, A>)>

@@ -5,12 +5,12 @@ unfoldable pub use Grouping.*
 -- ---- what the lines tell
 
 module _ (caps : Caps) where
-  entries_told : (tags : List Text) (es : List EntryParts) → Each IsMessage es
+  pub entries_told : (tags : List Text) (es : List EntryParts) → Each IsMessage es
       → messages_in (map (entry_line caps tags) es) ≡ map bare_line es
   entries_told tags [] m = refl
   entries_told tags (e ∷ es) m = simp (m.0, entries_told tags es m.1)
 
-  backlog_told : (place : ℕ) (name : Text) (es : List EntryParts) → Each IsMessage es
+  pub backlog_told : (place : ℕ) (name : Text) (es : List EntryParts) → Each IsMessage es
       → messages_in (backlog_of caps place name es) ≡ map bare_line es
   backlog_told place name [] m = refl
   backlog_told place name (e ∷ es) m =
@@ -28,12 +28,16 @@ not_later : (k : Text) (cs : List (Text × Channel)) → below_all bytes_cmp k c
 not_later k [] below = refl
 not_later k (c ∷ cs) below = grind (arith, not_later k cs)
 
+either_way : {X : Type 0} (b : Bool) (x : X) → cond b x x ≡ x
+either_way true x = refl
+either_way false x = refl
+
 module _ (v : View) where
   -- the messages of channels
-  abbrev messages_of : List EntryParts → List (Text × Channel) → List EntryParts
+  abbrev pub messages_of : List EntryParts → List (Text × Channel) → List EntryParts
   messages_of es cs = flat_map (λ (c : Text × Channel). filter (is_for v c.0) es) cs
 
-  channels_told : (caps : Caps) (es : List EntryParts) (cs : List (Text × Channel)) (n : ℕ)
+  pub channels_told : (caps : Caps) (es : List EntryParts) (cs : List (Text × Channel)) (n : ℕ)
       → Each IsMessage es → messages_in (flat_map (λ (at : ℕ × (Text × Channel)).
       backlog_of caps at.0 at.1.1.name (filter (is_for v at.1.0) es)) (enumerate_from n cs))
       ≡ map bare_line (messages_of es cs)
@@ -136,10 +140,19 @@ module _ (v : View) where
       simp (filter-append, none, twice other other other (λ e. grind arith) es)
 
   -- where nothing was missed, the burst is the state part
-  pub nothing_missed : (caps : Caps) → burst_of v caps [] ≡ state_part_of v caps
-  unfolding playback_of
-  nothing_missed caps =
-      simp (untold _ (enumerate_from 0 (fin.entries v.channels)) (λ at. refl), append-nil)
+  pub nothing_missed : (playing : Playing) (caps : Caps)
+      → burst_by playing v caps [] ≡ state_part_of v caps
+  unfolding playback_by
+  nothing_missed playing caps =
+      let none : others_lines playing v caps (length (fin.entries v.channels)) [] ≡ [] =
+      either_way (is_private playing caps) [] in
+      simp (none, untold _ (enumerate_from 0 (fin.entries v.channels)) (λ at. refl), append-nil)
+
+-- the playback of no profile is that of the whole one
+pub whole_played : (playing : Playing) (v : View) (caps : Caps) (entries : List EntryParts)
+    → playing ≡ playing_whole → playback_by playing v caps entries ≡ playback_of v caps entries
+unfolding playback_by playback_of
+whole_played playing v caps entries e = rw e refl
 
 -- a list that is told to be empty
 pub empty_list : {A : Type 0} (xs : List A) → true ≡ (length xs == 0) → xs ≡ []

@@ -14,6 +14,8 @@ use Rattle.net_view.specs.View.{Channel, View}
 use Rattle.history.specs.Entry.{EntryParts}
 use Rattle.client_caps.specs.declared.caps.Caps.{Caps}
 use Rattle.client_caps.specs.Answers.{from_bouncer}
+use Rattle.welcome.specs.declared.playing.Playing.{Playing}
+use Rattle.welcome.specs.Playing.{apart_groups, is_private, others_lines}
 use Rattle.welcome.specs.Playback.{backlog_of, batch_name, entry_line, is_for, is_for_a_channel}
 
 -- one more in the group at a place
@@ -21,6 +23,12 @@ abbrev pub push_at : {X : Type 0} → ℕ → X → List (List X) → List (List
 push_at n x [] = []
 push_at zero x (g ∷ gs) = (g ++ x ∷ []) ∷ gs
 push_at (suc n) x (g ∷ gs) = g ∷ push_at n x gs
+
+-- one more in the group at a place, or in a new one at the end
+abbrev pub put_at : {X : Type 0} → ℕ → X → List (List X) → List (List X)
+put_at n x [] = (x ∷ []) ∷ []
+put_at zero x (g ∷ gs) = (g ++ x ∷ []) ∷ gs
+put_at (suc n) x (g ∷ gs) = g ∷ put_at n x gs
 
 -- the place of the first of these names that is one name with the target, or their count
 abbrev pub place_among : CaseMapping → Text → List Text → ℕ
@@ -74,8 +82,14 @@ backlogs_of caps place (name ∷ names) [] = []
 backlogs_of caps place (name ∷ names) (group ∷ groups) =
     backlog_of caps place name group ++ backlogs_of caps (place + 1) names groups
 
--- the messages of all groups; the last group has no batch
-abbrev pub arranged_of : Caps → List Text → List (List EntryParts) → List Parts
-arranged_of caps names groups =
+-- the messages of all groups; the last one is of those for no channel
+abbrev pub arranged_by : Playing → View → Caps → List Text → List (List EntryParts) → List Parts
+arranged_by playing v caps names groups =
     backlogs_of caps 0 names groups
-    ++ map (entry_line caps []) (slice_index_or groups (length names) [])
+    ++ others_lines playing v caps (length names) (slice_index_or groups (length names) [])
+
+-- how many places their batches can have
+abbrev pub places_among : Playing → View → Caps → List Text → List (List EntryParts) → ℕ
+places_among playing v caps names groups =
+    length names + (if is_private playing caps
+    then length (apart_groups v (slice_index_or groups (length names) [])) else 0)

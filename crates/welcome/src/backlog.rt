@@ -1,21 +1,25 @@
 //! The playback: the messages that a client missed, arranged by channels (IRCv3 batch,
 //! server-time).
 
-ghost use Rattle.std.specs.Prelude.{◌≡◌, ◌<◌, ◌≤◌, ◌^◌, ◌++◌, ◌∷◌, [], IfOk, OnOk, length, map};
+ghost use Rattle.std.specs.Prelude.{◌≡◌, ◌<◌, ◌≤◌, ◌+◌, ◌^◌, ◌++◌, ◌∷◌, [], IfOk, OnOk, length, map};
 ghost use Rattle.std.specs.Prelude.{option_to_list, codes, if◌then◌else◌};
 ghost use Rattle.std.specs.List.{AllByRecursion, flat_map};
 ghost use Rattle.std.specs.Option.{option_map};
-ghost use Rattle.std.specs.FinMap as fin;
 ghost use Rattle.irc_line.specs.Writing.{written};
 ghost use Rattle.history.specs.Entry.{IsWrittenEntry};
-ghost use Rattle.welcome.specs.Arranged.{arranged_of, backlogs_of, batch_of, batch_tag, time_tag};
+ghost use Rattle.welcome.specs.Arranged.{arranged_by, backlogs_of, batch_of, batch_tag};
+ghost use Rattle.welcome.specs.Arranged.{places_among, time_tag};
+ghost use Rattle.welcome.specs.Playing.{apart_groups, is_private, others_lines, places_of};
+ghost use Rattle.welcome.specs.Playing.{playback_by};
 ghost use Rattle.client_caps.specs.Answers.{from_bouncer};
 ghost use Rattle.welcome.specs.Playback.{backlog_of, batch_name, entry_line, playback_of};
 ghost use Rattle.welcome.specs.Playback.{tags_text};
 
 use crate::greeting::push_reply;
 use crate::groups::{channel_names, grouped};
+use crate::others::push_apart;
 use crate::packet::Packet;
+use crate::playing::Playing;
 use client_caps::Caps;
 use history::Entry;
 use irc_line::write_line;
@@ -80,7 +84,7 @@ fn push_entry<A: Allocator, B: Allocator>(
 }
 
 /// Adds these messages.
-fn push_entries<A: Allocator + Copy, B: Allocator>(
+pub fn push_entries<A: Allocator + Copy, B: Allocator>(
     text: &mut Vec<u8, A>,
     caps: Caps,
     batch: Option<&[u8]>,
@@ -172,7 +176,7 @@ fn push_batch<A: Allocator + Copy, B: Allocator>(
 /// Adds the messages of the channel at a place, with batch between `:bnc BATCH +h0 chathistory #c`
 /// and `:bnc BATCH -h0`; nothing where there are none.
 #[tactic(auto, using(crate::proofs::PlaybackWhole::plain_backlog))]
-fn push_backlog<A: Allocator + Copy, B: Allocator>(
+pub fn push_backlog<A: Allocator + Copy, B: Allocator>(
     text: &mut Vec<u8, A>,
     caps: Caps,
     place: usize,
@@ -211,61 +215,123 @@ fn push_backlogs<A: Allocator + Copy, B: Allocator>(
     Ok(())
 }
 
+/// Adds the messages for no channel that we are on: each in the batch of its channel or its person,
+/// the first of which has this number, or all of them by time.
+#[tactic(auto, using(crate::proofs::PlaybackWhole::last_steps))]
+fn push_others<V: NetworkView, A: Allocator + Copy, B: Allocator>(
+    text: &mut Vec<u8, A>,
+    playing: Playing,
+    view: &V,
+    caps: Caps,
+    first: usize,
+    others: &[&Entry<B>],
+) -> Result<(), OutOfMemory>
+    ensures said { OnOk result (text.new.items ≡ text.old.items ++ flat_map written (others_lines
+        playing (V.view view.now) caps first (map (λ entry. entry.now) others.now))) }
+    ensures few { OnOk result (first + (if is_private playing caps then length (apart_groups
+        (V.view view.now) (map (λ entry. entry.now) others.now)) else 0) < 2 ^ 64) }
+{
+    if playing.private_batches && caps.batch {
+        push_apart(text, view, caps, first, others)
+    } else {
+        push_entries(text, caps, None, others)
+    }
+}
+
 /// Adds the messages of all groups: those of the channels, and then the last group.
 #[tactic(auto, using(crate::proofs::PlaybackWhole::last_steps))]
-fn push_groups<A: Allocator + Copy, B: Allocator>(
+fn push_groups<V: NetworkView, A: Allocator + Copy, B: Allocator>(
     text: &mut Vec<u8, A>,
+    playing: Playing,
+    view: &V,
     caps: Caps,
     names: &[&[u8]],
     groups: &[Vec<&Entry<B>, A>],
 ) -> Result<(), OutOfMemory>
     requires { length names.now < length groups.now }
-    ensures { OnOk result (text.new.items ≡ text.old.items ++ flat_map written
-        (arranged_of caps (map (λ name. name.now) names.now)
+    ensures said { OnOk result (text.new.items ≡ text.old.items ++ flat_map written
+        (arranged_by playing (V.view view.now) caps (map (λ name. name.now) names.now)
         (map (λ group. map (λ entry. entry.now) group.items) groups.now))) }
+    ensures few { OnOk result (places_among playing (V.view view.now) caps
+        (map (λ name. name.now) names.now)
+        (map (λ group. map (λ entry. entry.now) group.items) groups.now) < 2 ^ 64) }
 {
     push_backlogs(text, caps, names, groups)?;
-    push_entries(text, caps, None, &groups[names.len()])?;
-    Ok(())
+    push_others(text, playing, view, caps, names.len(), &groups[names.len()])
 }
 
 /// Adds the messages: per channel in key order, then all others, each the oldest first.
 pub fn push_playback<V: NetworkView, A: Allocator + Copy, B: Allocator>(
     text: &mut Vec<u8, A>,
+    playing: Playing,
     view: &V,
     caps: Caps,
     entries: &[&Entry<B>],
 ) -> Result<(), OutOfMemory>
     ensures said { OnOk result (text.new.items ≡ text.old.items ++ flat_map written
-        (playback_of (V.view view.now) caps (map (λ entry. entry.now) entries.now))) }
-    ensures few { length (fin.entries (V.view view.now).channels) < 2 ^ 64 }
+        (playback_by playing (V.view view.now) caps (map (λ entry. entry.now) entries.now))) }
+    ensures few { OnOk result (places_of playing (V.view view.now) caps
+        (map (λ entry. entry.now) entries.now) < 2 ^ 64) }
 {
     let alloc = *text.allocator();
     view.comes_from_lines();
-    let _count = view.channel_count();
     let names = channel_names(alloc, view)?;
     let groups = grouped(alloc, view.support().mapping(), &names, entries)?;
-    push_groups(text, caps, &names, &groups)
+    push_groups(text, playing, view, caps, &names, &groups)
 }
 
 /// The packet of the playback, from its bytes. That its lines can be written follows from where the
 /// view and the messages come from.
-#[tactic(auto, using(crate::proofs::WrittenLaw::lines_back, crate::proofs::WrittenLaw::playback_written, crate::proofs::WrittenLaw::state_is_packet))]
+#[tactic(auto, using(crate::proofs::WrittenLaw::lines_back, crate::proofs::OthersWritten::playback_by_written, crate::proofs::WrittenLaw::state_is_packet))]
 fn packet_of_playback<V: NetworkView, A: Allocator + Clone, B: Allocator>(
     text: Vec<u8, A>,
+    playing: Playing,
     view: &V,
     caps: Caps,
     entries: &[&Entry<B>],
 ) -> Result<Packet<A>, OutOfMemory>
     requires whole { text.items ≡ flat_map written
-        (playback_of (V.view view.now) caps (map (λ entry. entry.now) entries.now)) }
+        (playback_by playing (V.view view.now) caps (map (λ entry. entry.now) entries.now)) }
     requires written { AllByRecursion (λ entry. IsWrittenEntry entry.now) entries.now }
-    requires few { length (fin.entries (V.view view.now).channels) < 2 ^ 64 }
-    ensures { IfOk result (λ packet.
-        packet ≡ playback_of (V.view view.now) caps (map (λ entry. entry.now) entries.now)) }
+    requires few { places_of playing (V.view view.now) caps
+        (map (λ entry. entry.now) entries.now) < 2 ^ 64 }
+    ensures { IfOk result (λ packet. packet
+        ≡ playback_by playing (V.view view.now) caps (map (λ entry. entry.now) entries.now)) }
 {
     view.comes_from_lines();
     Packet::of_lines(text)
+}
+
+/// The messages that a client missed, as [`playback`] has them, by a profile.
+///
+/// With `private_batches` and the capability batch, the messages for no channel that we are on
+/// stand in batches too: those for each other channel, then those exchanged with each person or for
+/// each other target, both where their first one stands (our own choice). References are numbered
+/// on from the channels that we are on:
+///
+/// ```text
+/// :bnc BATCH +h1 chathistory bob
+/// @batch=h1 :bob!b@h PRIVMSG Me hello
+/// @batch=h1 :Me PRIVMSG bob :hello yourself
+/// :bnc BATCH -h1
+/// ```
+///
+/// A message to us stands with those of its sender's nick. Nicks are compared by `ascii`, our own
+/// nick and channels as the network compares names. If the nick is no word, there is no batch.
+pub fn playback_by<V: NetworkView, A: Allocator + Copy, B: Allocator>(
+    alloc: A,
+    playing: Playing,
+    view: &V,
+    caps: Caps,
+    entries: &[&Entry<B>],
+) -> Result<Packet<A>, OutOfMemory>
+    requires { AllByRecursion (λ entry. IsWrittenEntry entry.now) entries.now }
+    ensures { IfOk result (λ packet. packet
+        ≡ playback_by playing (V.view view.now) caps (map (λ entry. entry.now) entries.now)) }
+{
+    let mut text = Vec::new(alloc);
+    push_playback(&mut text, playing, view, caps, entries)?;
+    packet_of_playback(text, playing, view, caps, entries)
 }
 
 /// The messages that a client missed, arranged by channels: per channel in key order its messages,
@@ -283,6 +349,7 @@ fn packet_of_playback<V: NetworkView, A: Allocator + Clone, B: Allocator>(
 /// With server-time each has its time, as `@batch=h0;time=2020-01-02T03:04:05.678Z` (IRCv3
 /// server-time). Each target is looked up once among the channels; else the time is that of
 /// writing. The entries are those of messages from lines, so they can be written.
+#[tactic(auto, using(crate::proofs::PlaybackWhole::whole_played))]
 pub fn playback<V: NetworkView, A: Allocator + Copy, B: Allocator>(
     alloc: A,
     view: &V,
@@ -293,7 +360,5 @@ pub fn playback<V: NetworkView, A: Allocator + Copy, B: Allocator>(
     ensures { IfOk result (λ packet.
         packet ≡ playback_of (V.view view.now) caps (map (λ entry. entry.now) entries.now)) }
 {
-    let mut text = Vec::new(alloc);
-    push_playback(&mut text, view, caps, entries)?;
-    packet_of_playback(text, view, caps, entries)
+    playback_by(alloc, Playing::whole(), view, caps, entries)
 }

@@ -21,7 +21,7 @@ use std::alloc::Allocator;
 /// How many bytes the words of a line take at most, with the spaces between them (our own choice).
 pub const ROW_LIMIT: usize = 400;
 
-/// Whether the word goes onto a row of this many bytes, behind a space. A word goes onto a row that
+/// Whether the word goes onto a row of this many bytes, after a space. A word goes onto a row that
 /// is not begun.
 pub fn has_room(is_begun: bool, len: usize, word: &[u8]) -> bool
     ensures { result ≡ (if is_begun then nat_le (len + 1 + length word.now) 400 else true) }

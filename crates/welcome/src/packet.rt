@@ -53,7 +53,7 @@ impl<A: Allocator + Clone> Packet<A> {
         Ok(Packet { text, count })
     }
 
-    /// The packet of lines that were written one behind the other.
+    /// The packet of lines that were written one after the other.
     #[tactic(auto, using(crate::proofs::WrittenLaw::ends_counted))]
     pub(crate) fn of_lines(text: Vec<u8, A>) -> Result<Packet<A>, OutOfMemory>
         requires { IsPacket text.items (length (lines_of text.items)) }

@@ -19,7 +19,7 @@ use std::alloc::Allocator;
 /// fifteen parameters (RFC 2812, section 2.3).
 const TOKEN_LIMIT: usize = 12;
 
-/// A token as it is written: its name, and behind `=` its value, where it has one.
+/// A token as it is written: its name, and after `=` its value, if it has one.
 fn written_token<A: Allocator + Copy>(
     alloc: A,
     name: &[u8],

@@ -72,7 +72,7 @@ fn packet_of_state<V: NetworkView, A: Allocator + Clone>(
 /// the keys: ACCOUNT stands only with account-notify, AWAY only with away-notify. The texts and
 /// limits are our own.
 ///
-/// `OutOfMemory` is told where an allocation was refused, and for no other cause.
+/// `OutOfMemory` if an allocation was refused, and for no other reason.
 pub fn state_part<V: NetworkView, A: Allocator + Copy>(
     alloc: A,
     view: &V,

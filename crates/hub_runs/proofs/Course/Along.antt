@@ -19,7 +19,7 @@ module _ (b : Before) (start : WorldState) (all : List Event) (answers : List Re
     pub attach : Attached start all answers id name
     pub more : List (List Parts)
     pub burst : packets b id ds
-        ≡ burst_of (view_of (arrivals (transcript_of attach.before))) attach.caps
+        ≡ burst_by b.profile.playing (view_of (arrivals (transcript_of attach.before))) attach.caps
         (missed attach.standing.hub (name_of attach.name)) ∷ more
     pub within : length (transcript_of attach.before) ≤ length (heard_back ds)
 
@@ -79,7 +79,7 @@ module _ (b : Before) (start : WorldState) (all : List Event) (answers : List Re
       (w : WorldState) (s : Standing events replies ds w) where
     came_by : (e : Event) (r : Reply) (w' : WorldState) → all ≡ events ++ e ∷ later
         → answers ≡ replies ++ r ∷ after → Happens e r w w'
-        → AllCame (with_event ds w.rest e (answer_of r))
+        → AllCame (with_event b.profile.keeping ds w.rest e (answer_of r))
     came_by (on.Attach caps name size) (reply.Attach (Ok id)) w' are told h =
         let heard = heard_then s.followed in
         let burst = burst_is s.followed caps (name_of name) size id in
@@ -108,7 +108,7 @@ module _ (b : Before) (start : WorldState) (all : List Event) (answers : List Re
     came_by (on.Attach caps name size) _ w' are told h = absurd h
     came_by (on.Detach id) r w' are told h = grind (arith, s.came)
     came_by e r w' are told h =
-        by_event AllCame came_plain ds w.rest e (answer_of r) tt s.came
+        by_event b.profile.keeping AllCame came_plain ds w.rest e (answer_of r) tt s.came
 
   -- after the others too
   pub record Stood (ds : List Deed) (rest : List ℕ) (es : List Event) (rs : List Reply)
@@ -126,7 +126,7 @@ module _ (b : Before) (start : WorldState) (all : List Event) (answers : List Re
   go_on events (e ∷ es) replies (r ∷ rs) ds w last are told s h =
       let one = event_done (limits_from b start.hub) ds w e r h.0 s.followed h.1 in
       let next : Standing (events ++ e ∷ []) (replies ++ r ∷ [])
-      (with_event ds w.rest e (answer_of r)) h.0 = record {
+      (with_event b.profile.keeping ds w.rest e (answer_of r)) h.0 = record {
         so_far = happen_more events replies e r start w h.0 s.so_far h.1;
         followed = one.followed;
         gone = one.gone s.gone;
@@ -134,7 +134,7 @@ module _ (b : Before) (start : WorldState) (all : List Event) (answers : List Re
             (one.numbers (numbers_given replies) s.numbers);
         rest = rw (one.rest, s.rest) (sym (rest_more [] events e));
         seen = let took = transcript_on [] events e in
-            grind (arith, came_event ds w.rest e (answer_of r), s.seen, took, s.rest);
+            grind (arith, came_event b.profile.keeping ds w.rest e (answer_of r), s.seen, took, s.rest);
         came = came_by events es replies rs ds w s e r h.0 are told h.1;
       } in
       let are' = are ∙ sym (append_snoc events e es) in

@@ -109,17 +109,37 @@ module _ (v : View) (items : List Arrival) (is : v ≡ view_of items) where
   folded done [] = ap (groups_of v) (sym (append-nil done))
   folded done (e ∷ es) = rw (pushed_next done e) (rw append_assoc at (folded (done ++ e ∷ []) es))
 
+  grouped_right : (entries : List EntryParts) → grouped_by
+      (mapping_of v.settings) (channel_names_of v) entries ≡ groups_of v entries
+  grouped_right entries = simp map-map (folded [] entries)
+
   -- what is written of the groups is the playback
-  pub arranged_right : (caps : Caps) (entries : List EntryParts) → arranged_of caps
-      (channel_names_of v) (grouped_by (mapping_of v.settings) (channel_names_of v) entries)
-      ≡ playback_of v caps entries
-  unfolding playback_of
-  arranged_right caps entries =
-      let groups : grouped_by (mapping_of v.settings) (channel_names_of v) entries
-      ≡ groups_of v entries = simp map-map (folded [] entries) in
+  pub arranged_right : (playing : Playing) (caps : Caps) (entries : List EntryParts) → arranged_by
+      playing v caps (channel_names_of v) (grouped_by (mapping_of v.settings) (channel_names_of v)
+      entries) ≡ playback_by playing v caps entries
+  unfolding playback_by
+  arranged_right playing caps entries =
       let left = left_over v entries in
       let cs = fin.entries v.channels in
-      rw (groups, backlogs_are v caps entries left 0 cs, last_is v entries left cs)
+      rw (
+        grouped_right entries,
+        backlogs_are v caps entries left 0 cs,
+        last_is v entries left cs,
+        length-map cs (λ (e : Text × Channel). e.1.name),
+      )
+
+  -- and their places are its places
+  pub places_right : (playing : Playing) (caps : Caps) (entries : List EntryParts) → places_among
+      playing v caps (channel_names_of v) (grouped_by (mapping_of v.settings) (channel_names_of v)
+      entries) ≡ places_of playing v caps entries
+  places_right playing caps entries =
+      let left = left_over v entries in
+      let cs = fin.entries v.channels in
+      rw (
+        grouped_right entries,
+        last_is v entries left cs,
+        length-map cs (λ (e : Text × Channel). e.1.name),
+      )
 
 -- ---- the group at a place
 

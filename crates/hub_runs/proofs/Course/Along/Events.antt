@@ -31,25 +31,25 @@ IsPlain (on.Detach id) = ⊥
 IsPlain e = Unit {0}
 
 -- what is kept by all else is kept by an event
-module _ (P : List Deed → Type 0) (step : (d : Deed) (ds : List Deed) → Plain d → P ds → P (d ∷ ds))
+module _ (k : Kept) (P : List Deed → Type 0) (step : (d : Deed) (ds : List Deed) → Plain d → P ds → P (d ∷ ds))
   where
     pub by_items : (ds : List Deed) (xs : List Came) → P ds → P (with_items ds xs)
     by_items ds [] p = p
     by_items ds (x ∷ xs) p = by_items (Took x ∷ ds) xs (step (Took x) ds tt p)
 
     pub by_event : (ds : List Deed) (rest : List ℕ) (e : Event) (a : Answer) → IsPlain e → P ds
-        → P (with_event ds rest e a)
+        → P (with_event k ds rest e a)
     by_event ds rest (on.Up bytes moment) a plain p =
         by_items ds (lines_at (rest ++ bytes.items) moment.0) p
     by_event ds rest (on.Attach caps name size) a plain p = absurd plain
     by_event ds rest (on.Detach id) a plain p = absurd plain
     by_event ds rest e a plain p = grind (arith, step)
 
-pub came_event : (ds : List Deed) (rest : List ℕ) (e : Event) (a : Answer)
-    → reverse (came_back (with_event ds rest e a)) ≡ reverse (came_back ds) ++ items_of e rest
-came_event ds rest (on.Up bytes moment) a = came_items ds _
-came_event ds rest (on.Lost moment) a = reverse-append ((Lost, moment.0) ∷ []) (came_back ds)
-came_event ds rest e a = grind (arith, append-nil)
+pub came_event : (k : Kept) (ds : List Deed) (rest : List ℕ) (e : Event) (a : Answer)
+    → reverse (came_back (with_event k ds rest e a)) ≡ reverse (came_back ds) ++ items_of e rest
+came_event k ds rest (on.Up bytes moment) a = came_items ds _
+came_event k ds rest (on.Lost moment) a = reverse-append ((Lost, moment.0) ∷ []) (came_back ds)
+came_event k ds rest e a = grind (arith, append-nil)
 
 range_more : (a n : ℕ) → range_with_len a (n + 1) ≡ range_with_len a n ++ (a + n) ∷ []
 range_more a zero = grind arith
@@ -69,26 +69,26 @@ module _ (l : Limits) where
 
   pub record Does (ds : List Deed) (w : WorldState) (e : Event) (r : Reply)
       (mid : WorldState) : Type 0 where
-    pub followed : Followed l (with_event ds w.rest e (answer_of r)) mid.hub
+    pub followed : Followed l (with_event l.before.profile.keeping ds w.rest e (answer_of r)) mid.hub
     pub answer : answer_of r ≡ answer_to l ds w.rest e
     pub rest : mid.rest ≡ rest_behind w.rest e
     pub gone : sents w.gone ≡ gones ds
-        → sents mid.gone ≡ gones (with_event ds w.rest e (answer_of r))
+        → sents mid.gone ≡ gones (with_event l.before.profile.keeping ds w.rest e (answer_of r))
     pub numbers : (ns : List ℕ) → Numbers ds ns
-        → Numbers (with_event ds w.rest e (answer_of r)) (ns ++ cons_option (number_given r) [])
+        → Numbers (with_event l.before.profile.keeping ds w.rest e (answer_of r)) (ns ++ cons_option (number_given r) [])
 
   module _ (ds : List Deed) (w : WorldState) (e : Event) (r : Reply) (mid : WorldState) where
     abbrev Gives : Type 0
-    Gives = number_given r ≡ None → Followed l (with_event ds w.rest e (answer_of r)) mid.hub
+    Gives = number_given r ≡ None → Followed l (with_event l.before.profile.keeping ds w.rest e (answer_of r)) mid.hub
         → answer_of r ≡ answer_to l ds w.rest e → mid.rest ≡ rest_behind w.rest e
         → mid.gone ≡ w.gone → Does ds w e r mid
 
-    does_same : Same ds (with_event ds w.rest e (answer_of r)) → Gives
+    does_same : Same ds (with_event l.before.profile.keeping ds w.rest e (answer_of r)) → Gives
     does_same same none followed answer rest gone = grind (arith, append-nil, same)
 
     does_plain : IsPlain e → Gives
     does_plain plain =
-        does_same (by_event (Same ds) (λ d new plain same. grind arith) ds w.rest e (answer_of r)
+        does_same (by_event l.before.profile.keeping (Same ds) (λ d new plain same. grind arith) ds w.rest e (answer_of r)
         plain (refl, refl))
 
   pub event_done : (ds : List Deed) (w : WorldState) (e : Event) (r : Reply) (mid : WorldState)

@@ -10,11 +10,11 @@ loop-event-init g c =
     record { count = refl; room = omega arith; so_far = rw c.requires.none refl }
 
 pub returns-in-Err : goal.returns-in-Err
-returns-in-Err g c = λ b history first marks channels session up few can same.
+returns-in-Err g c = λ b profile history first marks channels session up few can same.
     let inv = c.loop-event.invariant in
     let err = c.in-Err.ensures.err in
     rw c.apply.ensures.replies
-    (ran_part b _ _ _ _ _ _ (stands_at b history first marks channels session up few can _ _ _ _ same inv.so_far)
+    (ran_part b _ _ _ _ _ _ (stands_at b profile history first marks channels session up few can _ _ _ _ same inv.so_far)
     c.loop-event.event-index _ c.in-Err.stop err.0 inv.count (omega arith) c.event-item.is err.1
     (ap outlets_of err.2) c.in-Err.ensures.rest)
 
@@ -34,8 +34,8 @@ loop-event-preserved g c =
     }
 
 pub returns : goal.returns
-returns g c = λ b history first marks channels session up few can same.
+returns g c = λ b profile history first marks channels session up few can same.
     let inv = c.loop-event.invariant in
     let whole : c.loop-event.done ≡ length c.args.events.now = omega arith in
-    let all = stands_at b history first marks channels session up few can _ _ _ _ same inv.so_far in
+    let all = stands_at b profile history first marks channels session up few can _ _ _ _ same inv.so_far in
     ran_whole b _ _ _ _ _ _ all whole refl

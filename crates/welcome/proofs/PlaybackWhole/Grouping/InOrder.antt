@@ -25,7 +25,11 @@ pub use Rattle.std.specs.{List.{AllPairs, Sorted.IsBinarySearchResult}, Ordering
 pub use Rattle.{std.specs.declared.cmp.Ordering.TheVariants.Greater, welcome.proofs.EachOf.all_now}
 pub use Rattle.welcome.proofs.{EachOf.{each_kept, each_mapped}, Places.take_next}
 pub use Rattle.welcome.proofs.{PlaybackTold.IsMessage, WrittenLaw.untold}
-pub use Rattle.welcome.specs.Arranged.{AreInKeyOrder, arranged_of, groups_of, place_among, push_at}
+pub use Rattle.welcome.specs.Arranged.{AreInKeyOrder, arranged_by, groups_of, place_among}
+pub use Rattle.welcome.specs.Arranged.{places_among, push_at}
+pub use Rattle.welcome.specs.declared.playing.Playing.{Playing}
+pub use Rattle.welcome.specs.Playing.{burst_by, is_private, others_lines, places_of, playing_whole}
+unfoldable pub use Rattle.welcome.specs.Playing.{playback_by}
 pub use Rattle.welcome.specs.Playback.{messages_in, played_of}
 
 -- ---- the names

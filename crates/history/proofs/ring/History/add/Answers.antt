@@ -1,6 +1,6 @@
 use Rattle.history.specs.declared.ring.PushError.TheVariants as fault
 use Rattle.history.proofs.ring.History.add.Goals as goal
-use Rattle.history.{proofs.{Keeping.below_next, LastMessages.all_kept}, specs.Entry.EntryParts}
+use Rattle.history.{proofs.{KeptBehind.below_next, LastMessages.all_kept}, specs.Entry.EntryParts}
 use Rattle.history.specs.{Entry.IsWrittenEntry, Messages.AreWrittenMessages}
 use Rattle.std.proofs.Common.{Err, ap, arith, rules, subst, sym, ℕ, ◌≡◌}
 

@@ -6,7 +6,7 @@ use Rattle.hub_core.{proofs.Seats.{seated_more, under_limit}, specs.Bounds.AreSe
 use Rattle.hub_core.proofs.Words.{◌≡◌, EachFits, HubState, None, Option, Session, SessionState, heard}
 use Rattle.hub_core.proofs.Words.{Some, Text, Took, [], hub_of, map, map-append, option_and_then}
 use Rattle.hub_core.{proofs.Words.{option_map, refl, state_of, view_now}, specs.Attaching.Attaches}
-use Rattle.{hub_core.specs.Attaching.{missed, refusal_of}, welcome.specs.Playback.burst_of}
+use Rattle.{hub_core.specs.Attaching.{missed, refusal_of}, welcome.specs.Playing.burst_by}
 
 module _ (g : Given.Over) (c : goal.After-push_reserved g) where
   abbrev state : Session g.row.O.Denot → SessionState
@@ -20,11 +20,12 @@ module _ (g : Given.Over) (c : goal.After-push_reserved g) where
 
   parts : (old.next ≡ Some c.in-Ok.parts.0) × (refusal_of old name ≡ None)
       × (option_map (λ c. c.items) c.in-Ok.parts.1 ≡ name)
-      × (c.in-Ok.parts.2 ≡ burst_of (view_now old) c.args.caps (missed old name))
+      × (c.in-Ok.parts.2
+      ≡ burst_by old.profile.playing (view_now old) c.args.caps (missed old name))
   parts = rw (← (c.self.view_is ∙ c.parts_for.ensures.same)) at c.in-Ok.ensures.ok
 
   sent : Took g.O.Outlet.alone (g.O.Outlet.state c.args.outlet)
-      (burst_of (view_now old) c.args.caps (missed old name))
+      (burst_by old.profile.playing (view_now old) c.args.caps (missed old name))
       (g.O.Outlet.state c.put_into_room.new.outlet)
   sent =
       rw parts.3 at

@@ -9,8 +9,9 @@ invariant_of-result g c = (
     c.requires.inlet,
     c.new.ensures.items,
     c.new-3.ensures,
+    c.none.ensures,
     empty-shown bytes_cmp joining,
-  ) (started_runs _ _ c.args.past.history c.args.first c.args.past.marks _ _ c.requires.upstream
+  ) (started_runs _ _ _ c.args.past.history c.args.first c.args.past.marks _ _ c.requires.upstream
       (search rules) c.requires.kept),
   subst (AreStateParts (g.V.NetworkView.view c.args.view)) (sym c.new-4.ensures.items) tt,
 )

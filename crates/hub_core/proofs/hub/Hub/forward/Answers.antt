@@ -1,9 +1,9 @@
 use Rattle.hub_core.proofs.hub.Hub.forward.Goals as goal
 use Rattle.hub_core.proofs.hub.Hub.forward.Given
-use Rattle.hub_core.proofs.{FoundRoom.{found_took, nobody, sent_from}, Kept.{sent_more, unsaid}}
-use Rattle.hub_core.proofs.{Running.runs_with, Words.{Forwards, HubState, Inside, IsSome, None, []}}
-use Rattle.hub_core.proofs.Words.{hub_of, is_message, refl, rules, sym, true, ◌∙◌, ◌∷◌, ◌≡◌}
-use Rattle.hub_core.specs.{Saying.{own_message, sent_up}, Upkeep.with_upstream}
+use Rattle.hub_core.proofs.{FoundRoom.{found_took, nobody, sent_from}, Kept.unspread_chosen}
+use Rattle.hub_core.proofs.{Running.{passed_on, runs_wishing}, Words.{Forwards, HubState, Inside, IsSome, None, []}}
+use Rattle.hub_core.proofs.Words.{false, hub_of, is_spread, is_spread_by, refl, rules, sym, true, ◌∙◌, ◌∷◌, ◌≡◌}
+use Rattle.hub_core.specs.{Saying.{own_message, sent_up}, Upkeep.with_upstream, Wishes.wishes_of}
 
 abbrev old : (g : Given.Over)
     → Inside g.row.V.Denot g.row.I.Denot g.row.O.Denot g.row.V-Memory.Denot → HubState
@@ -15,7 +15,7 @@ returns-then-not-self g c =
 
 pub returns-in-Err : goal.returns-in-Err
 returns-in-Err g c =
-    let number : is_message c.args.line.now ≡ true → IsSome (old g c.self.inside).history.next =
+    let number : is_spread (old g c.self.inside) c.args.line.now ≡ true → IsSome (old g c.self.inside).history.next =
     search rules in
     rw (← c.self.view_is) (
       sym c.self.invariant.0.online_is ∙ c.if-not-self.false,
@@ -32,12 +32,27 @@ returns-then-is_for_all-2 g c =
     (search rules) (c.if-not-room.ensures.value.0 refl)
     (record { found = c.room.ensures.found; is = refl }) c.spread.ensures.ok c.spread.ensures.err)
 
-forwards : (g : Given.Over) (c : goal.After-put_into_room g) → Forwards g.O.Outlet.alone
+pub returns-in-Err-wish_of : goal.returns-in-Err-wish_of
+returns-in-Err-wish_of g c =
+    let spread : is_spread (old g c.self.inside) c.args.line.now ≡ false =
+    rw c.self.invariant.0.view_is at (sym c.if-is_for_all-2.ensures) in
+    rw (← c.self.view_is) (
+      sym c.self.invariant.0.online_is ∙ c.if-not-self.false,
+      λ message. absurd cc,
+      c.if-not-room.ensures.value.0 refl,
+      record { found = c.room.ensures.found; is = refl },
+    )
+
+forwards : (g : Given.Over) (c : goal.After-say g) → Forwards g.O.Outlet.alone
     (old g c.self.inside) c.args.id c.args.line.now c.args.moment.0
-    (with_upstream (old g c.self.inside) (g.O.Outlet.state c.put_into_room.new.outlet))
+    (record (with_upstream (old g c.self.inside) (g.O.Outlet.state c.put_into_room.new.outlet)) {
+      wishes = wishes_of c.say.new.self;
+    })
 forwards g c =
+    let spread : is_spread (old g c.self.inside) c.args.line.now ≡ false =
+    rw c.self.invariant.0.view_is at (sym c.if-is_for_all-2.ensures) in
     let none : own_message (old g c.self.inside) c.args.line.now c.args.moment.0 ≡ None =
-    rw (← c.if-is_for_all-2.ensures) refl in
+    rw spread refl in
     record {
       online = sym c.self.invariant.0.online_is ∙ c.if-not-self.false;
       upstream = rw c.in-Ok.ensures at
@@ -45,8 +60,9 @@ forwards g c =
       sessions = rw none
           (nobody g.O.Outlet.alone (old g c.self.inside) c.args.id (old g c.self.inside).sessions);
       history = rw none refl;
-      number = λ message. let no = c.if-is_for_all-2.ensures in absurd cc;
+      number = λ message. absurd cc;
       images = rw none refl;
+      wishes = c.say.ensures ∙ rw c.self.invariant.0.view_is at c.in-Ok-wish_of.ensures;
       others = refl;
     }
 
@@ -55,9 +71,10 @@ returns g c = rw (← c.self.view_is) (forwards g c)
 
 pub invariant_of-self-2 : goal.invariant_of-self-2
 invariant_of-self-2 g c = (
-  runs_with _ _ _ _ c.self.invariant.0
-      (rw (forwards g c).upstream.sent (sent_more (old g c.self.inside).upstream.sent
-      (sent_up c.args.line.now ∷ []) (unsaid c.args.line.now (sym c.if-is_for_all-2.ensures))))
-      c.self.invariant.0.fit c.self.invariant.0.seated,
+  runs_wishing _ (passed_on _ _ _ _ (sent_up c.args.line.now ∷ []) c.self.invariant.0
+      (forwards g c).upstream.sent
+      (unspread_chosen (old g c.self.inside).profile.keeping
+      (g.V.NetworkView.view c.self.inside.view) c.args.line.now
+      (sym c.if-is_for_all-2.ensures))),
   c.self.invariant.1,
 )

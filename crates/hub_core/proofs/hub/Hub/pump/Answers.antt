@@ -1,13 +1,14 @@
 use Rattle.hub_core.proofs.hub.Hub.pump.Goals as goal
 use Rattle.hub_core.proofs.hub.Hub.pump.Given
 use Rattle.hub_core.proofs.{LostChannels.{lost_are, settled_as, sorted_new}, Running.goes_on}
-use Rattle.hub_core.proofs.{Running.holds_on, Unread.{no_entry, nothing_kept}, Words.{◌++◌, ◌∙◌}}
+use Rattle.hub_core.proofs.{Running.holds_on, Unread.{none_kept, nothing_kept}, Words.{◌++◌, ◌∙◌}}
 use Rattle.hub_core.proofs.Words.{◌∷◌, ◌≡◌, Came, Delivered, HubState, IsSome, None, Some, [], ap}
 use Rattle.hub_core.proofs.Words.{given_but, heard, hub_of, joining, length-map, lost_channels, map}
 use Rattle.hub_core.proofs.Words.{option_map, packet_for, refl, shown, state_of, subst, sym, true}
 use Rattle.hub_core.proofs.Words.{List, view_of}
 use Rattle.hub_core.specs.{LostChannels.{Joining, is_named, is_settled, still}, Pumping.Takes}
-use Rattle.std.proofs.Common.{filter, not}
+use Rattle.history.specs.Keeping.{kept_by}
+use Rattle.std.proofs.Common.{Err, filter, not}
 use Rattle.{hub_ends.specs.Came.came, net_view.proofs.StepLaw.view_unchanged}
 use Rattle.{net_view.specs.StateLines.may_need_memory, std.proofs.lemmas.Bool.true_from_ne_false}
 
@@ -16,7 +17,7 @@ invariant_of-self-in-Err g c = (
   holds_on _
       record { taken = c.in-Some.ensures.taken; ahead = c.in-Some.ensures.ahead }
       c.self.invariant.0 _ _ refl (ap (shown joining) c.prepare_arrival.ensures.all) refl
-      c.prepare_arrival.ensures.states refl refl refl refl,
+      c.prepare_arrival.ensures.states refl refl refl refl refl,
   c.drop_if_short.ensures.kept _ c.self.invariant.1,
 )
 
@@ -25,9 +26,50 @@ invariant_of-self-in-Err-keep g c = (
   holds_on _
       record { taken = c.in-Some.ensures.taken; ahead = c.in-Some.ensures.ahead }
       c.self.invariant.0 _ _ refl (ap (shown joining) c.prepare_arrival.ensures.all) refl
-      c.prepare_arrival.ensures.states refl c.in-Err-keep.ensures.same refl refl,
+      c.prepare_arrival.ensures.states refl c.in-Err-keep.ensures.same refl refl refl,
   c.drop_if_short-in-Err-keep.ensures.kept _ c.self.invariant.1,
 )
+
+-- what was refused is held, and nothing else has changed
+pub returns-in-Err : goal.returns-in-Err
+returns-in-Err g c = record {
+  step = rw (← c.self.view_is) record {
+    item = came (c.in-Some.item, c.in-Some.moment);
+    comes = record { taken = c.in-Some.ensures.taken; ahead = c.in-Some.ensures.ahead };
+    held = refl;
+    spent = (
+      λ e. c.in-Err.ensures.spent.0 (ap Err e),
+      λ s. let same = c.in-Err.ensures.spent.1 s in cc,
+    );
+    others = λ k. record (hub_of g.I.Inlet.taken g.I.Inlet.ahead g.O.Outlet.state c.self.inside) {
+      taken = g.I.Inlet.taken c.next_item.new.inlet;
+      ahead = g.I.Inlet.ahead c.next_item.new.inlet;
+      held = Some (came (c.in-Some.item, c.in-Some.moment));
+      sessions = c.prepare_arrival.ensures.states k;
+    };
+  };
+}
+
+pub returns-in-Err-keep : goal.returns-in-Err-keep
+returns-in-Err-keep g c = record {
+  step = rw (← c.self.view_is) record {
+    item = came (c.in-Some.item, c.in-Some.moment);
+    comes = record { taken = c.in-Some.ensures.taken; ahead = c.in-Some.ensures.ahead };
+    held = refl;
+    spent = (
+      λ e. let no = c.in-Err-keep.ensures.err in absurd cc,
+      λ s. let some = c.in-Ok.ensures.numbered (subst IsSome (sym c.in-Ok.ensures.made.0) s.0) in
+          let none = subst IsSome s.1 some in absurd cc,
+    );
+    others = λ k. record (hub_of g.I.Inlet.taken g.I.Inlet.ahead g.O.Outlet.state c.self.inside) {
+      taken = g.I.Inlet.taken c.next_item.new.inlet;
+      ahead = g.I.Inlet.ahead c.next_item.new.inlet;
+      held = Some (came (c.in-Some.item, c.in-Some.moment));
+      sessions = c.prepare_arrival.ensures.states k;
+      history = c.in-Err-keep.ensures.same k;
+    };
+  };
+}
 
 module _ (g : Given.Over) (c : goal.Joined-pong-3 g) where
   abbrev refused : Came
@@ -37,7 +79,7 @@ module _ (g : Given.Over) (c : goal.Joined-pong-3 g) where
   need = true_from_ne_false _ (λ f. let no = c.in-Err-take.ensures.free f in absurd cc)
 
   kept : c.keep.new.history ≡ c.self.inside.history
-  kept = nothing_kept refused _ _ _ need c.in_default-keep.ensures.ok c.in-Ok.ensures.made.0
+  kept = nothing_kept (kept_by c.self.inside.profile.keeping) refused _ _ _ need c.in_default-keep.ensures.ok c.in-Ok.ensures.made.0
 
 pub invariant_of-self-in-Err-take : goal.invariant_of-self-in-Err-take
 invariant_of-self-in-Err-take g c = (
@@ -45,7 +87,7 @@ invariant_of-self-in-Err-take g c = (
       record { taken = c.in-Some.ensures.taken; ahead = c.in-Some.ensures.ahead }
       c.self.invariant.0 _ _ c.in-Err-take.ensures.kept
       (ap (shown joining) c.prepare_arrival.ensures.all) refl c.prepare_arrival.ensures.states refl
-      (kept g c) refl refl,
+      (kept g c) refl refl refl,
   c.drop_if_short-in-Err-take.ensures.kept _ (rw c.in-Err-take.ensures.kept c.self.invariant.1),
 )
 
@@ -57,7 +99,7 @@ returns-in-Err-take g c = record {
     held = refl;
     spent = (
       λ e. absurd cc,
-      λ s. let some = subst IsSome (no_entry (refused g c) (need g c)) s.0 in absurd cc,
+      λ s. let some = subst IsSome (none_kept (kept_by c.self.inside.profile.keeping) (refused g c) (need g c)) s.0 in absurd cc,
     );
     others = λ k. record (hub_of g.I.Inlet.taken g.I.Inlet.ahead g.O.Outlet.state c.self.inside) {
       taken = g.I.Inlet.taken c.next_item.new.inlet;
@@ -93,6 +135,7 @@ module _ (g : Given.Over) (c : goal.Joined-item g) where
         lost = c.renew.new.lost;
         recalled = c.drop_named.new.recalled;
         parts = c.drop_outdated.new.parts;
+        wishes = c.hear.new.self;
       }
 
   abbrev item : Came
@@ -139,6 +182,8 @@ module _ (g : Given.Over) (c : goal.Joined-item g) where
     upstream = rw c.in-Ok.ensures.made.1 at c.put.ensures;
     history = rw (← c.in-Ok.ensures.made.0) c.in_default-keep.ensures.ok;
     recalled = stay;
+    wishes = c.hear.ensures (view_of (heard old))
+        (rw c.self.invariant.0.view_is at c.news_of-news.ensures);
     number = λ some. c.in-Ok.ensures.numbered (rw c.in-Ok.ensures.made.0 some);
     images = rw (← c.in-Ok.ensures.sets, length-map) (rw c.images_of.ensures at
         c.saturating_add-self-inside.ensures);

@@ -1,10 +1,12 @@
 use Rattle.hub_core.proofs.hub.Hub.spread.Goals as goal
 use Rattle.hub_core.proofs.hub.Hub.spread.Given
-use Rattle.hub_core.proofs.{Kept.{entry_is_message, said_content}, Running.{online_owned, said_on}}
+use Rattle.hub_core.proofs.{Kept.{entry_is_message, said_content, spread_chosen, spread_is_message}, Running.{online_owned, said_on}}
+use Rattle.hub_core.proofs.{WishesLemmas.asks_nothing}
 use Rattle.hub_core.proofs.Seats.{remain_sent, seated}
 use Rattle.hub_core.proofs.{Unread.{each_fits_unread, given_unread, said_unread}, Words.{◌∷◌, ◌≡◌}}
 use Rattle.hub_core.proofs.Words.{Came, Delivered, Forwards, HubState, IsSome, Parts, Received}
 use Rattle.hub_core.proofs.Words.{Session, SessionState, Some, View, [], entry_for, given_but}
+use Rattle.hub_core.proofs.Words.{is_message, is_spread_by, true}
 use Rattle.hub_core.proofs.Words.{heard, hub_of, length-map, map, packet_for, refl, state_of, sym}
 use Rattle.{hub_core.proofs.Words.{time_text_of, view_now, with_entry}, irc_line.specs.Tags.time_of}
 use Rattle.{hub_core.specs.Saying.{own_line, own_message, sent_up}, std.proofs.Common.unwrap_or}
@@ -34,7 +36,7 @@ module _ (g : Given.Over) (c : goal.Joined-own-3 g) where
 
   -- what was made is the message as from us
   own_said : own_message old c.args.line.now c.args.moment.0 ≡ Some (Received own, c.args.moment.0)
-  own_said = rw (c.requires.message, c.self.invariant.0.view_is) refl
+  own_said = rw (rw (← c.self.view_is) at c.requires.message, c.self.invariant.0.view_is) refl
 
   delivered : (v : View) → v ≡ view → Delivered g.O.Outlet.alone
       (given_but (Some c.args.id) (packet_for v (Received own, c.args.moment.0))) old.sessions
@@ -49,6 +51,13 @@ module _ (g : Given.Over) (c : goal.Joined-own-3 g) where
   kept : new.history ≡ with_entry old.history (entry_for (Received own, c.args.moment.0))
   kept = rw (← made) c.in_ok-keep.ensures.ok
 
+  -- what is spread is a message
+  spread : is_spread_by old.profile.keeping view c.args.line.now ≡ true
+  spread = rw c.self.invariant.0.view_is (rw (← c.self.view_is) at c.requires.message)
+
+  message : is_message c.args.line.now ≡ true
+  message = spread_is_message old.profile.keeping view c.args.line.now spread
+
   forwards : Forwards g.O.Outlet.alone old c.args.id c.args.line.now c.args.moment.0 new
   forwards = record {
     online = rw (← c.self.view_is) at c.requires.online;
@@ -58,6 +67,7 @@ module _ (g : Given.Over) (c : goal.Joined-own-3 g) where
     number = λ message. rw (← c.self.view_is) at c.requires.number;
     images = rw (own_said, ← c.in_ok-entry.ensures.sets, length-map) (rw c.images_of.ensures at
         c.saturating_add-self-inside.ensures);
+    wishes = sym (asks_nothing (view_now old) c.args.line.now old.wishes message);
     others = refl;
   }
 
@@ -71,13 +81,16 @@ invariant_of-self-2 g c = (
       said_on (old g c) (view g c) c.self.inside.online _ _ _ _ (entry_for x)
       (sent_up c.args.line.now ∷ []) c.self.invariant.0 (kept g c) (forwards g c).upstream.sent
       (said_content (unwrap_or (time_of (own g c)) (time_text_of c.args.moment.0)) (own g c).source
-      (own g c) c.requires.message (sourced g c))
+      (own g c) (message g c) (sourced g c))
       (λ some. rw (← c.self.view_is) at c.requires.number) (entry_is_message x)
       (rw (made g c) at c.in_ok-entry.ensures.written)
+      (spread_chosen (old g c).profile.keeping (view g c)
+      (unwrap_or (time_of (own g c)) (time_text_of c.args.moment.0)) (own g c).source
+      (own g c) (spread g c))
       (each_fits_unread g.O.Outlet.alone (heard (old g c))
       (given_but (Some c.args.id) (packet_for (view g c) x)) (old g c).sessions _
       (given_unread (Some c.args.id) (packet_for (view g c) x)
-      (λ caps. said_unread (view g c) (own g c) c.args.moment.0 caps c.requires.message))
+      (λ caps. said_unread (view g c) (own g c) c.args.moment.0 caps (message g c)))
       c.self.invariant.0.fit (delivered g c (view g c) refl))
       (seated (remain_sent _ _ _ _ (delivered g c (view g c) refl)) c.self.invariant.0.seated),
   c.self.invariant.1,

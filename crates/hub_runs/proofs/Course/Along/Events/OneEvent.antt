@@ -3,7 +3,7 @@ pub mod Following
 pub use Following.*
 pub use Rattle.hub_core.specs.declared.attach.AttachError.TheVariants as refused
 pub use Rattle.hub_core.specs.declared.said.Said.TheVariants as said
-pub use Rattle.{client_caps.specs.declared.moment.Moment.Moment, history.specs.Entry.is_message}
+pub use Rattle.client_caps.specs.declared.moment.Moment.{Moment}
 pub use Rattle.hub_core.specs.{Attaching.{Refuses, refusal_of}, Online.is_online, Saying.Says}
 pub use Rattle.hub_core.specs.{Saying.SaysBy, declared.attach.AttachError.AttachError}
 pub use Rattle.hub_core.specs.declared.said.{Meant.Meant, Said.Said}
@@ -48,13 +48,15 @@ module _ {l : Limits} {ds : List Deed} {h : HubState} (f : Followed l ds h) wher
   lacks id k = grind (arith, absent, none_of, f.seated.who)
 
   forwards : (line : Parts) → forward_then l ds line ≡ forward_by (is_online (heard h))
-      (is_message line && is_none h.history.next) (nat_lt 0 h.upstream.free)
-  forwards line = grind (arith, nat_tests, heard_then f, f.history, f.ups.room)
+      (is_spread h line && is_none h.history.next) (nat_lt 0 h.upstream.free)
+  forwards line =
+      rw (spread_is f line) (grind (arith, nat_tests, heard_then f, f.history, f.ups.room))
 
   -- a line of the session of a number was answered so, by what it means
   module _ (rest : List ℕ) (id : ℕ) (line : Parts) (moment : Moment) where
     abbrev After : Result Said HubError → HubState → Type 0
-    After r new = Followed l (with_event ds rest (on.Said id line moment) (OfLine r)) new
+    After r new =
+        Followed l (with_event l.before.profile.keeping ds rest (on.Said id line moment) (OfLine r)) new
 
     says_by : (m : Meant) (r : Result Said HubError) (new : HubState) → meaning line ≡ m
         → SaysBy m true h id line moment.0 r new → (r ≡ Err fault.OutOfMemory → ⊥)
@@ -73,11 +75,13 @@ module _ {l : Limits} {ds : List Deed} {h : HubState} (f : Followed l ds h) wher
     says_by means.Forwards (Err fault.Spent) new e s some =
         (rw s.3 f, grind (arith, forwards line, s.0, s.1, s.2))
     says_by means.Forwards (Ok said.Busy) new e s some =
-        (rw s.3 f, grind (arith, forwards line, s.0, s.1, s.2))
+        let kept : (is_spread h line && is_none h.history.next) ≡ false = grind (arith, s.1) in
+        let room : nat_lt 0 h.upstream.free ≡ false = grind (arith, nat_tests, s.2) in
+        (rw s.3 f, rw (forwards line, s.0, kept, room) refl)
     says_by means.Forwards (Ok said.Forwarded) new e s some =
-        let kept : (is_message line && is_none h.history.next) ≡ false = grind (arith, s.number) in
+        let kept : (is_spread h line && is_none h.history.next) ≡ false = grind (arith, s.number) in
         let room : nat_lt 0 h.upstream.free ≡ true = grind (arith, nat_tests, s.upstream.room) in
-        (spoke f id line moment.0 new s, rw (forwards line, s.online, kept, room) refl)
+        (said_so f id line moment.0 new s, rw (forwards line, s.online, kept, room) refl)
     says_by _ _ new e s some = absurd s
 
     pub says : (r : Result Said HubError) (new : HubState) → Says true h id line moment.0 r new

@@ -1,15 +1,19 @@
 -- A hub over ends in memory is as what happened says: each step keeps that.
 pub mod Present
 unfoldable pub use Present.*
-pub use Rattle.hub_core.proofs.{Each.each_at, Kept.{entry_is_message, messages_stay}}
+pub use Rattle.hub_core.proofs.{Each.each_at, Kept.{entry_is_message, kept_is_message, messages_stay}}
+pub use Rattle.hub_core.specs.Saying.{is_spread, is_spread_by}
+pub use Rattle.hub_runs.specs.{Replies.spoken}
+pub use Rattle.history.specs.{Entry.is_message, Keeping.Kept}
 pub use Rattle.hub_core.proofs.{Kept.missed_are_messages, Running.{is_ready, less_none}}
 pub use Rattle.hub_core.specs.Attaching.{Attaches, Detaches, last_number, missed}
 pub use Rattle.hub_core.specs.{Given.with_outlet, InMemory.{DrainsAt, DrainsUpstream}}
-pub use Rattle.hub_core.specs.{Pumping.{Comes, entry_for}, Running.AreMessages, Saying.Answers}
+pub use Rattle.hub_core.specs.{Pumping.{Comes, entry_kept}, Running.AreMessages, Saying.Answers}
 pub use Rattle.hub_core.specs.Saying.{Cuts, Forwards, after_answer, answer_packet, entry_said}
 pub use Rattle.hub_core.specs.{Saying.{sent_up, with_sessions}, States.heard}
 pub use Rattle.hub_core.specs.declared.hub.Pumped.TheVariants.{Nothing, Taken}
 pub use Rattle.{hub_ends.specs.Came.arrivals, hub_runs.specs.Course.{kept_then, mark_then}}
+use Rattle.std.proofs.Common.{if◌then◌else◌}
 pub use Rattle.{hub_runs.specs.Course.{came_back, message_said, messages, view_then}, std.proofs.Common.inl}
 pub use Rattle.std.proofs.lemmas.List.{length-reverse, reverse-append, reverse-reverse}
 
@@ -45,6 +49,7 @@ around_gone d = record {
 
 -- what there is between calls
 pub record Followed (l : Limits) (ds : List Deed) (h : HubState) : Type 0 where
+  pub profile : h.profile ≡ l.before.profile
   pub held : h.held ≡ None
   pub ahead : h.ahead ≡ []
   pub taken : h.taken ≡ reverse (came_back ds)
@@ -65,16 +70,18 @@ module _ {l : Limits} {ds : List Deed} {h : HubState} (f : Followed l ds h) wher
   now_seen = grind (arith, heard_then, reverse-reverse)
 
   -- one thing more, by which this message came, if any
-  followed_by : (d : Deed) (now : HubState) (e : Option _) → now.held ≡ None → now.ahead ≡ []
+  followed_by : (d : Deed) (now : HubState) (e : Option _) → now.profile ≡ h.profile
+      → now.held ≡ None → now.ahead ≡ []
       → now.taken ≡ reverse (came_back (d ∷ ds)) → Seated l (d ∷ ds) now
       → now.history ≡ with_entry h.history e
-      → messages (d ∷ ds) ≡ messages ds ++ option_to_list e → (IsSome e → IsSome h.history.next)
+      → messages l.before.profile.keeping (d ∷ ds)
+      ≡ messages l.before.profile.keeping ds ++ option_to_list e → (IsSome e → IsSome h.history.next)
       → IfSome e (λ e. IsTrue (is_message_command e.command)) → Ups l.upstream (d ∷ ds) now.upstream
       → ((n : Text) → mark_of n now.marks ≡ mark_then l.before n (d ∷ ds))
       → Followed l (d ∷ ds) now
-  followed_by d now e held ahead taken seated history more number is ups marks =
-      let kept = f.keeps (messages ds) e in
-      grind (arith, kept, f.history, messages_stay h.history e f.messages, f.keeps)
+  followed_by d now e profile held ahead taken seated history more number is ups marks =
+      let kept = f.keeps (messages l.before.profile.keeping ds) e in
+      grind (arith, kept, profile, f.profile, f.history, messages_stay h.history e f.messages, f.keeps)
 
   pub took : (x : Came) (p : Pumped) (n : HubState) → TakesIn h x p n → Followed l (Took x ∷ ds) n
   took x Nothing new t = grind (arith, f.ahead)
@@ -84,51 +91,93 @@ module _ {l : Limits} {ds : List Deed} {h : HubState} (f : Followed l ds h) wher
       let put = reverse-append (x ∷ []) (came_back ds) in
       let more : new.taken ≡ reverse (came_back (Took x ∷ ds)) =
       rw (t.comes.taken, f.held, one.0) (cc (put, f.taken)) in
-      rw t.others (followed_by (Took x) _ (entry_for x) t.held one.1 more
+      rw t.others (followed_by (Took x) _ (entry_kept l.before.profile.keeping x) refl t.held one.1 more
       (seated_on l _ _ _ _ f.seated (refl, (λ known. refl), refl) refl f.seated.known
       (goes_delivered l _ _ (λ s. packet_for (view_now h) t.item s.caps) (λ s k. record {
         alike = simp (k.is_sent.1, now_seen, one.0);
         tells = λ t. rw (heard_then, one.0, turned) (told_item _ _ _ _ t x);
       }) h.sessions new.sessions f.seated.sit t.sessions))
-      (rw one.0 at t.history) refl (rw one.0 at t.number) (entry_is_message x)
+      (rw (one.0, f.profile) at t.history) refl (rw (one.0, f.profile) at t.number)
+      (kept_is_message l.before.profile.keeping x)
       (ups_took f.ups x _ (pong_for x.0) refl (rw one.0 at t.upstream)) f.marks)
 
+  -- what is a message that is kept
+  pub spread_is : (line : Parts)
+      → is_spread_by l.before.profile.keeping (view_then ds) line ≡ is_spread h line
+  spread_is line = rw (← f.profile, now_seen) refl
+
   pub spoke : (id : ℕ) (line : Parts) (moment : ℕ) (new : HubState)
-      → Forwards true h id line moment new → Followed l (Spoke id line moment ∷ ds) new
-  spoke id line moment new w =
+      → is_spread h line ≡ is_message line → Forwards true h id line moment new
+      → Followed l (Spoke id line moment ∷ ds) new
+  spoke id line moment new same w =
       let d = Spoke id line moment in
       let own = own_message h line moment in
-      let own_is : own ≡ message_said (view_then ds) line moment = grind (arith, now_seen) in
+      let own_is : own ≡ message_said (view_then ds) line moment = rw (same, now_seen) refl in
       let gets : (s : SessionState) → Sits l ds s
       → Gets l d ds s (given_others h id own s) s.caps = λ s k. record {
         alike = grind (arith, k.is_sent, now_seen);
         tells = λ t. told_quiet _ _ _ _ t _ (said_to_others h id line moment s);
       } in
-      rw w.others (followed_by d _ (entry_said own) f.held f.ahead f.taken
+      rw w.others (followed_by d _ (entry_said own) refl f.held f.ahead f.taken
       (seated_on l _ _ _ _ f.seated (refl, (λ known. refl), refl) refl f.seated.known
       (goes_delivered l _ _ _ gets h.sessions new.sessions f.seated.sit w.sessions))
       w.history (grind (arith, own_is)) (λ some. w.number (grind (arith, some)))
       (grind (arith, entry_is_message))
       (ups_one f.ups d _ (sent_up line ∷ []) refl refl w.upstream) f.marks)
 
+  -- it is a message that is not kept
+  passed : (id : ℕ) (line : Parts) (moment : ℕ) (new : HubState) → is_spread h line ≡ false
+      → Forwards true h id line moment new → Followed l (Passed id line ∷ ds) new
+  passed id line moment new unspread w =
+      let d = Passed id line in
+      let none : own_message h line moment ≡ None = rw unspread refl in
+      let gets : (s : SessionState) → Sits l ds s
+      → Gets l d ds s (given_others h id None s) s.caps = λ s k. record {
+        alike = grind (arith, k.is_sent, k.outlet);
+        tells = λ t. told_quiet _ _ _ _ t None tt;
+      } in
+      rw w.others (followed_by d _ None refl f.held f.ahead f.taken
+      (seated_on l _ _ _ _ f.seated (refl, (λ known. refl), refl) refl f.seated.known
+      (goes_delivered l _ _ _ gets h.sessions new.sessions f.seated.sit (rw none at w.sessions)))
+      (rw none at w.history) refl (λ some. absurd cc) tt
+      (ups_one f.ups d _ (sent_up line ∷ []) refl refl w.upstream) f.marks)
+
+  -- a line went to the network
+  pub said_so : (id : ℕ) (line : Parts) (moment : ℕ) (new : HubState)
+      → Forwards true h id line moment new
+      → Followed l (spoken l.before.profile.keeping (view_then ds) id line moment ∷ ds) new
+  said_so id line moment new w = rw (spread_is line) (go (is_message line) (is_spread h line) refl refl)
+    where
+      go : (m s : Bool) → is_message line ≡ m → is_spread h line ≡ s
+          → Followed l ((if m && not s then Passed id line else Spoke id line moment) ∷ ds) new
+      go true false e unspread = passed id line moment new unspread w
+      go true true e spread = spoke id line moment new (spread ∙ sym e) w
+      go false false e unspread = spoke id line moment new (unspread ∙ sym e) w
+      go false true e spread =
+          let message = spread_is_message h.profile.keeping (view_now h) line spread in absurd cc
+
   pub session_at : (id : ℕ) (a : Around h id) → Sits l ds a.here
   session_at id a = grind (arith, each_at (Sits l ds) a.front a.here a.back, a.was, f.seated.sit)
 
   -- it changes sessions, names and the outlet to the network alone
   alone_on : (d : Deed) (ss : List SessionState) (o : OutletState) (marks : NameMarks)
-      → came_back (d ∷ ds) ≡ came_back ds → messages (d ∷ ds) ≡ messages ds ++ [] → Stay d ds
+      → came_back (d ∷ ds) ≡ came_back ds
+      → messages l.before.profile.keeping (d ∷ ds) ≡ messages l.before.profile.keeping ds ++ []
+      → Stay d ds
       → Goes l (d ∷ ds) h.sessions ss → Ups l.upstream (d ∷ ds) o → AreKnown (names_then l.before.names ds) marks
       → ((n : Text) → mark_of n marks ≡ mark_then l.before n (d ∷ ds))
       → Followed l (d ∷ ds) record h { sessions = ss; upstream = o; marks = marks }
   alone_on d ss o marks took none stay goes ups known is =
       let now = record h { sessions = ss; upstream = o; marks = marks } in
       let seated = seated_on l d ds h now f.seated stay refl known goes in
-      followed_by d now None f.held f.ahead (rw took f.taken) seated refl none (λ some. absurd cc)
+      followed_by d now None refl f.held f.ahead (rw took f.taken) seated refl none (λ some. absurd cc)
       tt ups is
 
   -- sessions alone
   sessions_on : (d : Deed) (ss : List SessionState)
-      → came_back (d ∷ ds) ≡ came_back ds → messages (d ∷ ds) ≡ messages ds ++ [] → Stay d ds
+      → came_back (d ∷ ds) ≡ came_back ds
+      → messages l.before.profile.keeping (d ∷ ds) ≡ messages l.before.profile.keeping ds ++ []
+      → Stay d ds
       → up_by l.upstream (waiting l.upstream ds) d ≡ [] → taken_out d ≡ 0
       → ((n : Text) → mark_then l.before n (d ∷ ds)
       ≡ mark_then l.before n ds) → Goes l (d ∷ ds) h.sessions ss
@@ -191,7 +240,7 @@ module _ {l : Limits} {ds : List Deed} {h : HubState} (f : Followed l ds h) wher
   -- the burst of the session of a number
   pub burst_is : (caps : Caps) (name : Option Text) (size id : ℕ)
       → packets l.before id (Joined id name caps size ∷ ds)
-      ≡ burst_of (view_now h) caps (missed h name) ∷ []
+      ≡ burst_by l.before.profile.playing (view_now h) caps (missed h name) ∷ []
   burst_is caps name size id =
       grind (arith, nat_tests, now_seen, f.marks, f.history)
 
@@ -200,11 +249,11 @@ module _ {l : Limits} {ds : List Deed} {h : HubState} (f : Followed l ds h) wher
       → Followed l (Joined id name caps size ∷ ds) new
   joined caps name size id new a =
       let s : SessionState = record { id = id; name = name; caps = caps; outlet = a.given } in
-      let told = told_burst (reverse (heard_back ds)) caps (missed h name)
+      let told = told_burst l.before.profile.playing (reverse (heard_back ds)) caps (missed h name)
       (rw heard_then at (is_ready h name a.allowed))
       (missed_are_messages _ h.history.kept f.messages) in
-      rw a.is (followed_by _ _ None f.held f.ahead f.taken
-      (seated_joined l ds h _ s size _ f.seated a.number a.sent (burst_is caps name size id)
+      rw a.is (followed_by _ _ None refl f.held f.ahead f.taken
+      (seated_joined l ds h _ s size _ f.seated a.number (rw f.profile at a.sent) (burst_is caps name size id)
       (grind (arith, heard_then, length-reverse (heard_back ds), told)) refl refl
       (known_named (names_then l.before.names ds) h.marks name f.seated.known)) refl refl (λ some. absurd cc) tt
       (ups_quiet f.ups _ refl refl) (λ n. grind (arith, named_mark h.marks name n, f.marks n)))

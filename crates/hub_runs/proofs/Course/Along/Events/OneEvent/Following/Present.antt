@@ -6,7 +6,7 @@ pub use Rattle.history.{proofs.LastMessages.none, specs.Messages.number_after}
 pub use Rattle.hub_core.proofs.{Each.each_append, Kept.all_map, Running.sent_is}
 pub use Rattle.hub_core.specs.{Attaching.Lacks, Given.{Delivered, Full, Sends, with_caps}}
 pub use Rattle.{hub_core.specs.Saying.{Around, meaning}, hub_ends.specs.Outlets.new_outlet}
-pub use Rattle.hub_runs.specs.Course.{Asked, Drew, IsSent, Left, Spoke, heard_back, held_since}
+pub use Rattle.hub_runs.specs.Course.{Asked, Drew, IsSent, Left, Passed, Spoke, heard_back, held_since}
 pub use Rattle.hub_runs.specs.Presence.{attached, is_there, next_then, numbers_in, outlet_then}
 pub use Rattle.hub_runs.specs.{Presence.{put_in, there}, Replies.Limits}
 pub use Rattle.{net_view.specs.Table.same_arms, std.proofs.Common.{◌<◌, ◌⊎◌, filter}}
@@ -51,6 +51,7 @@ Stay d ds =
 abbrev pub Misses : Deed → ℕ → Type 0
 Misses (Took x) id = ⊥
 Misses (Spoke k line moment) id = ⊥
+Misses (Passed k line) id = ⊥
 Misses (Drained count) id = Unit {0}
 Misses (Asked k line) id = ((k == id) ≡ false) ⊎ (meaning line ≡ means.Nothing)
 Misses (Joined k name caps size) id = (k == id) ≡ false

@@ -1,7 +1,7 @@
 use Rattle.hub_core.proofs.Kept.{kept_before}
 use Rattle.hub_core.proofs.Words.{subst, sym}
 use Rattle.history.specs.Messages.{AreKeptBefore}
-use Rattle.hub_core.proofs.hub.Hub.start.Goals as goal
+use Rattle.hub_core.proofs.hub.Hub.start_by.Goals as goal
 
 pub begin-requires-clause-kept : goal.begin-requires-clause-kept
 begin-requires-clause-kept g c =
