@@ -15,7 +15,7 @@ use welcome::Packet;
 /// How many bytes of more than one packet are written in one go at most, while writes take all.
 pub(crate) const ROOM: usize = 8_192;
 
-/// How many bytes of packets wait at most behind a write that lags.
+/// How many bytes of packets wait at most after a write that lags.
 const LIMIT: usize = 1_048_576;
 
 /// Packets to be written, in the order in which they were taken. While each write takes all that it
@@ -25,15 +25,15 @@ const LIMIT: usize = 1_048_576;
 #[derive(Drop)]
 pub(crate) struct Backlog {
     front: Option<Front>,
-    // bytes behind the packet in front
+    // bytes after the packet in front
     batch: Vec<u8>,
-    // the packet behind them, for which there is no room
+    // the packet after them, for which there is no room
     held: Option<Packet>,
     // a write left something, and not all was written since
     lags: bool,
 }
 
-/// Puts bytes that there is room for behind those of the batch.
+/// Puts bytes that there is room for after those of the batch.
 fn append(batch: &mut Vec<u8>, bytes: &[u8])
     requires { vec_len batch.old + length bytes.now ≤ vec_capacity batch.old }
     ensures { batch.new.items ≡ batch.old.items ++ bytes.now }
@@ -53,7 +53,7 @@ fn remove(batch: &mut Vec<u8>, count: usize)
     batch.truncate(batch.len() - count);
 }
 
-/// Whether there is room for so many bytes behind those of the batch; it may take memory for them
+/// Whether there is room for so many bytes after those of the batch; it may take memory for them
 /// if the batch may grow.
 fn has_room(batch: &mut Vec<u8>, count: usize, may_grow: bool) -> bool
     ensures items { batch.new.items ≡ batch.old.items }

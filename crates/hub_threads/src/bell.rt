@@ -24,6 +24,8 @@ pub struct Bell {
     drowsy: AtomicBool,
     // how often the worker has got on
     steps: AtomicU64,
+    // the worker is the writer of a session, and needs nothing but a processor
+    is_ready: AtomicBool,
     // the worker is the writer of a session: how many packets it has written, when it last had nothing
     // left to write
     written: AtomicU64,
@@ -42,6 +44,7 @@ pub fn shared_bell(alloc: Global) -> Result<SharedBell, OutOfMemory> {
             is_tight: AtomicBool::new(false),
             drowsy: AtomicBool::new(false),
             steps: AtomicU64::new(0),
+            is_ready: AtomicBool::new(false),
             written: AtomicU64::new(0),
         },
     )?)
@@ -109,6 +112,17 @@ impl Bell {
     /// How often the worker has got on.
     pub(crate) fn steps(&self) -> u64 {
         self.steps.load(Ordering::SeqCst)
+    }
+
+    /// Says whether the writer needs nothing but a processor: it has begun, and what it wrote to took
+    /// all of its last call.
+    pub(crate) fn set_ready(&self, is_ready: bool) {
+        self.is_ready.store(is_ready, Ordering::SeqCst);
+    }
+
+    /// Whether the writer needs nothing but a processor.
+    pub(crate) fn is_ready(&self) -> bool {
+        self.is_ready.load(Ordering::SeqCst)
     }
 
     /// Says that the writer has nothing left to write, of so many packets.

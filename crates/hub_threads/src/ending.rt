@@ -46,7 +46,7 @@ fn detach<V: NetworkView + Drop, R: Wait>(
     Ok(())
 }
 
-/// What is told of a session's end: what its writer handed back, where the hub had the session.
+/// What is known of a session's end: what its writer handed back, where the hub had the session.
 fn told<W: Write + Drop>(
     detached: Result<(), NoSession>,
     id: SessionId,

@@ -76,7 +76,7 @@ impl Drop for RingInlet {
 }
 
 /// Both ends of one ring, for this many items at a time. Whoever sleeps on `pump` is woken by each
-/// item that is put. `OutOfMemory` is told where an allocation was refused, and for no other cause.
+/// item that is put. `OutOfMemory` if an allocation was refused, and for no other reason.
 pub fn inlet(
     alloc: Global,
     capacity: usize,

@@ -20,7 +20,7 @@ use crate::outlet_end::OutletEnd;
 use crate::outlet_pair::outlet;
 use crate::outlet_ring::RingOutlet;
 use history::CapacityError;
-use hub_core::{Hub, Past, Pumped, Setup};
+use hub_core::{Hub, Past, Profile, Pumped, Setup};
 use hub_ends::SessionId;
 use net_view::NetworkView;
 use std::alloc::{AllocError, Global};
@@ -58,7 +58,7 @@ pub struct Started<V: NetworkView + Drop> {
 
 impl<V: NetworkView + Drop> Network<V> {
     /// A network of which nothing came: a hub of these parts, whose rings hold this many items and
-    /// packets at a time, and wake its own pump. `OutOfMemory` is told where an allocation was
+    /// packets at a time, and wake its own pump. `OutOfMemory` if an allocation was
     /// refused, and for no other cause.
     pub fn start(
         alloc: Global,
@@ -75,10 +75,31 @@ impl<V: NetworkView + Drop> Network<V> {
         ensures outlet { IfOk result (λ s. (items_of s.outlet ≡ []) ×
             (end_capacity_of s.outlet ≡ packets)) }
     {
+        Network::start_by(alloc, view, setup, items, packets, Profile::whole(alloc))
+    }
+
+    /// A network of which nothing came, as `start` makes it, whose hub keeps messages and plays them
+    /// back by this profile. The hub of `start` keeps each message.
+    pub fn start_by(
+        alloc: Global,
+        view: V,
+        setup: Setup,
+        items: usize,
+        packets: usize,
+        profile: Profile,
+    ) -> Result<Started<V>, OutOfMemory>
+        requires view { V.view view ≡ empty_view }
+        requires history { is_capacity setup.history ≡ true }
+        requires items { 0 < items }
+        requires packets { 0 < packets }
+        ensures inlet { IfOk result (λ s. (put_of s.inlet ≡ []) × (slots_of s.inlet ≡ items)) }
+        ensures outlet { IfOk result (λ s. (items_of s.outlet ≡ []) ×
+            (end_capacity_of s.outlet ≡ packets)) }
+    {
         let pump = shared_bell(alloc)?;
         let (end, items) = inlet(alloc, items, Arc::try_clone(&pump)?)?;
         let (upstream, outlet) = outlet(alloc, packets, Arc::try_clone(&pump)?)?;
-        match Hub::start(alloc, view, items, upstream, setup) {
+        match Hub::start_by(alloc, view, items, upstream, setup, profile) {
             Ok(hub) => Ok(Started {
                 network: Network::new(hub, pump),
                 inlet: end,
@@ -90,7 +111,7 @@ impl<V: NetworkView + Drop> Network<V> {
     }
 
     /// A network of which nothing came since: a hub that goes on from what was before, as
-    /// `Hub::start_again` has it, whose rings hold this many items and packets at a time, and wake
+    /// `Hub::start_again` has it, with this profile, whose rings hold this many items and packets at a time, and wake
     /// its own pump. `OutOfMemory` if an allocation was refused, and for no other cause.
     pub fn start_again(
         alloc: Global,
@@ -99,6 +120,7 @@ impl<V: NetworkView + Drop> Network<V> {
         first_session: SessionId,
         items: usize,
         packets: usize,
+        profile: Profile,
     ) -> Result<Started<V>, OutOfMemory>
         requires view { V.view view ≡ empty_view }
         requires kept { (first : ℕ) × AreKeptBefore first past.history }
@@ -111,7 +133,7 @@ impl<V: NetworkView + Drop> Network<V> {
         let pump = shared_bell(alloc)?;
         let (end, items) = inlet(alloc, items, Arc::try_clone(&pump)?)?;
         let (upstream, taken) = outlet(alloc, packets, Arc::try_clone(&pump)?)?;
-        let hub = Hub::start_again(alloc, view, items, upstream, past, first_session);
+        let hub = Hub::start_again(alloc, view, items, upstream, past, first_session, profile);
         Ok(Started {
             network: Network::new(hub, pump),
             inlet: end,
@@ -152,7 +174,7 @@ impl<V: NetworkView + Drop> Network<V> {
     }
 
     /// Both ends of a ring for a session of this network, for this many packets at a time: its
-    /// pump is woken by it when it waits for room. `OutOfMemory` is told where an allocation was
+    /// pump is woken by it when it waits for room. `OutOfMemory` if an allocation was
     /// refused, and for no other cause.
     pub fn outlet(
         &self,
@@ -169,7 +191,7 @@ impl<V: NetworkView + Drop> Network<V> {
     }
 
     /// Whether a session is nearly full, of those that packets have left so. The pump, if it looks
-    /// next, is told so too.
+    /// next, learns it too.
     fn is_crowded(&self, hub: &mut RingHub<V>) -> bool {
         if !self.pump.take_tight() || hub.nearly_full().is_ok_and(|lagging| lagging.is_empty()) {
             return false;

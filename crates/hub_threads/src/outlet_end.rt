@@ -58,6 +58,7 @@ impl Drop for OutletEnd {
         } = self;
         drop(consumer);
         drop(buffer);
+        writer.set_ready(false);
         drop(writer);
         drop(sign);
         pump.ring();
@@ -130,7 +131,7 @@ impl OutletEnd {
     }
 
     /// The number in the closing item, once that was taken. All that was ever taken is then
-    /// packets, and behind them that item with their count.
+    /// packets, and after them that item with their count.
     #[tactic(auto, using(crate::proofs::Lists::closed_is))]
     pub fn closed(&self) -> Option<SessionId>
         ensures value { result ≡ closed_in (items_of self.now) }
@@ -146,7 +147,7 @@ impl OutletEnd {
         self.fresh
     }
 
-    /// The next packet for the writer: none once it is told to stop.
+    /// The next packet for the writer: none once it is asked to stop.
     pub(crate) fn next_to_write(&mut self) -> Option<Packet>
         ensures taken { packets_in (items_of self.new)
             ≡ packets_in (items_of self.old) ++ option_to_list result }
@@ -163,7 +164,7 @@ impl OutletEnd {
     }
 
     /// Whether nothing more is to be written: so many takes in succession gave nothing, the closing
-    /// item was taken, the other end is gone and nothing is left, or the writer is told to stop.
+    /// item was taken, the other end is gone and nothing is left, or the writer is asked to stop.
     pub(crate) fn is_over(&mut self, idle: Turns) -> bool
         ensures end { (items_of self.new ≡ items_of self.old)
             × (self.new.misses ≡ self.old.misses) }
@@ -172,7 +173,7 @@ impl OutletEnd {
         self.looks_left() || idle.are_over(self.misses) || self.closed.is_some()
     }
 
-    /// Whether the other end is gone and nothing is left, or the writer is told to stop.
+    /// Whether the other end is gone and nothing is left, or the writer is asked to stop.
     fn looks_left(&mut self) -> bool
         ensures end { (items_of self.new ≡ items_of self.old)
             × (self.new.misses ≡ self.old.misses) }
@@ -189,11 +190,26 @@ impl OutletEnd {
         self.closed.is_none() && self.consumer.is_abandoned()
     }
 
-    /// Tells the pump, which waits for room, of a write call that took something.
+    /// Tells the pump, which waits for room, of a write call that took something, and whether the
+    /// writer is held up by what it writes to.
     pub(crate) fn note_call(&self, call: Call) {
-        if call == Call::Whole || call == Call::Part {
-            self.writer.step();
+        match call {
+            Call::Whole => {
+                self.writer.set_ready(true);
+                self.writer.step();
+            }
+            Call::Part => {
+                self.writer.set_ready(false);
+                self.writer.step();
+            }
+            Call::Blocked | Call::Failed => self.writer.set_ready(false),
+            Call::Interrupted => {}
         }
+    }
+
+    /// Tells the pump, which waits for room, whether a writer has begun with this end.
+    pub(crate) fn note_begun(&self, has_begun: bool) {
+        self.writer.set_ready(has_begun);
     }
 
     /// Sleeps until a packet may be there. Of those that were taken nothing is left to write.

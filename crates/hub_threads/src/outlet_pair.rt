@@ -16,9 +16,9 @@ use std::alloc::Global;
 use std::sync::Arc;
 
 /// Both ends of one ring, for this many packets at a time, and 8 KiB of room to write from. The pump
-/// that sleeps on `pump` is told when a packet leaves little room. If it waits for room, it is woken
+/// that sleeps on `pump` wakes when a packet leaves little room. If it waits for room, it is woken
 /// when a packet is taken and no further one is known.
-/// `OutOfMemory` is told where an allocation was refused, and for no other cause.
+/// `OutOfMemory` if an allocation was refused, and for no other reason.
 pub fn outlet(
     alloc: Global,
     capacity: usize,

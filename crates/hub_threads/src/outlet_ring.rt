@@ -113,6 +113,12 @@ impl RingOutlet {
         (self.taken(), self.writer.steps())
     }
 
+    /// Whether its writer needs nothing but a processor: it has begun, and what it writes to took all
+    /// of its last call.
+    pub(crate) fn needs_processor(&self) -> bool {
+        self.writer.is_ready()
+    }
+
     /// How many items the other end is known to have taken.
     fn taken(&self) -> u64 {
         let held = self

@@ -9,15 +9,39 @@ use std::alloc::Global;
 use std::sync::Wait;
 
 /// How many milliseconds sessions that are nearly full are given at most before an item, all
-/// together.
+/// together, if their clients hold them up.
 const PATIENCE: u64 = 50;
 
-/// How often it looks at most whether they still are: each writer may wake it, so the time is told
+/// The same while the writer of one of them needs nothing but a processor: the machine is
+/// overloaded, and the client may well read.
+const OVERLOAD: u64 = 5_000;
+
+/// How often it looks at most whether they still are: each writer may wake it, so the time counts
 /// by a clock that nobody sets, and this ends the wait if that stands still.
 const LOOKS: u64 = 20_000;
 
 /// How far a writer is: how many items it has taken, and how often it has written.
 type Progress = (u64, u64);
+
+/// A session that is nearly full.
+#[derive(Clone, Copy)]
+struct Lagging {
+    id: SessionId,
+    progress: Progress,
+    // its writer needs nothing but a processor
+    needs_processor: bool,
+}
+
+/// How many milliseconds these sessions are given at most.
+fn time_for(lagging: &[Lagging]) -> u64 {
+    if lagging.is_empty() {
+        0
+    } else if lagging.iter().any(|one| one.needs_processor) {
+        OVERLOAD
+    } else {
+        PATIENCE
+    }
+}
 
 /// For whom no more time is to be spent: the sessions that took and wrote nothing while they were
 /// given time, each until it does.
@@ -45,13 +69,14 @@ impl Patience {
     }
 
     /// Gives sessions that the last packets have left nearly full time to take some, outside the
-    /// lock: at most 50 ms for all together, and less where none is nearly full any more. If no
-    /// packet has left a session nearly full since the last call, it takes no lock. It sleeps on
-    /// `bell`, at most 1 ms a time; where that is the bell of the network's pump, a writer that has
-    /// taken all that it knew of wakes it. Who took and wrote nothing is not waited for again until
+    /// lock: at most 50 ms for all together, or 5 s while the writer of one of them needs nothing but a
+    /// processor (what it writes to took all of its last call), and less if none is nearly full any
+    /// more. If no packet has left a session nearly full since the last call, it takes no lock. It
+    /// sleeps on `bell`, at most 1 ms a time; if that is the bell of the network's pump, a writer that
+    /// has taken all that it knew of wakes it. Who took and wrote nothing is not waited for again until
     /// it does.
     ///
-    /// It is best effort: where memory is refused, a session is given no time.
+    /// It is best effort: if memory is refused, a session is given no time.
     pub fn give_time<V: NetworkView + Drop, C: Clock, R: Wait>(
         &mut self,
         rt: &R,
@@ -70,8 +95,8 @@ impl Patience {
         let began = clock.ticks();
         for _ in 0..LOOKS {
             bell.nap(rt);
-            let are_left = !self.lagging(rt, network).is_empty();
-            if !are_left || clock.ticks().saturating_sub(began) >= PATIENCE {
+            let left = self.lagging(rt, network);
+            if clock.ticks().saturating_sub(began) >= time_for(left.as_slice()) {
                 break;
             }
         }
@@ -84,7 +109,7 @@ impl Patience {
         &self,
         rt: &R,
         network: &Network<V>,
-    ) -> Vec<(SessionId, Progress)> {
+    ) -> Vec<Lagging> {
         let mut found = Vec::new(self.alloc);
         let mut hub = network.lock(rt);
         let Ok(ids) = hub.nearly_full() else {
@@ -92,8 +117,12 @@ impl Patience {
         };
         for id in ids {
             if let Some(outlet) = hub.outlet(id) {
-                let progress = outlet.progress();
-                if !self.is_lost_with(id, progress) && found.push((id, progress)).is_err() {
+                let one = Lagging {
+                    id,
+                    progress: outlet.progress(),
+                    needs_processor: outlet.needs_processor(),
+                };
+                if !self.is_lost_with(id, one.progress) && found.push(one).is_err() {
                     break;
                 }
             }
@@ -106,13 +135,14 @@ impl Patience {
         &mut self,
         rt: &R,
         network: &Network<V>,
-        waited: Vec<(SessionId, Progress)>,
+        waited: Vec<Lagging>,
     ) {
         let hub = network.lock(rt);
         let mut stalled = Vec::new(self.alloc);
-        for one in waited.iter().chain(self.stalled.iter()) {
-            if let Some(outlet) = hub.outlet(one.0) {
-                if outlet.progress() == one.1 && stalled.push(*one).is_err() {
+        let waited = waited.iter().map(|one| (one.id, one.progress));
+        for (id, progress) in waited.chain(self.stalled.iter().copied()) {
+            if let Some(outlet) = hub.outlet(id) {
+                if outlet.progress() == progress && stalled.push((id, progress)).is_err() {
                     break;
                 }
             }

@@ -16,7 +16,7 @@ use std::thread::Parker;
 use std::time::Duration;
 
 /// How many milliseconds the pump of the program rests after an allocation was refused, so that
-/// it ends for want of memory after some 10 s.
+/// it ends for lack of memory after some 10 s.
 pub const REFUSED_REST: u64 = 10;
 
 /// How many refusals for memory there may be in succession.
@@ -95,7 +95,7 @@ pub trait Permit {
     /// What the pump may do in its next turn.
     fn may_take(&mut self) -> Permission;
 
-    /// Is told what the pump answered, if it might take an item.
+    /// Gets what the pump answered, if it might take an item.
     fn pumped(&mut self, _outcome: Result<Pumped, HubError>) {}
 
     /// How many turns are left, as far as is known. If they are endless, the pump sleeps until it is
@@ -126,8 +126,8 @@ impl Permit for Turns {
 /// unless the turns are endless. It ends with `Turns` if it may take no more.
 ///
 /// Before an item, sessions that packets have left nearly full are given time, outside the lock: at
-/// most 50 ms for all, and none for a session that took nothing the last time. One that is still full
-/// is cut.
+/// most 50 ms for all, or 5 s while the writer of one of them needs nothing but a processor, and none
+/// for a session that took nothing the last time. One that is still full is cut.
 pub fn pump_loop<V: NetworkView + Drop, G: Gate, C: Clock, P: Permit + Drop, R: Wait>(
     rt: &R,
     alloc: Global,

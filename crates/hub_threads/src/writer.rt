@@ -56,6 +56,7 @@ pub fn spawn_writer<
     ensures { IfOk result (λ h. (h.promise.0.value ≡ end) × (h.promise.1.value ≡ out) ×
         (h.promise.2.value ≡ idle)) }
 {
+    end.note_begun(true);
     let given = Given(Snapshot::of(&end), Snapshot::of(&out), Snapshot::of(&idle));
     match small_thread().spawn_with(&rt, given, move || write_out(&rt, end, out, &gate, idle)) {
         Ok(handle) => Ok(handle),
@@ -63,8 +64,8 @@ pub fn spawn_writer<
     }
 }
 
-/// Starts a thread that does `write_out`, until it is told to stop, however long nothing comes. If no
-/// thread could be started it is told to stop, and hands everything back.
+/// Starts a thread that does `write_out`, until asked to stop, however long nothing comes. If no
+/// thread could be started it is asked to stop, and hands everything back.
 pub fn spawn_stoppable<
     W: Write + Send + Drop + 'static,
     G: Gate + Send + Drop + 'static,

@@ -56,6 +56,7 @@ fn handed_back<W: Write, G: Gate>(
 {
     let mut end = end;
     end.take_back(backlog.into_buffer());
+    end.note_begun(false);
     if !end.is_fresh() {
         gate.pass(Point::AtEnd);
     }
@@ -101,10 +102,10 @@ fn write_once<W: Write, G: Gate>(
 {
     gate.pass(Point::BeforeWrite);
     let call = backlog.write(out);
+    end.note_call(call);
     if slowness.is_too_much(call, end.is_cut()) {
         return false;
     }
-    end.note_call(call);
     if backlog.is_empty() {
         if out.flush().is_err() {
             return false;
@@ -115,7 +116,7 @@ fn write_once<W: Write, G: Gate>(
 }
 
 /// Takes packets and writes them, until the closing item was taken, the other end is gone and
-/// nothing is left, a write fails, it is told to stop, or so many takes in succession gave nothing.
+/// nothing is left, a write fails, it has to stop, or that many takes in succession gave nothing.
 /// What waits in the ring is written in one go, through the room of 8 KiB that the end has, and
 /// then flushed; a packet that is longer is written as it is. So one packet goes out at once.
 ///
@@ -141,6 +142,7 @@ pub fn write_out<W: Write, G: Gate, R: Wait>(
     ensures over { IfOk result.outcome (λ count. IsOver result.end idle) }
 {
     let fresh = end.is_fresh();
+    end.note_begun(true);
     let mut end = end;
     let mut out = out;
     let mut backlog = Backlog::new(end.lend_buffer());

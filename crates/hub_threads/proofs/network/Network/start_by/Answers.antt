@@ -1,4 +1,4 @@
-use Rattle.hub_threads.proofs.network.Network.start.Goals as goal
+use Rattle.hub_threads.proofs.network.Network.start_by.Goals as goal
 use Rattle.std.proofs.Common.{rules}
 
 pub returns-in-Ok-clause-outlet : goal.returns-in-Ok-clause-outlet
