@@ -1,6 +1,7 @@
 -- Faults of a tree.
-use Rattle.bnc_config.specs.Document.{IsFaultOf, IsTree, fault_at, first_fault, keys_fault}
-use Rattle.bnc_config.specs.Document.{later_fault, networks_fault, sasl_fault, text_at}
+use Rattle.bnc_config.specs.Document.{IsFaultBy, IsFaultOf, IsProfileFaultOf, IsTree, fault_at}
+use Rattle.bnc_config.specs.Document.{first_fault, keys_fault, later_fault, networks_fault}
+use Rattle.bnc_config.specs.Document.{profile_fault, sasl_fault, text_at}
 use Rattle.bnc_config.specs.Document.{twice_fault, users_fault}
 use Rattle.bnc_config.specs.declared.fault.ConfigFault.{ConfigFault, TheVariants.BadValue}
 use Rattle.bnc_config.specs.declared.fault.ConfigFault.TheVariants.{Missing, NotToml, OutOfMemory}
@@ -74,18 +75,31 @@ users_of_tree earlier (tree ∷ trees) =
     let rest = users_of_tree (earlier ++ text_at UserName tree ∷ []) trees in
     search (either_of_tree, either_of_tree, keys_of_tree, twice_of_tree, networks_of_tree)
 
+profile_of_tree : (tree : Members) → IsOfTree (profile_fault tree)
+profile_of_tree tree = search (either_of_tree, keys_of_tree, key_of_tree)
+
 first_of_tree : (tree : Members) → IsOfTree (first_fault tree)
-first_of_tree tree = search (either_of_tree, keys_of_tree, key_of_tree, users_of_tree)
+first_of_tree tree =
+    search (either_of_tree, keys_of_tree, key_of_tree, profile_of_tree, users_of_tree)
+
+fault_by_tree : (first : Members → Option ConfigFault) (text : List ℕ) (tree : Members)
+    (e : ConfigFault) → IsOfTree (first tree) → IsTree text tree → first tree ≡ Some e
+    → IsFaultBy first text e
+unfolding IsOfTree
+fault_by_tree first text tree NotToml of is fault = absurd (of fault)
+fault_by_tree first text tree (Missing key) of is fault = (tree, is, fault)
+fault_by_tree first text tree (BadValue key) of is fault = (tree, is, fault)
+fault_by_tree first text tree (Twice name) of is fault = (tree, is, fault)
+fault_by_tree first text tree OutOfMemory of is fault = tt
 
 -- the first fault of its tree is a text's fault
 pub fault_of_tree : (text : List ℕ) (tree : Members) (e : ConfigFault) → IsTree text tree
     → first_fault tree ≡ Some e → IsFaultOf text e
-unfolding IsOfTree
-fault_of_tree text tree NotToml is fault = absurd (first_of_tree tree fault)
-fault_of_tree text tree (Missing key) is fault = (tree, is, fault)
-fault_of_tree text tree (BadValue key) is fault = (tree, is, fault)
-fault_of_tree text tree (Twice name) is fault = (tree, is, fault)
-fault_of_tree text tree OutOfMemory is fault = tt
+fault_of_tree text tree e = fault_by_tree first_fault text tree e (first_of_tree tree)
+
+pub profile_fault_of_tree : (text : List ℕ) (tree : Members) (e : ConfigFault) → IsTree text tree
+    → profile_fault tree ≡ Some e → IsProfileFaultOf text e
+profile_fault_of_tree text tree e = fault_by_tree profile_fault text tree e (profile_of_tree tree)
 
 -- ---- the first fault of a network: of its name, of its other keys, of its later ones, or that it
 -- is twice there

@@ -14,6 +14,8 @@ use Rattle.toml.specs.Parse.{parse_document}
 use Rattle.bnc_config.specs.Key.{word_of}
 use Rattle.bnc_config.specs.Settings.{Settings, OptionSettings, UserSettings, NetworkSettings}
 use Rattle.bnc_config.specs.Settings.{ChannelKey, NetworkOptionSettings, SaslSettings}
+use Rattle.bnc_config.specs.Settings.{MessagesSettings, PlaybackSettings, ProfileSettings}
+use Rattle.bnc_config.specs.Offset.{is_offset, offset_of}
 use Rattle.bnc_config.specs.Text.{is_name, is_word, is_one_line, is_path, is_address}
 use Rattle.bnc_config.specs.Text.{is_account_password, is_channel_key, is_ip, is_mechanism}
 use Rattle.bnc_config.specs.Command.{is_sent_at_connect}
@@ -22,9 +24,16 @@ use Rattle.bnc_config.specs.declared.fault.ConfigFault.{ConfigFault}
 use Rattle.bnc_config.specs.declared.fault.ConfigFault.TheVariants.{NotToml, Missing, BadValue}
 use Rattle.bnc_config.specs.declared.fault.ConfigFault.TheVariants.{Twice, OutOfMemory}
 use Rattle.bnc_config.specs.declared.key.Key.{Key}
+use Rattle.bnc_config.specs.declared.utc_offset.UtcOffset.{UtcOffset}
 use Rattle.bnc_config.specs.declared.key.Key.TheVariants.{Listen, History, Retry, User}
-use Rattle.bnc_config.specs.declared.key.Key.TheVariants.{Kept, Memory}
+use Rattle.bnc_config.specs.declared.key.Key.TheVariants.{Kept, Memory, Metrics}
 use Rattle.bnc_config.specs.declared.key.Key.TheVariants.{ListenProxy, Proxies}
+use Rattle.bnc_config.specs.declared.key.Key.TheVariants.{Messages, MessagesCtcp}
+use Rattle.bnc_config.specs.declared.key.Key.TheVariants.{MessagesServerNotices, MessagesNever}
+use Rattle.bnc_config.specs.declared.key.Key.TheVariants.{MessagesToSelf, MessagesByPerson}
+use Rattle.bnc_config.specs.declared.key.Key.TheVariants.{Playback, PlaybackPrivateBatches}
+use Rattle.bnc_config.specs.declared.key.Key.TheVariants.{PlaybackTimes, PlaybackVisits}
+use Rattle.bnc_config.specs.declared.key.Key.TheVariants.{PlaybackWait}
 use Rattle.bnc_config.specs.declared.key.Key.TheVariants.{UserName, UserSalt, UserPassword}
 use Rattle.bnc_config.specs.declared.key.Key.TheVariants.{UserNetwork}
 use Rattle.bnc_config.specs.declared.key.Key.TheVariants.{NetworkName, NetworkAddress, NetworkNick}
@@ -102,8 +111,11 @@ is_flag value = is_some (as_bool value)
 abbrev pub allows_text : Key → List ℕ → Bool
 allows_text Listen = is_address
 allows_text Kept = is_path
+allows_text Metrics = is_path
 allows_text ListenProxy = is_address
 allows_text Proxies = is_ip
+allows_text MessagesNever = is_word
+allows_text PlaybackTimes = is_offset
 allows_text UserName = is_name
 allows_text NetworkName = is_name
 allows_text NetworkAddress = is_address
@@ -128,6 +140,16 @@ allows Retry = is_number_within 1 3600
 allows Memory = is_number_within 8 65536
 allows ListenProxy = is_text_or_list is_address 8
 allows Proxies = is_text_list is_ip 16
+allows Messages = is_table
+allows MessagesCtcp = is_flag
+allows MessagesServerNotices = is_flag
+allows MessagesNever = is_text_list is_word 64
+allows MessagesToSelf = is_flag
+allows MessagesByPerson = is_flag
+allows Playback = is_table
+allows PlaybackPrivateBatches = is_flag
+allows PlaybackVisits = is_flag
+allows PlaybackWait = is_number_within 0 60
 allows User = is_list_where is_table
 allows UserSalt = is_text_where is_hexadecimal
 allows UserPassword = is_text_where is_digest
@@ -146,8 +168,20 @@ is_optional History = true
 is_optional Retry = true
 is_optional Kept = true
 is_optional Memory = true
+is_optional Metrics = true
 is_optional ListenProxy = true
 is_optional Proxies = true
+is_optional Messages = true
+is_optional MessagesCtcp = true
+is_optional MessagesServerNotices = true
+is_optional MessagesNever = true
+is_optional MessagesToSelf = true
+is_optional MessagesByPerson = true
+is_optional Playback = true
+is_optional PlaybackPrivateBatches = true
+is_optional PlaybackTimes = true
+is_optional PlaybackVisits = true
+is_optional PlaybackWait = true
 is_optional User = true
 is_optional UserNetwork = true
 is_optional NetworkPassword = true
@@ -176,13 +210,20 @@ abbrev pub keys_fault : List Key → Members → Option ConfigFault
 keys_fault [] tree = None
 keys_fault (key ∷ keys) tree = option_or (key_fault tree key) (keys_fault keys tree)
 
--- the keys of the top, the later ones there, and the keys of a user and of a network and the later
--- ones of that, in the order of the checks
+-- the keys of the top, the later ones there, those of what is kept and of the playback, and the keys
+-- of a user and of a network and the later ones of that, in the order of the checks
 abbrev pub top_keys : List Key
 top_keys = Listen ∷ History ∷ Retry ∷ []
 
 abbrev pub option_keys : List Key
-option_keys = Kept ∷ Memory ∷ ListenProxy ∷ Proxies ∷ []
+option_keys = Kept ∷ Memory ∷ Metrics ∷ ListenProxy ∷ Proxies ∷ []
+
+abbrev pub message_keys : List Key
+message_keys =
+    MessagesCtcp ∷ MessagesServerNotices ∷ MessagesNever ∷ MessagesToSelf ∷ MessagesByPerson ∷ []
+
+abbrev pub playback_keys : List Key
+playback_keys = PlaybackPrivateBatches ∷ PlaybackTimes ∷ PlaybackVisits ∷ PlaybackWait ∷ []
 
 abbrev pub user_keys : List Key
 user_keys = UserName ∷ UserSalt ∷ UserPassword ∷ UserNetwork ∷ []
@@ -195,6 +236,22 @@ network_keys =
 abbrev pub network_option_keys : List Key
 network_option_keys =
     NetworkOnConnect ∷ NetworkJoinAfter ∷ NetworkKeys ∷ NetworkNicks ∷ NetworkAway ∷ []
+
+abbrev pub optional_table_at : Key → Members → Option Members
+optional_table_at key tree = option_and_then as_table (get_member (word_of key) tree)
+
+-- the table at a key, empty where there is none
+abbrev pub table_at : Key → Members → Members
+table_at key tree = unwrap_or (optional_table_at key tree) no_members
+
+-- the first fault of a table: that it is none, then of its keys
+abbrev pub table_fault : Key → List Key → Members → Option ConfigFault
+table_fault key keys tree = option_or (key_fault tree key) (keys_fault keys (table_at key tree))
+
+-- the first fault of the tables of what is kept and of the playback
+abbrev pub profile_fault : Members → Option ConfigFault
+profile_fault tree =
+    option_or (table_fault Messages message_keys tree) (table_fault Playback playback_keys tree)
 
 abbrev pub optional_text_at : Key → Members → Option (List ℕ)
 optional_text_at key tree = option_and_then as_str (get_member (word_of key) tree)
@@ -270,10 +327,10 @@ users_fault earlier (tree ∷ rest) =
 abbrev pub users_fault_at : Members → Option ConfigFault
 users_fault_at tree = option_or (key_fault tree User) (users_fault [] (tables_at User tree))
 
--- the first fault of a file: of the keys at its top, then of its users
+-- the first fault of a file: of the keys at its top, then of its two tables, then of its users
 abbrev pub first_fault : Members → Option ConfigFault
 first_fault tree = option_or (keys_fault top_keys tree)
-    (option_or (keys_fault option_keys tree) (users_fault_at tree))
+    (option_or (keys_fault option_keys tree) (option_or (profile_fault tree) (users_fault_at tree)))
 
 -- ---- what the file means
 
@@ -322,9 +379,10 @@ members_of _ = no_members
 abbrev pub channel_keys_at : Members → List ChannelKey
 channel_keys_at tree = pairs_of (members_of (get_member (word_of NetworkKeys) tree))
 
--- the flag at a key, false where there is none
-abbrev pub flag_at : Key → Members → Bool
-flag_at key tree = unwrap_or (option_and_then as_bool (get_member (word_of key) tree)) false
+-- the flag at a key, and the default where there is none
+abbrev pub flag_or : Bool → Key → Members → Bool
+flag_or default key tree =
+    unwrap_or (option_and_then as_bool (get_member (word_of key) tree)) default
 
 -- the bytes that the text at a key has in hexadecimal digits
 abbrev pub bytes_at : Key → Members → List ℕ
@@ -346,7 +404,7 @@ network_options_in tree = record {
   join_after = number_at 3 NetworkJoinAfter tree;
   keys = channel_keys_at tree;
   nicks = optional_texts_at NetworkNicks tree;
-  away = flag_at NetworkAway tree;
+  away = flag_or false NetworkAway tree;
 }
 
 abbrev pub network_in : Members → NetworkSettings
@@ -380,8 +438,36 @@ abbrev pub options_in : ℕ → Members → OptionSettings
 options_in history tree = record {
   kept = optional_text_at Kept tree;
   memory = number_at (default_memory history) Memory tree;
+  metrics = optional_text_at Metrics tree;
   listen_proxy = addresses_at ListenProxy tree;
   proxies = optional_texts_at Proxies tree;
+}
+
+abbrev pub messages_in : Members → MessagesSettings
+messages_in tree = record {
+  ctcp = flag_or true MessagesCtcp tree;
+  server_notices = flag_or true MessagesServerNotices tree;
+  never = texts_at MessagesNever tree;
+  to_self = flag_or true MessagesToSelf tree;
+  by_person = flag_or false MessagesByPerson tree;
+}
+
+abbrev pub offset_at : Members → Option UtcOffset
+offset_at tree = option_and_then offset_of (optional_text_at PlaybackTimes tree)
+
+abbrev pub playback_in : Members → PlaybackSettings
+playback_in tree = record {
+  private_batches = flag_or false PlaybackPrivateBatches tree;
+  times = offset_at tree;
+  visits = flag_or false PlaybackVisits tree;
+  wait = number_at 0 PlaybackWait tree;
+}
+
+-- what the two tables mean; a table that is left out means what an empty one does
+abbrev pub profile_in : Members → ProfileSettings
+profile_in tree = record {
+  messages = messages_in (table_at Messages tree);
+  playback = playback_in (table_at Playback tree);
 }
 
 -- the settings that a file without a fault means; other keys are not looked at
@@ -391,6 +477,7 @@ settings_in tree = record {
   history = number_at 500 History tree;
   retry = number_at 30 Retry tree;
   options = options_in (number_at 500 History tree) tree;
+  profile = profile_in tree;
   users = map user_in (tables_at User tree);
 }
 
@@ -405,11 +492,23 @@ abbrev pub Means : List ℕ → Settings → Type 0
 Means text settings =
     (tree : Members) × IsTree text tree × (first_fault tree ≡ None) × (settings ≡ settings_in tree)
 
--- this is the first fault of the text; want of memory is a fault of no text
+-- this is the first fault of the text, of those that a tree can have; running out of memory is a
+-- fault of no text
+abbrev pub IsFaultBy : (Members → Option ConfigFault) → List ℕ → ConfigFault → Type 0
+IsFaultBy first text OutOfMemory = Unit {0}
+IsFaultBy first text NotToml = (tree : Members) → IsTree text tree → ⊥
+IsFaultBy first text fault = (tree : Members) × IsTree text tree × (first tree ≡ Some fault)
+
 abbrev pub IsFaultOf : List ℕ → ConfigFault → Type 0
-IsFaultOf text OutOfMemory = Unit {0}
-IsFaultOf text NotToml = (tree : Members) → IsTree text tree → ⊥
-IsFaultOf text fault = (tree : Members) × IsTree text tree × (first_fault tree ≡ Some fault)
+IsFaultOf = IsFaultBy first_fault
+
+-- the same of a text of which the two tables alone are read
+abbrev pub MeansProfile : List ℕ → ProfileSettings → Type 0
+MeansProfile text profile =
+    (tree : Members) × IsTree text tree × (profile_fault tree ≡ None) × (profile ≡ profile_in tree)
+
+abbrev pub IsProfileFaultOf : List ℕ → ConfigFault → Type 0
+IsProfileFaultOf = IsFaultBy profile_fault
 
 -- what is read of a part of a tree: seen as what the part means where it has no fault, else the
 -- part's first fault; want of memory may come in place of either

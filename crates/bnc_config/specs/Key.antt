@@ -2,8 +2,14 @@
 use Rattle.std.specs.Prelude.{ℕ, List, ◌++◌, codes}
 use Rattle.bnc_config.specs.declared.key.Key.{Key}
 use Rattle.bnc_config.specs.declared.key.Key.TheVariants.{Listen, History, Retry, User}
-use Rattle.bnc_config.specs.declared.key.Key.TheVariants.{Kept, Memory}
+use Rattle.bnc_config.specs.declared.key.Key.TheVariants.{Kept, Memory, Metrics}
 use Rattle.bnc_config.specs.declared.key.Key.TheVariants.{ListenProxy, Proxies}
+use Rattle.bnc_config.specs.declared.key.Key.TheVariants.{Messages, MessagesCtcp}
+use Rattle.bnc_config.specs.declared.key.Key.TheVariants.{MessagesServerNotices, MessagesNever}
+use Rattle.bnc_config.specs.declared.key.Key.TheVariants.{MessagesToSelf, MessagesByPerson}
+use Rattle.bnc_config.specs.declared.key.Key.TheVariants.{Playback, PlaybackPrivateBatches}
+use Rattle.bnc_config.specs.declared.key.Key.TheVariants.{PlaybackTimes, PlaybackVisits}
+use Rattle.bnc_config.specs.declared.key.Key.TheVariants.{PlaybackWait}
 use Rattle.bnc_config.specs.declared.key.Key.TheVariants.{UserName, UserSalt, UserPassword}
 use Rattle.bnc_config.specs.declared.key.Key.TheVariants.{UserNetwork}
 use Rattle.bnc_config.specs.declared.key.Key.TheVariants.{NetworkName, NetworkAddress, NetworkNick}
@@ -21,8 +27,20 @@ word_of History = codes "history"
 word_of Retry = codes "retry"
 word_of Kept = codes "kept"
 word_of Memory = codes "memory"
+word_of Metrics = codes "metrics"
 word_of ListenProxy = codes "listen_proxy"
 word_of Proxies = codes "proxies"
+word_of Messages = codes "messages"
+word_of MessagesCtcp = codes "ctcp"
+word_of MessagesServerNotices = codes "server_notices"
+word_of MessagesNever = codes "never"
+word_of MessagesToSelf = codes "to_self"
+word_of MessagesByPerson = codes "by_person"
+word_of Playback = codes "playback"
+word_of PlaybackPrivateBatches = codes "private_batches"
+word_of PlaybackTimes = codes "times"
+word_of PlaybackVisits = codes "visits"
+word_of PlaybackWait = codes "wait"
 word_of User = codes "user"
 word_of UserName = codes "name"
 word_of UserSalt = codes "salt"
@@ -51,8 +69,20 @@ path_of History = word_of History
 path_of Retry = word_of Retry
 path_of Kept = word_of Kept
 path_of Memory = word_of Memory
+path_of Metrics = word_of Metrics
 path_of ListenProxy = word_of ListenProxy
 path_of Proxies = word_of Proxies
+path_of Messages = word_of Messages
+path_of MessagesCtcp = codes "messages." ++ word_of MessagesCtcp
+path_of MessagesServerNotices = codes "messages." ++ word_of MessagesServerNotices
+path_of MessagesNever = codes "messages." ++ word_of MessagesNever
+path_of MessagesToSelf = codes "messages." ++ word_of MessagesToSelf
+path_of MessagesByPerson = codes "messages." ++ word_of MessagesByPerson
+path_of Playback = word_of Playback
+path_of PlaybackPrivateBatches = codes "playback." ++ word_of PlaybackPrivateBatches
+path_of PlaybackTimes = codes "playback." ++ word_of PlaybackTimes
+path_of PlaybackVisits = codes "playback." ++ word_of PlaybackVisits
+path_of PlaybackWait = codes "playback." ++ word_of PlaybackWait
 path_of User = word_of User
 path_of UserName = codes "user." ++ word_of UserName
 path_of UserSalt = codes "user." ++ word_of UserSalt

@@ -4,5 +4,6 @@ pub mod Digest
 pub mod Document
 pub mod Key
 pub mod Names
+pub mod Offset
 pub mod Settings
 pub mod Text

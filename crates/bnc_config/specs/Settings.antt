@@ -12,6 +12,7 @@ use Rattle.sha2.specs.Sha256.{sha256}
 use Rattle.bnc_config.specs.Text.{is_account_password, is_address, is_name, is_one_line, is_path}
 use Rattle.bnc_config.specs.Text.{is_channel_key, is_ip, is_word}
 use Rattle.bnc_config.specs.Command.{is_sent_at_connect}
+use Rattle.bnc_config.specs.declared.utc_offset.UtcOffset.{UtcOffset}
 
 -- a login by SASL: the account and its password by PLAIN, neither by EXTERNAL
 abbrev pub SaslSettings : Type 0
@@ -52,12 +53,35 @@ pub record UserSettings : Type 0 where
   pub networks : List NetworkSettings
 
 -- what may be left out at the top: the folder of what is kept; the memory of a network in MiB; the
--- addresses for proxies; the addresses from which proxies may connect
+-- file of the figures; the addresses for proxies; the addresses from which proxies may connect
 pub record OptionSettings : Type 0 where
   pub kept : Option (List ℕ)
   pub memory : ℕ
+  pub metrics : Option (List ℕ)
   pub listen_proxy : List (List ℕ)
   pub proxies : Option (List (List ℕ))
+
+-- what is kept: CTCP, servers' notices and what a client says to our own nick; no messages of these
+-- names; a history for each person
+pub record MessagesSettings : Type 0 where
+  pub ctcp : Bool
+  pub server_notices : Bool
+  pub never : List (List ℕ)
+  pub to_self : Bool
+  pub by_person : Bool
+
+-- how it is played back: a batch for each person; times in texts, as they are at this offset;
+-- channels that we are not on entered and left; the seconds that a login waits for the channels
+pub record PlaybackSettings : Type 0 where
+  pub private_batches : Bool
+  pub times : Option UtcOffset
+  pub visits : Bool
+  pub wait : ℕ
+
+-- both
+pub record ProfileSettings : Type 0 where
+  pub messages : MessagesSettings
+  pub playback : PlaybackSettings
 
 -- all settings: history in messages, retry in seconds
 pub record Settings : Type 0 where
@@ -65,6 +89,7 @@ pub record Settings : Type 0 where
   pub history : ℕ
   pub retry : ℕ
   pub options : OptionSettings
+  pub profile : ProfileSettings
   pub users : List UserSettings
 
 -- what a login by SASL is like
@@ -125,10 +150,25 @@ abbrev pub IsOptions : OptionSettings → Type 0
 IsOptions options = record {
   kept : IfSome options.kept (λ path. IsTrue (is_path path));
   memory : (8 ≤ options.memory) × (options.memory ≤ 65536);
+  metrics : IfSome options.metrics (λ path. IsTrue (is_path path));
   listen_proxy : IsTrue (list_all is_address options.listen_proxy);
   few_listens : length options.listen_proxy ≤ 8;
   proxies : IfSome options.proxies
       (λ proxies. IsTrue (list_all is_ip proxies) × (length proxies ≤ 16));
+}
+
+-- what the settings of what is kept are like
+abbrev pub IsMessages : MessagesSettings → Type 0
+IsMessages messages = record {
+  never : IsTrue (list_all is_word messages.never);
+  few : length messages.never ≤ 64;
+}
+
+-- what those of the playback are like: an offset is at most 14 hours
+abbrev pub IsPlayback : PlaybackSettings → Type 0
+IsPlayback playback = record {
+  times : IfSome playback.times (λ offset. offset.minutes ≤ 840);
+  wait : playback.wait ≤ 60;
 }
 
 -- what the other settings at the top are like

@@ -12,6 +12,7 @@ ghost use Rattle.bnc_config.specs.Text.{is_ipv6_text, is_mechanism, is_path, is_
 
 use crate::Key;
 use crate::command::is_sent_at_connect;
+use crate::utc_offset::offset_of;
 use irc_names::is_nameable;
 use std::net::IpAddr;
 
@@ -200,9 +201,11 @@ pub(crate) fn allows(key: Key, text: &str) -> bool
 {
     match key {
         Key::Listen | Key::ListenProxy | Key::NetworkAddress => is_address(text),
-        Key::Kept => is_path(text.as_bytes()),
+        Key::Kept | Key::Metrics => is_path(text.as_bytes()),
         Key::UserName | Key::NetworkName => is_name(text.as_bytes()),
         Key::Proxies => is_ip(text.as_bytes()),
+        Key::MessagesNever => is_word(text.as_bytes()),
+        Key::PlaybackTimes => offset_of(text).is_some(),
         Key::NetworkNick | Key::NetworkNicks => is_nameable(text.as_bytes()),
         Key::NetworkUser | Key::NetworkPassword | Key::NetworkJoin | Key::NetworkSaslUser => {
             is_word(text.as_bytes())

@@ -15,7 +15,10 @@ use crate::networks::place_of_network;
 use crate::options::Options;
 use crate::table::number_or;
 use crate::users::{place_of_user, users_at};
-use crate::{ConfigFault, Key, NetworkConfig, Place, Text, UserConfig};
+use crate::{
+    ConfigFault, Key, MessagesConfig, NetworkConfig, Place, PlaybackConfig, ProfileConfig, Text,
+    UserConfig,
+};
 use std::alloc::Global;
 use std::marker::Model;
 use toml::Table;
@@ -31,6 +34,7 @@ pub struct Config {
     history: usize,
     retry: u64,
     options: Options,
+    profile: ProfileConfig,
     users: Vec<UserConfig>,
 }
 
@@ -44,6 +48,7 @@ impl Model for Config {
       history = config.history;
       retry = config.retry;
       options = config.options;
+      profile = config.profile;
       users = config.users.items;
     } };
 
@@ -52,6 +57,7 @@ impl Model for Config {
       history = config.history;
       retry = config.retry;
       options = config.options;
+      profile = config.profile;
       users = config.users.items;
     }) };
 }
@@ -66,12 +72,14 @@ impl Config {
         let history = number_or(table, Key::History, 500, 1, HISTORY_LIMIT)?;
         let retry = number_or(table, Key::Retry, 30, 1, 3_600)?;
         let options = Options::read(alloc, table, history)?;
+        let profile = ProfileConfig::of_table(alloc, table)?;
         let users = users_at(alloc, table)?;
         Ok(Config {
             listens,
             history: history as usize,
             retry: u64::from(retry),
             options,
+            profile,
             users,
         })
     }
@@ -166,6 +174,29 @@ impl Config {
         ensures within { (8 ≤ result) × (result ≤ 65536) }
     {
         self.options.memory()
+    }
+
+    /// The file in which figures are written for a program that watches, relative to the folder of
+    /// the settings file: not empty, without control bytes. `None` if the file does not say.
+    pub fn metrics(&self) -> Option<&str>
+        ensures value { option_map (λ path. path.now) result ≡ self.now.options.metrics }
+        ensures clean { IfSome result (λ path. IsTrue (is_path path.now)) }
+    {
+        self.options.metrics()
+    }
+
+    /// Which messages are kept.
+    pub fn messages(&self) -> &MessagesConfig
+        ensures { result.now ≡ self.now.profile.messages }
+    {
+        self.profile.messages()
+    }
+
+    /// How they are played back.
+    pub fn playback(&self) -> &PlaybackConfig
+        ensures { result.now ≡ self.now.profile.playback }
+    {
+        self.profile.playback()
     }
 
     /// The users, in the order of the file.

@@ -7,7 +7,7 @@ use std::alloc::AllocFailed;
 use std::error::Error;
 use std::fmt;
 
-/// Why a settings file is refused: its first fault, or want of memory at any place before it.
+/// Why a settings file is refused: its first fault, or an allocation refused before it was found.
 #[derive(Debug, Drop)]
 pub enum ConfigFault {
     /// The file is not UTF-8, not of TOML's grammar, or gives a key twice.

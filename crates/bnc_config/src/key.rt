@@ -5,8 +5,8 @@ ghost use Rattle.bnc_config.specs.Key.{path_of, word_of};
 
 use std::fmt;
 
-/// A key of the settings file, by the table that it stands in: the top of the file, a `[[user]]`
-/// table or a `[[user.network]]` table.
+/// A key of the settings file, by the table that it stands in: the top of the file, `[messages]`,
+/// `[playback]`, a `[[user]]` table or a `[[user.network]]` table.
 #[derive(Clone, Copy, Debug, PartialEq, Eq)]
 pub enum Key {
     /// `listen`: the address for clients, `HOST:PORT` or `[IPV6]:PORT`, or a list of 1 to 8.
@@ -19,10 +19,34 @@ pub enum Key {
     Kept,
     /// `memory`: how many MiB a network may take, 8 to 65,536.
     Memory,
+    /// `metrics`: the file in which figures are written.
+    Metrics,
     /// `listen_proxy`: the address for proxies, as `listen`.
     ListenProxy,
     /// `proxies`: the addresses that may connect to `listen_proxy`.
     Proxies,
+    /// `messages`: the table of what is kept.
+    Messages,
+    /// `messages.ctcp`: whether CTCP is kept.
+    MessagesCtcp,
+    /// `messages.server_notices`: whether notices of servers are kept.
+    MessagesServerNotices,
+    /// `messages.never`: the names whose messages are not kept.
+    MessagesNever,
+    /// `messages.to_self`: whether what a client says to our own nick is kept.
+    MessagesToSelf,
+    /// `messages.by_person`: whether each person has a history of their own.
+    MessagesByPerson,
+    /// `playback`: the table of how it is played back.
+    Playback,
+    /// `playback.private_batches`: whether each person's messages stand in a batch.
+    PlaybackPrivateBatches,
+    /// `playback.times`: from which offset from UTC times are written into texts.
+    PlaybackTimes,
+    /// `playback.visits`: whether channels that we are not on are entered and left.
+    PlaybackVisits,
+    /// `playback.wait`: the seconds that a login waits for the channels, 0 to 60.
+    PlaybackWait,
     /// `user`: the list of users.
     User,
     /// `user.name`: what a client logs in as.
@@ -66,6 +90,49 @@ pub enum Key {
 }
 
 impl Key {
+    /// All keys, in the order of the tables above.
+    pub(crate) const ALL: [Key; 39] = [
+        Key::Listen,
+        Key::History,
+        Key::Retry,
+        Key::Kept,
+        Key::Memory,
+        Key::Metrics,
+        Key::ListenProxy,
+        Key::Proxies,
+        Key::Messages,
+        Key::MessagesCtcp,
+        Key::MessagesServerNotices,
+        Key::MessagesNever,
+        Key::MessagesToSelf,
+        Key::MessagesByPerson,
+        Key::Playback,
+        Key::PlaybackPrivateBatches,
+        Key::PlaybackTimes,
+        Key::PlaybackVisits,
+        Key::PlaybackWait,
+        Key::User,
+        Key::UserName,
+        Key::UserSalt,
+        Key::UserPassword,
+        Key::UserNetwork,
+        Key::NetworkName,
+        Key::NetworkAddress,
+        Key::NetworkNick,
+        Key::NetworkUser,
+        Key::NetworkRealname,
+        Key::NetworkPassword,
+        Key::NetworkJoin,
+        Key::NetworkSasl,
+        Key::NetworkSaslUser,
+        Key::NetworkSaslPassword,
+        Key::NetworkOnConnect,
+        Key::NetworkJoinAfter,
+        Key::NetworkKeys,
+        Key::NetworkNicks,
+        Key::NetworkAway,
+    ];
+
     /// The key with the tables that it stands in, as faults name it: `user.network.nick`.
     pub fn path(self) -> &'static str
         ensures { result.now ≡ path_of self }
@@ -76,8 +143,20 @@ impl Key {
             Key::Retry => "retry",
             Key::Kept => "kept",
             Key::Memory => "memory",
+            Key::Metrics => "metrics",
             Key::ListenProxy => "listen_proxy",
             Key::Proxies => "proxies",
+            Key::Messages => "messages",
+            Key::MessagesCtcp => "messages.ctcp",
+            Key::MessagesServerNotices => "messages.server_notices",
+            Key::MessagesNever => "messages.never",
+            Key::MessagesToSelf => "messages.to_self",
+            Key::MessagesByPerson => "messages.by_person",
+            Key::Playback => "playback",
+            Key::PlaybackPrivateBatches => "playback.private_batches",
+            Key::PlaybackTimes => "playback.times",
+            Key::PlaybackVisits => "playback.visits",
+            Key::PlaybackWait => "playback.wait",
             Key::User => "user",
             Key::UserName => "user.name",
             Key::UserSalt => "user.salt",
@@ -111,8 +190,20 @@ impl Key {
             Key::Retry => "retry",
             Key::Kept => "kept",
             Key::Memory => "memory",
+            Key::Metrics => "metrics",
             Key::ListenProxy => "listen_proxy",
             Key::Proxies => "proxies",
+            Key::Messages => "messages",
+            Key::MessagesCtcp => "ctcp",
+            Key::MessagesServerNotices => "server_notices",
+            Key::MessagesNever => "never",
+            Key::MessagesToSelf => "to_self",
+            Key::MessagesByPerson => "by_person",
+            Key::Playback => "playback",
+            Key::PlaybackPrivateBatches => "private_batches",
+            Key::PlaybackTimes => "times",
+            Key::PlaybackVisits => "visits",
+            Key::PlaybackWait => "wait",
             Key::User | Key::NetworkUser => "user",
             Key::UserName | Key::NetworkName => "name",
             Key::UserSalt => "salt",

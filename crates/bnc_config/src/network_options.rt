@@ -12,7 +12,7 @@ ghost use Rattle.bnc_config.specs.Text.{is_channel_key};
 
 use crate::channel_keys::{key_for, read_keys};
 use crate::lists::{texts_at, texts_or_none};
-use crate::table::{flag_at, number_or};
+use crate::table::{flag_or, number_or};
 use crate::{ChannelKey, ConfigFault, Key, NetworkConfig, Text};
 use std::alloc::Global;
 use std::marker::Model;
@@ -62,7 +62,7 @@ impl NetworkOptions {
         let join_after = number_or(table, Key::NetworkJoinAfter, 3, 0, 60)?;
         let pairs = read_keys(alloc, table)?;
         let nicks = texts_or_none(alloc, table, Key::NetworkNicks, 8)?;
-        let away = flag_at(table, Key::NetworkAway)?;
+        let away = flag_or(table, Key::NetworkAway, false)?;
         Ok(NetworkOptions {
             on_connect,
             join_after,

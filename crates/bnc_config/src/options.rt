@@ -18,6 +18,7 @@ use toml::Table;
 pub(crate) struct Options {
     kept: Option<Text>,
     memory: u32,
+    metrics: Option<Text>,
     listen_proxy: Vec<Text>,
     proxies: Option<Vec<Text>>,
 }
@@ -31,6 +32,7 @@ impl Model for Options {
     ghost view = { λ options. record {
       kept = options.kept;
       memory = options.memory;
+      metrics = options.metrics;
       listen_proxy = options.listen_proxy.items;
       proxies = option_map (λ proxies. proxies.items) options.proxies;
     } };
@@ -38,6 +40,7 @@ impl Model for Options {
     ghost invariant = { λ options. IsOptions (record {
       kept = options.kept;
       memory = options.memory;
+      metrics = options.metrics;
       listen_proxy = options.listen_proxy.items;
       proxies = option_map (λ proxies. proxies.items) options.proxies;
     }) };
@@ -53,11 +56,13 @@ impl Options {
     {
         let kept = optional_text(alloc, table, Key::Kept)?;
         let memory = number_or(table, Key::Memory, u32::max(64, history / 16), 8, 65_536)?;
+        let metrics = optional_text(alloc, table, Key::Metrics)?;
         let listen_proxy = addresses_at(alloc, table, Key::ListenProxy)?;
         let proxies = texts_or_none(alloc, table, Key::Proxies, 16)?;
         Ok(Options {
             kept,
             memory,
+            metrics,
             listen_proxy,
             proxies,
         })
@@ -80,6 +85,17 @@ impl Options {
         ensures within { (8 ≤ result) × (result ≤ 65536) }
     {
         self.memory
+    }
+
+    /// The file in which figures are written.
+    pub fn metrics(&self) -> Option<&str>
+        ensures value { option_map (λ path. path.now) result ≡ self.now.metrics }
+        ensures clean { IfSome result (λ path. IsTrue (is_path path.now)) }
+    {
+        match &self.metrics {
+            Some(path) => Some(path.as_str()),
+            None => None,
+        }
     }
 
     /// Where proxies connect.

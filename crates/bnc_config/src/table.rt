@@ -6,9 +6,10 @@ ghost use Rattle.std.specs.List.{list_all};
 ghost use Rattle.toml.specs.Data.{get_member};
 ghost use Rattle.toml.specs.View.{view, items_view, table_view};
 ghost use Rattle.bnc_config.specs.Key.{word_of};
-ghost use Rattle.bnc_config.specs.Document.{Reads, allows_text, barred_fault, fault_at, flag_at};
+ghost use Rattle.bnc_config.specs.Document.{Reads, allows_text, barred_fault, fault_at, flag_or};
 ghost use Rattle.bnc_config.specs.Document.{is_flag, is_list_where, is_number_within, is_table};
-ghost use Rattle.bnc_config.specs.Document.{is_text_where, items_of, number_at, optional_text_at};
+ghost use Rattle.bnc_config.specs.Document.{is_text_where, items_of, number_at};
+ghost use Rattle.bnc_config.specs.Document.{optional_table_at, optional_text_at};
 ghost use Rattle.bnc_config.specs.Document.{text_at};
 
 use crate::allowed::allows;
@@ -141,17 +142,35 @@ pub(crate) fn number_or(
     }
 }
 
-/// The flag at a key that may be left out, which then is false.
-pub(crate) fn flag_at(table: &Table, key: Key) -> Result<bool, ConfigFault>
+/// The flag at a key that may be left out, which then is the default.
+pub(crate) fn flag_or(table: &Table, key: Key, default: bool) -> Result<bool, ConfigFault>
     ensures { Reads (λ flag. flag) result
         (fault_at key true is_flag (get_member (word_of key) (table_view table.now)))
-        (flag_at key (table_view table.now)) }
+        (flag_or default key (table_view table.now)) }
 {
     let Some(value) = value_at(table, key) else {
-        return Ok(false);
+        return Ok(default);
     };
     match value.as_bool() {
         Some(flag) => Ok(flag),
+        None => Err(ConfigFault::BadValue(key)),
+    }
+}
+
+/// The table at a key that may be left out.
+pub(crate) fn table_or_none<'t>(
+    table: &'t Table,
+    key: Key,
+) -> Result<Option<&'t Table>, ConfigFault>
+    ensures { Reads (λ found. option_map (λ inner. table_view inner.now) found) result
+        (fault_at key true is_table (get_member (word_of key) (table_view table.now)))
+        (optional_table_at key (table_view table.now)) }
+{
+    let Some(value) = value_at(table, key) else {
+        return Ok(None);
+    };
+    match value.as_table() {
+        Some(inner) => Ok(Some(inner)),
         None => Err(ConfigFault::BadValue(key)),
     }
 }

@@ -96,7 +96,7 @@ fn digest_in(table: &Table) -> Result<[u8; 32], ConfigFault>
 
 impl UserConfig {
     /// The user that a table means, after users of the names `earlier`, to which its own is added.
-    fn read<'t>(
+    pub(crate) fn read<'t>(
         alloc: Global,
         table: &'t Table,
         earlier: &mut Names<'t>,

@@ -1,16 +1,28 @@
 -- The messages of a transcript that is read line by line.
-use Rattle.{client_caps.proofs.PartsWritten.formed, commands.specs.Attach.{IsKept, kept_of}}
-use Rattle.commands.specs.Attach.{last_messages, message_in, room_of}
-use Rattle.history.{proofs.{LastMessages.one_more, Retained.nothing_passes}, specs.Entry.EntryParts}
-use Rattle.history.specs.Messages.{Messages, missed_by, missed_of, target_key, target_limit}
-use Rattle.history.specs.{Messages.with_message, Retained.{is_held, is_retained, is_to, retained}}
-use Rattle.{history.specs.Retained.was_held, irc_line.specs.{Line.Parts, Tags.is_tag_byte}}
+use Rattle.bnc_config.specs.{Document.MeansProfile, Settings.ProfileSettings}
+use Rattle.client_caps.{proofs.PartsWritten.formed, specs.Moment.time_text_of}
+use Rattle.client_caps.specs.declared.caps.Caps.{Caps}
+use Rattle.commands.specs.Attach.{IsAttachFault, IsKept, IsProfiledFault, last_messages}
+use Rattle.commands.specs.Attach.{last_messages_by, message_by, message_in, room_of, stream_burst}
+use Rattle.commands.specs.{Attach.stream_burst_by, Stream.transcript_of}
+use Rattle.commands.specs.declared.fault.Fault.{Fault}
+use Rattle.commands.specs.declared.fault.Fault.TheVariants.{OutOfMemory, Settings as OfSettings}
+use Rattle.history.{proofs.{KeptLines.whole_heard, LastMessages.one_more, Retained.nothing_passes}}
+use Rattle.history.specs.{Entry.EntryParts, Keeping.{Kept, if_kept, whole}}
+use Rattle.history.specs.Messages.{Messages, history_of, missed_by, missed_of, target_key}
+use Rattle.history.specs.Messages.{target_limit, with_message}
+use Rattle.history.specs.Retained.{is_held, is_retained, is_to, retained, was_held}
+use Rattle.irc_line.specs.{Line.Parts, Tags.is_tag_byte, Writing.written}
 use Rattle.irc_line.specs.Tags.{time_form, time_of, time_value, value_behind}
-use Rattle.{net_view.specs.Arrival.Arrival, std.proofs.Common.{◌++◌, ◌∷◌, ◌≡◌, List, None, Option}}
-use Rattle.std.proofs.Common.{Some, [], ap, append-nil, arith, codes, refl, sym, true, ℕ}
+use Rattle.net_view.specs.{Arrival.{Arrival, Lost, Received}, View.view_of}
+use Rattle.std.proofs.Common.{◌++◌, ◌∷◌, ◌≡◌, List, None, Option, is_some}
+use Rattle.std.proofs.Common.{Some, [], ap, append-nil, arith, codes, false, refl, sym, true, ℕ}
 use Rattle.std.proofs.lemmas.{Bool.le-ltb, List.Elements.filter_map-append}
-use Rattle.std.specs.{List.{enumerate_from, filter_map, list_all}, Option.option_and_then}
-use Rattle.std.specs.{Option.option_map_or, Prelude.{◌&&◌, filter, length}}
+use Rattle.std.specs.{Io.KnownBytes.Consumes, List.{enumerate_from, filter_map, list_all}}
+use Rattle.std.specs.{List.flat_map, Option.{option_and_then, option_map_or, unwrap_or}}
+use Rattle.std.specs.Prelude.{◌&&◌, Bool, filter, length}
+use Rattle.welcome.{proofs.PlaybackWhole.whole_played, specs.Burst.state_part_of}
+use Rattle.welcome.specs.{Playing.playing_whole, declared.playing.Playing.Playing}
 
 -- the time of a line is made of what a tag's value is made of
 value_tagged : (value time : List ℕ) → time_value value ≡ Some time
@@ -31,20 +43,37 @@ time_tagged line time e = in_tags line.tags e where
   in_tags None e = cc
   in_tags (Some tags) e = in_value (value_behind (codes "time=") tags) e
 
--- ---- the messages that are retained
+-- ---- the messages that are kept
+
+-- what a test lets stay, if it lets it stay, is the same
+pub tested : (test : EntryParts → Bool) (o : Option EntryParts)
+    → true ≡ is_some (option_and_then (if_kept test) o) → o ≡ option_and_then (if_kept test) o
+tested test None is = refl
+tested test (Some e) is = grind arith
+
+-- what it does not let stay is nothing
+pub left_out : (test : EntryParts → Bool) (o : Option EntryParts)
+    → false ≡ is_some (option_and_then (if_kept test) o) → None ≡ option_and_then (if_kept test) o
+left_out test None is = refl
+left_out test (Some e) is = grind arith
+
+-- ---- the messages that are retained, of those that a function makes of the items
 
 -- one message more
-pub message_more : (n : ℕ) (items : List Arrival) (x : Arrival) (entry : EntryParts) (number : ℕ)
-    (held : Messages) → held ≡ kept_of n items → held.next ≡ Some number
-    → message_in x ≡ Some entry → with_message number entry held ≡ kept_of n (items ++ x ∷ [])
-message_more n items x entry number held is next e =
-    rw (is, filter_map-append message_in items (x ∷ []), e)
-    (one_more n 1 number (filter_map message_in items) entry (rw is at next))
+pub message_more : (f : Arrival → Option EntryParts) (n : ℕ) (items : List Arrival) (x : Arrival)
+    (entry : EntryParts) (number : ℕ) (held : Messages)
+    → held ≡ history_of n 1 (filter_map f items) → held.next ≡ Some number → f x ≡ Some entry
+    → with_message number entry held ≡ history_of n 1 (filter_map f (items ++ x ∷ []))
+message_more f n items x entry number held is next e =
+    rw (is, filter_map-append f items (x ∷ []), e)
+    (one_more n 1 number (filter_map f items) entry (rw is at next))
 
 -- a line that is none
-pub no_message : (n : ℕ) (items : List Arrival) (x : Arrival) (held : Messages)
-    → held ≡ kept_of n items → message_in x ≡ None → held ≡ kept_of n (items ++ x ∷ [])
-no_message n items x held is e = rw (is, filter_map-append message_in items (x ∷ []), e, append-nil)
+pub no_message : (f : Arrival → Option EntryParts) (n : ℕ) (items : List Arrival) (x : Arrival)
+    (held : Messages) → held ≡ history_of n 1 (filter_map f items) → f x ≡ None
+    → held ≡ history_of n 1 (filter_map f (items ++ x ∷ []))
+no_message f n items x held is e =
+    rw (is, filter_map-append f items (x ∷ []), e, append-nil)
 
 -- where none is to be kept, none is
 none_passes : (ms : List (ℕ × EntryParts)) → retained target_key target_limit 0 ms ≡ []
@@ -55,8 +84,47 @@ none_passes ms =
     (le-ltb (length (filter (is_to target_key k) back)) 0 (omega arith))) ms
 
 -- what is handed to the burst
-pub retained_then : (recent : Option Messages) (items : List Arrival) → IsKept recent items
-    → option_map_or (missed_by None) recent [] ≡ last_messages (room_of recent) items
-retained_then None items kept =
-    sym (ap (missed_of None) (none_passes (enumerate_from 1 (filter_map message_in items))))
-retained_then (Some h) items kept = ap (missed_by None) kept.0
+pub retained_then : (k : Kept) (recent : Option Messages) (items : List Arrival)
+    → IsKept k recent items
+    → option_map_or (missed_by None) recent [] ≡ last_messages_by k (room_of recent) items
+retained_then k None items kept =
+    sym (ap (missed_of None) (none_passes (enumerate_from 1 (filter_map (message_by k) items))))
+retained_then k (Some h) items kept = ap (missed_by None) kept.0
+
+-- ---- the whole profile
+
+-- where each message is kept, what is kept is each message
+whole_message : (x : Arrival) → message_by whole x ≡ message_in x
+whole_message (Received line) = whole_heard (unwrap_or (time_of line) (time_text_of 0)) line
+whole_message Lost = refl
+
+whole_messages : (items : List Arrival)
+    → filter_map (message_by whole) items ≡ filter_map message_in items
+whole_messages [] = refl
+whole_messages (x ∷ items) = grind (arith, whole_message x, whole_messages items)
+
+-- what is written by the whole profile is what is written by none
+pub whole_burst : (k : Kept) (playing : Playing) (caps : Caps) (n : ℕ) (bytes : List ℕ)
+    → k ≡ whole → playing ≡ playing_whole
+    → stream_burst_by k playing caps n bytes ≡ stream_burst caps n bytes
+whole_burst k playing caps n bytes e f =
+    let v = view_of (transcript_of bytes) in
+    let entries = last_messages n (transcript_of bytes) in
+    rw (e, whole_messages (transcript_of bytes))
+    (ap (λ lines. flat_map written (state_part_of v caps ++ lines))
+    (whole_played playing v caps entries f))
+
+-- ---- the profile of a settings file
+
+-- nothing was read
+pub nothing_read : (left : Option (List ℕ)) → Consumes left left []
+nothing_read None = tt
+nothing_read (Some bytes) = refl
+
+-- a fault of the input is one of it with the profile of a file that means one
+pub fault_profiled : (text bytes : List ℕ) (left : Option (List ℕ)) (fault : Fault)
+    → (profile : ProfileSettings) → MeansProfile text profile → IsAttachFault bytes left fault
+    → IsProfiledFault text bytes left fault
+fault_profiled text bytes left (OfSettings fault) profile means is = absurd is
+fault_profiled text bytes left OutOfMemory profile means is = is
+fault_profiled text bytes left _ profile means is = ((profile, means), is)

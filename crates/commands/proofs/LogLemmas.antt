@@ -8,6 +8,7 @@ use Rattle.commands.specs.declared.fault.Fault.TheVariants as fault
 pub no_journal : (bytes : List ℕ) (old new : Option (List ℕ)) (f : Fault) → IsNoJournal bytes f
     → IsCauseOf bytes old new f
 no_journal bytes old new fault.CannotListen h = absurd h
+no_journal bytes old new (fault.CannotListenAt why) h = absurd h
 no_journal bytes old new fault.CannotRead h = absurd h
 no_journal bytes old new fault.CannotWrite h = absurd h
 no_journal bytes old new (fault.CannotReadFile why) h = absurd h
@@ -21,6 +22,7 @@ no_journal bytes old new fault.NotAJournal h = h
 no_journal bytes old new fault.NotReady h = absurd h
 no_journal bytes old new fault.OutOfMemory h = tt
 no_journal bytes old new (fault.Settings f) h = absurd h
+no_journal bytes old new (fault.SettingsAt f place) h = absurd h
 
 -- a text of what was recalled is the log of its bytes
 pub is_log : (bytes text : List ℕ) (r : Recalled) (damaged : ℕ) → IsRecalledOf bytes r

@@ -5,9 +5,9 @@ use Rattle.clap.specs.Words.{fault_of, first_of, is_simple, is_simple_and_free, 
 use Rattle.{clap.specs.declared.error.kind.ErrorKind.ErrorKind, client_caps.specs.Caps.no_caps}
 use Rattle.client_caps.specs.{Request.request_of, declared.caps.Caps.Caps}
 use Rattle.commands.specs.Command.{AsksFor, IsAsked, IsAttach, IsCauseOf, IsCommandCause}
-use Rattle.commands.specs.Command.{IsCommandOf, IsExplained, IsHistory, IsOfKind, IsTextCause}
-use Rattle.commands.specs.Command.{bnc_app, spaced}
-use Rattle.commands.specs.declared.words.Command.{Command, TheVariants.{Attach, View}}
+use Rattle.commands.specs.Command.{IsCommandOf, IsExplained, IsHistory, IsOfKind, IsOptionsCause}
+use Rattle.commands.specs.Command.{IsTextCause, bnc_app, spaced}
+use Rattle.commands.specs.declared.words.Command.{Command, TheVariants.{Attach, AttachBy, View}}
 use Rattle.commands.specs.declared.words.Command.TheVariants.{Control as ControlIt}
 use Rattle.commands.specs.declared.words.WordsFault.{WordsFault, TheVariants.{Bad, Help}}
 use Rattle.{commands.specs.declared.words.WordsFault.TheVariants.OutOfMemory, std.proofs.Common.◌≡◌}
@@ -50,10 +50,17 @@ pub asked_at : {S : Type 0} {whole : App} (app : App) (words : List Text) (o : O
 asked_at app words o f g name rows same given first second = grind arith
 
 -- an attach whose options ask for nothing asks for nothing
-pub no_attach : (rows : List Row) → ((caps : Caps) (n : ℕ) → IsAttach rows caps n → ⊥)
+no_attach : (rows : List Row) → ((caps : Caps) (n : ℕ) → IsAttach rows caps n → ⊥)
     → (command : Command) → IsCommandOf (codes "attach") rows command → ⊥
 no_attach rows none (Attach caps n) asks = none caps n asks.1
+no_attach rows none (AttachBy caps n file) asks = none caps n asks.1
 no_attach rows none _ asks = cc
+
+pub options_cause : (rows : List Row) (fault : WordsFault) → IsOptionsCause rows fault
+    → IsCommandCause (codes "attach") rows fault
+options_cause rows Bad none = no_attach rows none
+options_cause rows OutOfMemory none = tt
+options_cause rows (Help text) none = absurd none
 
 -- the commands whose argument is a file alone
 abbrev pub HasFile : Text → Type 0

@@ -12,8 +12,9 @@ use Rattle.commands.specs.declared.words.Command.{Command}
 use Rattle.client_caps.specs.declared.caps.Caps.{Caps}
 use Rattle.client_caps.specs.Caps.{no_caps}
 use Rattle.client_caps.specs.Request.{request_of}
-use Rattle.commands.specs.declared.words.Command.TheVariants.{Attach, Check, Control as ControlIt}
-use Rattle.commands.specs.declared.words.Command.TheVariants.{Log, Password, Serve, Setup, View}
+use Rattle.commands.specs.declared.words.Command.TheVariants.{Attach, AttachBy, Check}
+use Rattle.commands.specs.declared.words.Command.TheVariants.{Control as ControlIt, Log, Password}
+use Rattle.commands.specs.declared.words.Command.TheVariants.{Serve, Setup, View}
 use Rattle.commands.specs.declared.words.Control.{Control}
 use Rattle.commands.specs.declared.words.WordsFault.{WordsFault}
 use Rattle.commands.specs.declared.words.WordsFault.TheVariants.{Bad, Help, OutOfMemory}
@@ -60,9 +61,20 @@ history_rule =
       defaults = codes "500" ∷ [];
     }
 
--- attach [--caps LIST] [--history N]
+-- --profile FILE
+abbrev pub profile_rule : Rule
+profile_rule =
+    record (new_rule (codes "profile")) {
+      long = Some (codes "profile");
+      action = Some Set;
+      value_names = 1;
+    }
+
+-- attach [--caps LIST] [--history N] [--profile FILE]
 abbrev pub attach_app : App
-attach_app = with_rule (with_rule (new_app (codes "attach")) caps_rule) history_rule
+attach_app =
+    with_rule (with_rule (with_rule (new_app (codes "attach")) caps_rule) history_rule)
+    profile_rule
 
 -- view
 abbrev pub view_app : App
@@ -114,6 +126,12 @@ IsAttach rows caps n = (list : Text)
     × (first_of (codes "history") rows ≡ Some text)
     × IsHistory text n
 
+-- why the options ask for no capabilities and number; running out of memory is a fault of no words
+abbrev pub IsOptionsCause : List Row → WordsFault → Type 0
+IsOptionsCause rows Bad = (caps : Caps) (n : ℕ) → IsAttach rows caps n → ⊥
+IsOptionsCause rows OutOfMemory = Unit {0}
+IsOptionsCause rows (Help text) = ⊥
+
 -- the arguments are these of `control`
 abbrev pub IsControl : List Row → Control → Type 0
 IsControl rows control = (first_of (codes "file") rows ≡ Some (string_bytes control.file))
@@ -130,7 +148,11 @@ IsTextCause found (Help text) = ⊥
 -- the command of this name asks for this with these options and arguments
 abbrev pub IsCommandOf : Text → List Row → Command → Type 0
 IsCommandOf name rows View = name ≡ codes "view"
-IsCommandOf name rows (Attach caps n) = (name ≡ codes "attach") × IsAttach rows caps n
+IsCommandOf name rows (Attach caps n) =
+    (name ≡ codes "attach") × IsAttach rows caps n × (first_of (codes "profile") rows ≡ None)
+IsCommandOf name rows (AttachBy caps n file) =
+    (name ≡ codes "attach") × IsAttach rows caps n
+    × (first_of (codes "profile") rows ≡ Some (string_bytes file))
 IsCommandOf name rows (Check file) =
     (name ≡ codes "check") × (first_of (codes "file") rows ≡ Some (string_bytes file))
 IsCommandOf name rows (Serve file) =

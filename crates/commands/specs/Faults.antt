@@ -5,15 +5,17 @@ use Rattle.std.specs.declared.io.ErrorKind.{ErrorKind}
 use Rattle.std.specs.declared.io.ErrorKind.TheVariants as kind
 use Rattle.bnc_config.specs.ConfigFault as config
 use Rattle.commands.specs.declared.fault.Fault.{Fault}
-use Rattle.commands.specs.declared.fault.Fault.TheVariants.{CannotListen, CannotRead}
-use Rattle.commands.specs.declared.fault.Fault.TheVariants.{CannotReadFile, CannotWrite, Damaged}
-use Rattle.commands.specs.declared.fault.Fault.TheVariants.{Exists, LaterVersion, LineTooLong}
+use Rattle.commands.specs.declared.fault.Fault.TheVariants.{CannotListen, CannotListenAt}
+use Rattle.commands.specs.declared.fault.Fault.TheVariants.{CannotRead, CannotReadFile, CannotWrite}
+use Rattle.commands.specs.declared.fault.Fault.TheVariants.{Damaged, Exists, LaterVersion, LineTooLong}
 use Rattle.commands.specs.declared.fault.Fault.TheVariants.{NoAnswer, NobodyReads, NotAJournal}
 use Rattle.commands.specs.declared.fault.Fault.TheVariants.{NotReady, OutOfMemory, Settings}
+use Rattle.commands.specs.declared.fault.Fault.TheVariants.{SettingsAt}
 
 -- the text that a fault is told as
 abbrev pub text_of : Fault → List ℕ
 text_of CannotListen = codes "cannot listen"
+text_of (CannotListenAt why) = codes "cannot listen\nbnc: " ++ string_bytes why
 text_of CannotRead = codes "cannot read"
 text_of (CannotReadFile why) = codes "cannot read\nbnc: " ++ string_bytes why
 text_of CannotWrite = codes "cannot write"
@@ -27,6 +29,8 @@ text_of NotAJournal = codes "not a journal"
 text_of NotReady = codes "not ready"
 text_of OutOfMemory = codes "out of memory"
 text_of (Settings fault) = config.text_of fault
+text_of (SettingsAt fault place) =
+    config.text_of fault ++ (codes "\nbnc: " ++ string_bytes place)
 
 -- the fault of a read that failed with an error of this kind
 abbrev pub reading_fault : ErrorKind → Fault

@@ -9,21 +9,22 @@ ghost use Rattle.history.specs.Messages.{no_messages};
 ghost use Rattle.irc_line.specs.Lines.{is_too_long};
 ghost use Rattle.net_view.specs.Arrival.{Arrival, Received};
 ghost use Rattle.net_view.specs.View.{view_of};
-ghost use Rattle.commands.specs.Attach.{IsAttachFault, IsKept, last_messages, message_in};
-ghost use Rattle.commands.specs.Attach.{room_of, stream_burst};
+ghost use Rattle.history.specs.Keeping.{Kept, kept_by};
+ghost use Rattle.commands.specs.Attach.{IsAttachFault, IsKept, last_messages_by, message_by};
+ghost use Rattle.commands.specs.Attach.{message_in, room_of, stream_burst, stream_burst_by};
 ghost use Rattle.commands.specs.Stream.{transcript_of};
 
 use crate::fault::Fault;
 use crate::input::{Taker, read_all};
 use client_caps::{Caps, Moment, time_text};
-use history::{Entry, History};
+use history::{Entry, History, Keeping};
 use irc_line::Line;
 use net_view::{Item, NetworkView, OutOfMemory};
 use quick_view::QuickView;
 use std::alloc::Global;
 use std::io::{Read, Write};
 use std::num::NonZeroUsize;
-use welcome::burst;
+use welcome::{Playing, burst_by};
 
 /// The message that a line is; `None` where it is none. A line without a time of its own came at
 /// 1970-01-01T00:00:00Z.
@@ -38,12 +39,24 @@ fn message_of(alloc: Global, line: &Line) -> Result<Option<Entry>, OutOfMemory>
     }
 }
 
+/// The message that a line is, where it is one that is kept.
+fn kept_message(alloc: Global, keeping: &Keeping, line: &Line) -> Result<Option<Entry>, OutOfMemory>
+    ensures made { IfOk result (λ entry.
+        entry ≡ message_by (kept_by keeping.now) (Received line.now)) }
+    ensures written { IfOk result (λ entry. IfSome entry IsWrittenEntry) }
+{
+    if !keeping.is_kept_heard(line) {
+        return Ok(None);
+    }
+    message_of(alloc, line)
+}
+
 /// Keeps a message, where there is one and any are retained. No input has so many messages that
 /// their numbers are spent.
 fn keep_in(recent: &mut Option<History>, entry: Option<Entry>) -> Result<(), OutOfMemory>
     requires { IfSome entry IsWrittenEntry }
-    ensures kept { (items : List Arrival) → (x : Arrival) → message_in x ≡ entry →
-        IsKept recent.old items → OnOk result (IsKept recent.new (items ++ x ∷ [])) }
+    ensures kept { (k : Kept) → (items : List Arrival) → (x : Arrival) → message_by k x ≡ entry →
+        IsKept k recent.old items → OnOk result (IsKept k recent.new (items ++ x ∷ [])) }
     ensures room { OnOk result (room_of recent.new ≡ room_of recent.old) }
 {
     let Some(recent) = recent else {
@@ -58,27 +71,29 @@ fn keep_in(recent: &mut Option<History>, entry: Option<Entry>) -> Result<(), Out
     }
 }
 
-/// A view that takes the lines of an input, with the messages of them that are retained, where any
-/// are.
+/// A view that takes the lines of an input, with the messages of them that are kept and retained,
+/// where any are.
 #[derive(Drop)]
 pub struct Attaching<V> {
     pub view: V,
     recent: Option<History>,
+    keeping: Keeping,
     alloc: Global,
 }
 
 impl<V: NetworkView> Taker for Attaching<V> {
     ghost use Rattle.std.specs.Prelude.{◌≡◌};
     ghost use Rattle.net_view.specs.View.{view_of};
+    ghost use Rattle.history.specs.Keeping.{kept_by};
     ghost use Rattle.commands.specs.Attach.{IsKept, room_of};
 
     ghost is_after = { λ attaching items. (V.view attaching.view ≡ view_of items)
-        × IsKept attaching.recent items };
+        × IsKept (kept_by attaching.keeping) attaching.recent items };
 
-    ghost room = { λ attaching. room_of attaching.recent };
+    ghost room = { λ attaching. (kept_by attaching.keeping, room_of attaching.recent) };
 
     fn take_line(&mut self, line: Line) -> Result<(), OutOfMemory> {
-        let entry = message_of(self.alloc, &line)?;
+        let entry = kept_message(self.alloc, &self.keeping, &line)?;
         self.view.take(&Item::Line(line))?;
         keep_in(&mut self.recent, entry)
     }
@@ -87,10 +102,11 @@ impl<V: NetworkView> Taker for Attaching<V> {
 /// The messages that are retained, the oldest first.
 #[tactic(auto, using(crate::proofs::AttachLemmas::retained_then))]
 fn retained(alloc: Global, recent: &Option<History>) -> Result<Vec<&Entry>, OutOfMemory>
-    ensures missed { (items : List Arrival) → IsKept recent.now items → IfOk result (λ entries.
-        map (λ entry. entry.now) entries.items ≡ last_messages (room_of recent.now) items) }
-    ensures written { (items : List Arrival) → IsKept recent.now items → IfOk result (λ entries.
-        AllByRecursion (λ entry. IsWrittenEntry entry.now) entries.items) }
+    ensures missed { (k : Kept) → (items : List Arrival) → IsKept k recent.now items →
+        IfOk result (λ entries. map (λ entry. entry.now) entries.items
+        ≡ last_messages_by k (room_of recent.now) items) }
+    ensures written { (k : Kept) → (items : List Arrival) → IsKept k recent.now items →
+        IfOk result (λ entries. AllByRecursion (λ entry. IsWrittenEntry entry.now) entries.items) }
 {
     match recent {
         Some(recent) => recent.missed(alloc, None),
@@ -99,9 +115,10 @@ fn retained(alloc: Global, recent: &Option<History>) -> Result<Vec<&Entry>, OutO
 }
 
 /// Reads what a network sent to its end, and writes what a client with these capabilities is sent
-/// that comes then: the burst, with the messages that are retained, each line with CR LF.
+/// that comes then: the burst, with the messages that are retained, played back so, each line with
+/// CR LF.
 ///
-/// Want of memory apart, a fault comes where more than 16,384 bytes stand without LF, where a read
+/// Except when out of memory, a fault comes if over 16,384 bytes stand without LF, where a read
 /// fails or 1,000,000,000 reads did not reach the end, where the network is not ready, and where
 /// the burst is not taken. After a fault other than `CannotWrite` nothing is written. Bytes behind
 /// the last LF are no line.
@@ -111,6 +128,7 @@ pub fn attach_input<V: NetworkView, R: Read, W: Write>(
     reader: &mut R,
     out: &mut W,
     caps: Caps,
+    playing: Playing,
 ) -> Result<(), Fault>
     requires new_view { V.view attaching.old.view ≡ view_of [] }
     requires no_messages { IfSome attaching.old.recent (λ recent.
@@ -121,7 +139,8 @@ pub fn attach_input<V: NetworkView, R: Read, W: Write>(
         × (is_too_long bytes ≡ false)
         × ((view_of (transcript_of bytes)).ready ≡ true)
         × Appends (W.contents out.old) (W.contents out.new)
-        (stream_burst caps (room_of attaching.old.recent) bytes)) }
+        (stream_burst_by (kept_by attaching.old.keeping) playing caps
+        (room_of attaching.old.recent) bytes)) }
     ensures refused { IfErr result (λ fault. (bytes : List ℕ)
         × Consumes (R.remaining reader.old) (R.remaining reader.new) bytes
         × IsAttachFault bytes (R.remaining reader.new) fault) }
@@ -132,7 +151,7 @@ pub fn attach_input<V: NetworkView, R: Read, W: Write>(
         return Err(Fault::NotReady);
     }
     let entries = retained(alloc, &attaching.recent)?;
-    let burst = burst(alloc, &attaching.view, caps, &entries)?;
+    let burst = burst_by(alloc, playing, &attaching.view, caps, &entries)?;
     match out.write_all(burst.bytes()) {
         Ok(()) => Ok(()),
         Err(_) => Err(Fault::CannotWrite),
@@ -153,7 +172,7 @@ pub fn attach_input<V: NetworkView, R: Read, W: Write>(
 ///                             :bnc 353 Me = #c Me
 ///                             :bnc 366 Me #c :End of NAMES list
 /// ```
-#[tactic(auto, using(net_view::proofs::StepLaw::view_start))]
+#[tactic(auto, using(crate::proofs::AttachLemmas::whole_burst))]
 pub fn run_attach<R: Read, W: Write>(
     alloc: Global,
     reader: &mut R,
@@ -172,6 +191,34 @@ pub fn run_attach<R: Read, W: Write>(
         × IsAttachFault bytes (R.remaining reader.new) fault) }
     ensures unwritten { IfErr result (λ fault. fault ≢ Fault.CannotWrite → out.new ≡ out.old) }
 {
+    let keeping = Keeping::whole(alloc);
+    run_attach_by(alloc, reader, out, caps, history, keeping, Playing::whole())
+}
+
+/// Reads and writes as [`run_attach`] does, by a profile: only the messages that it keeps count,
+/// and they are played back as it says. By the whole one it is [`run_attach`]'s.
+#[tactic(auto, using(net_view::proofs::StepLaw::view_start))]
+pub fn run_attach_by<R: Read, W: Write>(
+    alloc: Global,
+    reader: &mut R,
+    out: &mut W,
+    caps: Caps,
+    history: usize,
+    keeping: Keeping,
+    playing: Playing,
+) -> Result<(), Fault>
+    ensures written { OnOk result ((bytes : List ℕ)
+        × Consumes (R.remaining reader.old) (R.remaining reader.new) bytes
+        × IsAtEnd (R.remaining reader.new)
+        × (is_too_long bytes ≡ false)
+        × ((view_of (transcript_of bytes)).ready ≡ true)
+        × Appends (W.contents out.old) (W.contents out.new)
+        (stream_burst_by (kept_by keeping) playing caps history bytes)) }
+    ensures refused { IfErr result (λ fault. (bytes : List ℕ)
+        × Consumes (R.remaining reader.old) (R.remaining reader.new) bytes
+        × IsAttachFault bytes (R.remaining reader.new) fault) }
+    ensures unwritten { IfErr result (λ fault. fault ≢ Fault.CannotWrite → out.new ≡ out.old) }
+{
     let recent = match NonZeroUsize::new(history) {
         Some(capacity) => Some(History::keeping(alloc, capacity, 1)?),
         None => None,
@@ -180,7 +227,8 @@ pub fn run_attach<R: Read, W: Write>(
     let mut attaching = Attaching {
         view,
         recent,
+        keeping,
         alloc,
     };
-    attach_input(alloc, &mut attaching, reader, out, caps)
+    attach_input(alloc, &mut attaching, reader, out, caps, playing)
 }

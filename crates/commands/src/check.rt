@@ -8,7 +8,10 @@ ghost use Rattle.commands.specs.Check.{IsCauseOf, report_of};
 
 use crate::fault::Fault;
 use crate::kept::report_kept;
-use crate::warning::{warn_of_plain_text, warn_of_readers, warn_of_salts};
+use crate::warning::{
+    warn_of_empty_passwords, warn_of_plain_text, warn_of_readers, warn_of_salts,
+    warn_of_unknown_keys,
+};
 use bnc_config::Config;
 use std::alloc::Global;
 use std::io::Write;
@@ -63,18 +66,26 @@ pub fn settings_text<R: AllocGlobal + Files>(rt: &R, path: &str) -> Result<Vec<u
 }
 
 /// Checks the settings file at a path, and reports on standard output, also what is kept of each
-/// network. On standard error it warns of a file that others can read, of short salts, and of
-/// passwords that go in plain text.
+/// network. On standard error it warns of a file that others can read, of unknown keys, of short
+/// salts, and of passwords that are empty or go in plain text.
 pub fn check_file<R: AllocGlobal + Files + Print + Eprint>(
     rt: &R,
     path: &str,
 ) -> Result<(), Fault> {
     let text = settings_text(rt, path)?;
-    run_check(rt.alloc(), text.as_slice(), &mut io::writer(rt))?;
+    match run_check(rt.alloc(), text.as_slice(), &mut io::writer(rt)) {
+        Ok(()) => {}
+        Err(Fault::Settings(fault)) => {
+            return Err(Fault::of_settings(rt.alloc(), path, text.as_slice(), fault));
+        }
+        Err(fault) => return Err(fault),
+    }
     warn_of_readers(rt, path);
+    warn_of_unknown_keys(rt, text.as_slice());
     match Config::read(rt.alloc(), text.as_slice()) {
         Ok(config) => {
             warn_of_salts(rt, &config);
+            warn_of_empty_passwords(rt, &config);
             warn_of_plain_text(rt, &config);
             report_kept(rt, path, &config)
         }

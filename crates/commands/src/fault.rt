@@ -4,17 +4,19 @@ ghost use Rattle.std.specs.Prelude.{◌≡◌};
 ghost use Rattle.std.specs.IoError.{error_kind};
 ghost use Rattle.commands.specs.Faults.{IsFileFault, reading_fault};
 
-use bnc_config::ConfigFault;
+use bnc_config::{ConfigFault, FaultPlace, place_of_fault};
 use std::alloc::{AllocError, Global};
 use std::error::Error;
 use std::io::ErrorKind;
 use std::{fmt, io};
 
-/// A fault of what the program was given, told on standard error as `bnc: TEXT`; its status is 1.
+/// A fault of what the program was given, printed on stderr as `bnc: TEXT`; its status is 1.
 #[derive(Debug, Drop)]
 pub enum Fault {
     /// The address for clients can't be listened at.
     CannotListen,
+    /// An address of the settings can't be listened at: which, and why.
+    CannotListenAt(String),
     /// An input can't be read.
     CannotRead,
     /// The output can't be written.
@@ -42,6 +44,24 @@ pub enum Fault {
     OutOfMemory,
     /// The settings file has a fault, or memory for it was refused.
     Settings(ConfigFault),
+    /// The settings file has a fault: the file, and where it stands there.
+    SettingsAt(ConfigFault, String),
+}
+
+/// Where a fault stands in the settings file with this path and this text, in words that count from 1.
+fn place_text(alloc: Global, path: &str, text: &[u8], fault: &ConfigFault) -> Option<String> {
+    let written = match place_of_fault(alloc, text, fault)? {
+        FaultPlace::Line(line) => format!(in alloc; "{path}: line {line}"),
+        FaultPlace::User(user) => {
+            format!(in alloc; "{path}: [[user]] number {}", user.saturating_add(1))
+        }
+        FaultPlace::Network(user, network) => format!(in alloc;
+            "{path}: [[user]] number {}, its [[user.network]] number {}",
+            user.saturating_add(1),
+            network.saturating_add(1)
+        ),
+    };
+    written.ok()
 }
 
 impl Fault {
@@ -55,7 +75,24 @@ impl Fault {
         }
     }
 
-    /// The fault of a settings file that was not read, told in two lines: `cannot read`, and
+    /// The fault of a settings file with this path and this text; if that can be said, with a second
+    /// line that says where in the file it stands.
+    pub fn of_settings(alloc: Global, path: &str, text: &[u8], fault: ConfigFault) -> Fault {
+        match place_text(alloc, path, text, &fault) {
+            Some(place) => Fault::SettingsAt(fault, place),
+            None => Fault::Settings(fault),
+        }
+    }
+
+    /// The fault of an address that can't be listened at.
+    pub fn of_listening(alloc: Global, address: &str, error: &io::Error) -> Fault {
+        match format!(in alloc; "{address}: {error}") {
+            Ok(why) => Fault::CannotListenAt(why),
+            Err(_) => Fault::CannotListen,
+        }
+    }
+
+    /// The fault of a settings file that was not read, in two lines: `cannot read`, and
     /// `bnc: FILE: REASON`.
     pub fn of_file(alloc: Global, path: &str, error: &io::Error) -> Fault
         ensures { IsFileFault (error_kind error.now) result }
@@ -90,6 +127,7 @@ impl fmt::Display for Fault {
     fn fmt<W: fmt::Write>(&self, f: &mut fmt::Formatter<W>) -> fmt::Result {
         match self {
             Fault::CannotListen => write!(f, "cannot listen"),
+            Fault::CannotListenAt(why) => write!(f, "cannot listen\nbnc: {why}"),
             Fault::CannotRead => write!(f, "cannot read"),
             Fault::CannotReadFile(why) => write!(f, "cannot read\nbnc: {why}"),
             Fault::CannotWrite => write!(f, "cannot write"),
@@ -103,6 +141,7 @@ impl fmt::Display for Fault {
             Fault::NotReady => write!(f, "not ready"),
             Fault::OutOfMemory => write!(f, "out of memory"),
             Fault::Settings(fault) => write!(f, "{fault}"),
+            Fault::SettingsAt(fault, place) => write!(f, "{fault}\nbnc: {place}"),
         }
     }
 }

@@ -2,6 +2,7 @@
 
 ghost use Rattle.std.specs.Prelude.{◌≡◌, ◌++◌, ◌∷◌, [], ℕ, List, false, map, IfErr, IfOk, OnOk};
 ghost use Rattle.std.specs.Io.KnownBytes.{Consumes, IsAtEnd};
+ghost use Rattle.history.specs.Keeping.{Kept};
 ghost use Rattle.irc_line.specs.Lines.{counted, is_too_long, skipped_of};
 ghost use Rattle.net_view.specs.Arrival.{Arrival, Received};
 ghost use Rattle.commands.specs.Stream.{IsRefusal, transcript_of};
@@ -17,8 +18,8 @@ pub trait Taker {
     // Whether it is as these items leave it.
     ghost is_after: { Self → List Arrival → Type 0 };
 
-    // How many messages it keeps at most.
-    ghost room: { Self → ℕ };
+    // Which messages it keeps, and how many at most.
+    ghost room: { Self → Kept × ℕ };
 
     /// Takes the next line.
     fn take_line(&mut self, line: Line) -> Result<(), OutOfMemory>

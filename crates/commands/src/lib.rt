@@ -2,12 +2,14 @@
 //! `control`; the words of its command line; and how faults are reported.
 #![tactic(auto)]
 
+mod arguments;
 mod attach;
 mod check;
 mod control;
 mod fault;
 mod input;
 mod kept;
+mod profiled;
 mod report;
 mod setup;
 mod telling;
@@ -15,11 +17,12 @@ mod view;
 mod warning;
 mod words;
 
-pub use attach::{Attaching, attach_input, run_attach};
+pub use attach::{Attaching, attach_input, run_attach, run_attach_by};
 pub use check::{check_file, run_check, settings_text};
 pub use control::send_control;
 pub use fault::Fault;
 pub use kept::{log_file, run_log};
+pub use profiled::{attach_file, run_attach_profiled};
 pub use report::report_text;
 pub use setup::{print_password, setup_file};
 pub use telling::{tell_bad_words, tell_fault};

@@ -24,7 +24,7 @@ fn push_line(report: &mut Vec<u8>, label: &[u8], text: &[u8]) -> Result<(), OutO
     Ok(())
 }
 
-/// Adds a text behind its label, where there is one.
+/// Adds a text after its label, where there is one.
 fn push_labelled(report: &mut Vec<u8>, label: &[u8], text: Option<&[u8]>) -> Result<(), OutOfMemory>
     ensures { OnOk result (report.new.items
         ≡ report.old.items ++ labelled label.now (option_map (λ text. text.now) text.entry)) }
@@ -182,8 +182,8 @@ fn push_skipped(alloc: Global, report: &mut Vec<u8>, skipped: u64) -> Result<(),
 /// ```
 ///
 /// Channels and members stand in the order of their keys, and each line ends with LF. Modes stand
-/// in the order of their letters' bytes, and behind them their parameters in the same order. Before
-/// a nick stand the symbols of all ranks held on the channel, the highest first; behind it the
+/// in the order of their letters' bytes, and after them their parameters in the same order. Before
+/// a nick stand the symbols of all ranks held on the channel, the highest first; after it the
 /// account and the away text of the person. Modes, topic, account and away text stand only where
 /// there are any, and the last line only where something was skipped. Before a welcome the first
 /// line is `no welcome`.

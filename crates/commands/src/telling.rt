@@ -1,4 +1,4 @@
-//! What is told on standard error where the program does not do what it was asked for, and the
+//! What is printed on standard error if the program does not do what it was asked for, and the
 //! status that it ends with then.
 
 ghost use Rattle.std.specs.Prelude.{◌≡◌};

@@ -23,11 +23,12 @@ pub struct Viewing<V> {
 
 impl<V: NetworkView> Taker for Viewing<V> {
     ghost use Rattle.std.specs.Prelude.{◌≡◌};
+    ghost use Rattle.history.specs.Keeping.{whole};
     ghost use Rattle.net_view.specs.View.{view_of};
 
     ghost is_after = { λ viewing items. V.view viewing.view ≡ view_of items };
 
-    ghost room = { λ _. 0 };
+    ghost room = { λ _. (whole, 0) };
 
     fn take_line(&mut self, line: Line) -> Result<(), OutOfMemory> {
         self.view.take(&Item::Line(line))
@@ -36,9 +37,9 @@ impl<V: NetworkView> Taker for Viewing<V> {
 
 /// Reads what a network sent to its end, and writes the report of its lines. The view is a new one.
 ///
-/// Want of memory apart, a fault comes where more than 16,384 bytes stand without LF, where a read
+/// Except when out of memory, a fault comes if over 16,384 bytes stand without LF, where a read
 /// fails or 1,000,000,000 reads did not reach the end, and where the report is not taken. After a
-/// fault other than `CannotWrite` nothing is written. Bytes behind the last LF are no line. The
+/// fault other than `CannotWrite` nothing is written. Bytes after the last LF are no line. The
 /// input is not kept: memory grows with what the view keeps alone.
 pub fn report_input<V: NetworkView, R: Read, W: Write>(
     alloc: Global,

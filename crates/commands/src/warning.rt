@@ -1,6 +1,6 @@
-//! What is told of settings that are taken as they are, and might be better.
+//! Warnings of settings that are taken as they are, and might be better.
 
-use bnc_config::{Config, NetworkConfig};
+use bnc_config::{Config, NetworkConfig, unknown_keys};
 use std::fs;
 use std::net::IpAddr;
 use std::os::unix::fs::MetadataExt;
@@ -9,7 +9,7 @@ use std::rt::Files;
 /// The bit of a file's mode that lets others read it, who are neither its owner nor of its group.
 const READ_BY_OTHERS: u32 = 0o004;
 
-/// How many bytes a salt has at least of which nothing is told.
+/// How many bytes a salt needs for no warning.
 const SALT: usize = 8;
 
 /// Warns on standard error of a settings file that others can read: it has the passwords of
@@ -29,6 +29,25 @@ pub fn warn_of_salts(rt: &impl Eprint, config: &Config) {
         if user.salt().len() < SALT {
             let name = str::from_utf8(user.name()).unwrap_or("");
             let _ = eprintln!(rt; "bnc: warning: the salt of {name} is shorter than 8 bytes");
+        }
+    }
+}
+
+/// Warns on standard error of each user whose password is the empty text.
+pub fn warn_of_empty_passwords(rt: &impl Eprint, config: &Config) {
+    for user in config.users() {
+        if config.password_matches(user.name(), b"") {
+            let name = str::from_utf8(user.name()).unwrap_or("");
+            let _ = eprintln!(rt; "bnc: warning: the password of {name} is empty");
+        }
+    }
+}
+
+/// Warns on standard error of each key of a settings file's text that no setting has.
+pub fn warn_of_unknown_keys<R: AllocGlobal + Eprint>(rt: &R, text: &[u8]) {
+    if let Ok(keys) = unknown_keys(rt.alloc(), text) {
+        for key in &keys {
+            let _ = eprintln!(rt; "bnc: warning: unknown key {}", key.as_str());
         }
     }
 }

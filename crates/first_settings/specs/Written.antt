@@ -39,6 +39,10 @@ password_lines salt password =
 abbrev pub top : List ℕ
 top = codes "# Settings of bnc: docs/SETTINGS.md has each key.\nlisten = \"127.0.0.1:6667\"\nhistory = 500\nretry = 30\n\n[[user]]\n"
 
+-- the tables of what is kept and how it is played back
+unfoldable pub tables : List ℕ
+tables = codes "\n# not kept: requests by CTCP, notices of servers, what you say to yourself, and what is said to or by services\n[messages]\nctcp = false\nserver_notices = false\nto_self = false\nnever = [\"NickServ\", \"ChanServ\"]\n\n# private messages come person by person, for clients that know batches\n[playback]\nprivate_batches = true\n"
+
 -- what a network calls us: the nick in all three
 unfoldable pub name_lines : List ℕ → List ℕ
 name_lines nick =
@@ -61,4 +65,4 @@ text_of given salt =
     top
     ++ (line_of (codes "name") given.nick
     ++ (password_lines salt given.password
-    ++ network_lines given.address given.nick given.channels))
+    ++ (network_lines given.address given.nick given.channels ++ tables)))

@@ -3,7 +3,7 @@
 ghost use Rattle.std.specs.Prelude.{◌≡◌, ◌++◌, IfOk, OnOk};
 ghost use Rattle.irc_support.specs.NamesReply.{words_between};
 ghost use Rattle.first_settings.specs.Written.{items, join_line, line_of, more, name_lines};
-ghost use Rattle.first_settings.specs.Written.{network_lines, quoted, text_of};
+ghost use Rattle.first_settings.specs.Written.{network_lines, quoted, text_of, tables};
 
 use crate::Answers;
 use crate::password::push_password;
@@ -100,8 +100,19 @@ fn push_network(
     push_join(out, channels)
 }
 
+/// Adds the tables of what is kept and how it is played back.
+#[tactic(auto, unfolding(crate::specs::Written::tables))]
+fn push_tables(out: &mut Vec<u8>) -> Result<(), AllocError>
+    ensures { OnOk result (out.new.items ≡ out.old.items ++ tables) }
+{
+    out.extend_from_slice(
+        b"\n# not kept: requests by CTCP, notices of servers, what you say to yourself, and what is said to or by services\n[messages]\nctcp = false\nserver_notices = false\nto_self = false\nnever = [\"NickServ\", \"ChanServ\"]\n\n# private messages come person by person, for clients that know batches\n[playback]\nprivate_batches = true\n",
+    )?;
+    Ok(())
+}
+
 /// The settings file that the answers make, with this salt for the password.
-#[tactic(auto, using(crate::proofs::Appended::four))]
+#[tactic(auto, using(crate::proofs::Appended::five))]
 pub fn settings_text(alloc: Global, answers: &Answers, salt: &[u8]) -> Result<Vec<u8>, AllocError>
     ensures { IfOk result (λ text. text.items ≡ text_of answers.now salt.now) }
 {
@@ -117,5 +128,6 @@ pub fn settings_text(alloc: Global, answers: &Answers, salt: &[u8]) -> Result<Ve
         answers.nick(),
         answers.channels(),
     )?;
+    push_tables(&mut out)?;
     Ok(out)
 }

@@ -25,7 +25,7 @@ pub enum Origin {
     Unknown,
 }
 
-/// What stands before the first space, or all if there is none; and what stands behind that space.
+/// What stands before the first space, or all if there is none; and what follows that space.
 fn split_word(text: &[u8]) -> (&[u8], &[u8])
     ensures word { result.0.now ≡ word_of text.now }
     ensures behind { result.1.now ≡ behind text.now }
@@ -66,7 +66,7 @@ fn address_of(is_v4: bool, text: &[u8]) -> Option<IpAddr>
     if is_v4 { v4_of(text) } else { v6_of(text) }
 }
 
-/// The client's address in what stands behind the family.
+/// The client's address in what follows the family.
 fn source_of(is_v4: bool, text: &[u8]) -> Option<IpAddr>
     ensures some { IfSome result (AreEnds is_v4 text.now) }
     ensures none { IfNone result ((a : Ip) → AreEnds is_v4 text.now a → ⊥) }
@@ -138,7 +138,7 @@ fn named_in(text: &[u8]) -> Option<Origin>
 /// ```
 ///
 /// Addresses are written as in RFC 4291, section 2.2, and IPv4 addresses without zeros in front; a
-/// port is a number from 0 to 65535 without zeros in front. What stands behind `UNKNOWN` and a space
+/// port is a number from 0 to 65535 without zeros in front. What follows `UNKNOWN` and a space
 /// does not count.
 pub fn origin_of(line: &[u8]) -> Option<Origin>
     ensures some { IfSome result (IsProxyLine line.now) }

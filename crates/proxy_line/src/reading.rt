@@ -1,4 +1,4 @@
-//! Reading a proxy's line, and nothing behind it.
+//! Reading a proxy's line, and nothing after it.
 
 ghost use Rattle.std.specs.Prelude.{◌≡◌, ◌==◌, ℕ, List, IfErr, IfOk, false};
 ghost use Rattle.std.specs.List.{list_any};
@@ -35,7 +35,7 @@ fn next_byte<R: Read>(input: &mut R) -> Option<u8>
     }
 }
 
-/// Why an input names no client that has ended within its first line, behind these bytes.
+/// Why an input names no client that has ended within its first line, after these bytes.
 fn cause_of_end(line: &[u8]) -> ProxyFault
     ensures { list_any (λ b. b == 10) line.now ≡ false → IsCauseOf line.now result }
 {
@@ -56,7 +56,7 @@ fn named_by(line: &[u8]) -> Result<Origin, ProxyFault>
     }
 }
 
-/// Whom the line at the front of an input names. It is read byte by byte: what stands behind its LF
+/// Whom the line at the front of an input names. It is read byte by byte: what follows its LF
 /// is left.
 pub fn read_origin<R: Read>(alloc: Global, input: &mut R) -> Result<Origin, ProxyFault>
     ensures ok { IfOk result (λ client. (line : List ℕ)

@@ -156,7 +156,7 @@ impl Login {
 
     /// Takes a line of the network, and tells what follows from it. The response, which has the
     /// password, is sent once, for the first `AUTHENTICATE +` after the network has acknowledged
-    /// `sasl`. After want of memory the login is as it was.
+    /// `sasl`. After a refused allocation the login is as it was.
     pub fn line(&mut self, line: &Line) -> Result<LoginStep, OutOfMemory>
         ensures answer { (account : Account) (before : List Parts) →
             HasTaken account before self.old →

@@ -1,7 +1,7 @@
 use Rattle.std.proofs.Common.{◌≡◌, ap, ap₂, codes, ◌∙◌, rules}
 use Rattle.clap.specs.Words.{App, app_of, new_app, with_subcommand}
 use Rattle.commands.specs.Command.{attach_app, control_app, file_app, file_apps, view_app}
-use Rattle.commands.proofs.words.grammar.Goals as goal
+use Rattle.commands.proofs.arguments.grammar.Goals as goal
 
 pub returns : goal.returns
 returns c =

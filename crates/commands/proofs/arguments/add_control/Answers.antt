@@ -1,4 +1,4 @@
-use Rattle.commands.proofs.words.add_control.Goals as goal
+use Rattle.commands.proofs.arguments.add_control.Goals as goal
 use Rattle.clap.specs.Words.{App, app_of, new_app, with_rule, with_subcommand}
 use Rattle.{commands.specs.Command.{control_app, file_app}, std.proofs.Common.{ap, ap₂, codes, rules}}
 use Rattle.std.proofs.Common.{◌∙◌, ◌≡◌}
