@@ -9,10 +9,11 @@ mod serve;
 
 use crate::serve::serve_file;
 use commands::{
-    Command, Fault, WordsFault, check_file, explain_words, log_file, print_password, read_words,
-    run_attach, run_view, send_control, setup_file, tell_bad_words, tell_fault,
+    Command, Fault, WordsFault, attach_file, check_file, explain_words, log_file, print_password,
+    read_words, run_attach, run_view, send_control, setup_file, tell_bad_words, tell_fault,
 };
 use journal_files::Disk;
+use serving::Publish;
 use std::alloc::{AllocError, Global};
 use std::fs::File;
 use std::io::ErrorKind;
@@ -76,6 +77,7 @@ fn run<
         + Clock
         + RandomSource
         + Disk
+        + Publish
         + Wait
         + Threads
         + Net<Listener = TcpListener, Stream = TcpStream>
@@ -94,6 +96,9 @@ fn run<
             *caps,
             *history,
         ),
+        Command::AttachBy(caps, history, path) => {
+            attach_file(&rt, path.as_str(), *caps, *history)
+        }
         Command::Check(path) => check_file(&rt, path.as_str()),
         Command::Setup(path) => setup_file(&rt, path.as_str()),
         Command::Log(path) => log_file(&rt, path.as_str()),

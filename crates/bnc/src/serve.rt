@@ -4,8 +4,9 @@ use crate::control::open_control;
 use bnc_config::Config;
 use commands::{Fault, settings_text, warn_of_readers};
 use serving::{
-    Host, Journals, Limits, Proxies, Shared, Source, Unread, begin_end, obey, start_accepting,
-    start_accepting_proxies, start_journals, start_log, start_networks, stop,
+    Host, Journals, Limits, Proxies, Publish, Shared, Source, Unread, begin_end, obey,
+    start_accepting, start_accepting_proxies, start_journals, start_log, start_metrics,
+    start_networks, stop,
 };
 use std::alloc::{AllocError, Global};
 use std::fs::File;
@@ -20,7 +21,7 @@ fn settings_at<R: AllocGlobal + Files>(rt: &R, path: &str) -> Result<Config, Fau
     let text = settings_text(rt, path)?;
     match Config::read(rt.alloc(), text.as_slice()) {
         Ok(config) => Ok(config),
-        Err(fault) => Err(Fault::Settings(fault)),
+        Err(fault) => Err(Fault::of_settings(rt.alloc(), path, text.as_slice(), fault)),
     }
 }
 
@@ -79,8 +80,9 @@ fn open_doors<R: Net<Listener = TcpListener, Stream = TcpStream>>(
     let mut doors = Vec::new(alloc);
     for (addresses, is_for_proxies) in [(config.listens(), false), (config.listen_proxy(), true)] {
         for address in addresses {
-            let Ok(door) = open_door(rt, address.as_str(), is_for_proxies) else {
-                return Err(Fault::CannotListen);
+            let door = match open_door(rt, address.as_str(), is_for_proxies) {
+                Ok(door) => door,
+                Err(error) => return Err(Fault::of_listening(alloc, address.as_str(), &error)),
             };
             if doors.push(door).is_err() {
                 return Err(Fault::OutOfMemory);
@@ -101,36 +103,46 @@ fn open_file<R: AllocGlobal + Files + Eprint + Net<Listener = TcpListener, Strea
     Ok((config, doors))
 }
 
-/// The folder of the journals, if the settings at a path name one: a path that begins with no slash is
-/// one from the folder of the settings.
-fn folder_of(alloc: Global, config: &Config, path: &str) -> Result<Option<String>, AllocError> {
-    let Some(kept) = config.kept() else {
+/// A path that the settings at another one name, if they do: if it begins with no slash it is one from
+/// the folder of the settings.
+fn path_by(
+    alloc: Global,
+    settings: &str,
+    named: Option<&str>,
+) -> Result<Option<String>, AllocError> {
+    let Some(named) = named else {
         return Ok(None);
     };
-    match path.rsplit_once('/') {
-        Some((folder, _)) if !kept.starts_with('/') => {
-            Ok(Some(format!(in alloc; "{folder}/{kept}")?))
+    match settings.rsplit_once('/') {
+        Some((folder, _)) if !named.starts_with('/') => {
+            Ok(Some(format!(in alloc; "{folder}/{named}")?))
         }
-        _ => Ok(Some(String::from_str(alloc, kept)?)),
+        _ => Ok(Some(String::from_str(alloc, named)?)),
     }
 }
 
-/// What all threads share, with the threads of the networks, of their journals and of the log.
-fn start_all<R: Host + AllocGlobal + Eprint + Net<Listener = TcpListener, Stream = TcpStream>>(
-    rt: R,
-    config: Config,
-    path: &str,
-) -> Result<Arc<Shared>, Fault> {
+/// What all threads share, with the threads of the networks, of their journals, of the log and of the
+/// figures.
+fn start_all<
+    R: Host
+        + Publish
+        + AllocGlobal
+        + Files<File = File>
+        + Eprint
+        + Net<Listener = TcpListener, Stream = TcpStream>,
+>(rt: R, config: Config, path: &str) -> Result<Arc<Shared>, Fault> {
     let alloc = rt.alloc();
-    let journals = Journals::new(folder_of(alloc, &config, path)?);
+    let journals = Journals::new(path_by(alloc, path, config.kept())?);
+    let metrics = path_by(alloc, path, config.metrics())?;
     let limits = Limits::of_program(config.retry());
     let (shared, links) = Shared::keeping(&rt, alloc, config, limits, journals)?;
-    let Ok(shared) = Arc::new(alloc, shared) else {
+    let Ok(shared) = Arc::new(alloc, shared.with_metrics(metrics)) else {
         return Err(Fault::OutOfMemory);
     };
     let _log = start_log(rt, &shared)?;
     let _threads = start_networks(rt, alloc, &shared, links)?;
     let _journals = start_journals(rt, alloc, &shared)?;
+    let _metrics = start_metrics(rt, alloc, &shared)?;
     Ok(shared)
 }
 
@@ -183,9 +195,10 @@ fn start_doors<R: Host + AllocGlobal + Net<Listener = TcpListener, Stream = TcpS
 
 /// Reads the settings file at a path, listens where it says, prints `listening ADDRESS` for each
 /// address, a line each, and serves. It returns before it is killed only for a fault, or when it was
-/// told to stop.
+/// asked to stop.
 pub fn serve_file<
     R: Host
+        + Publish
         + AllocGlobal
         + Files<File = File>
         + Print

@@ -25,7 +25,7 @@ pub struct Watch {
     pub limit: u32,
 }
 
-/// What a call of the C library told: an error where it is below 0.
+/// What a call of the C library answered: an error if it is below 0.
 fn check(status: i32) -> io::Result<()> {
     if status < 0 {
         Err(io::Error::from_raw_os_error(os::errno()))

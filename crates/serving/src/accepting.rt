@@ -182,7 +182,7 @@ fn accept_at<R: Host>(
 }
 
 /// Accepts clients, as many as the limits say, and serves each in a thread of its own. One for
-/// whose login there is no seat is told `ERROR :too many connections`. If a connection can't be
+/// whose login there is no seat gets `ERROR :too many connections`. If a connection can't be
 /// accepted, as without a free descriptor, it waits a while and goes on. It ends once the service
 /// does: a listener that is shut then wakes it.
 pub fn accept<R: Host>(rt: R, alloc: Global, listener: &TcpListener, shared: &Arc<Shared>) {

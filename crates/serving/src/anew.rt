@@ -2,6 +2,7 @@
 
 use crate::journaling::begin_again;
 use crate::link::{Link, network_with_link};
+use crate::profiles::profile_of;
 use crate::shared::Shared;
 use crate::slot::Slot;
 use crate::station::Station;
@@ -36,13 +37,15 @@ pub(crate) struct OfSettings<'a, R: Wait + Clock + Disk> {
 
 impl<R: Wait + Clock + Disk> Start<QuickView> for OfSettings<'_, R> {
     fn start(&self) -> Result<(Network<QuickView>, Link), AllocError> {
-        let again = begin_again(self.rt, self.alloc, self.shared, self.station)?;
+        let again = begin_again(self.rt, self.alloc, self.shared, self.station);
         if let Some(network) = again {
             return Ok(network);
         }
         let roster = self.shared.roster(self.rt)?;
         let packets = self.shared.limits().packets;
-        network_with_link(self.alloc, roster.config().history(), packets)
+        let config = roster.config();
+        let profile = profile_of(self.alloc, config)?;
+        network_with_link(self.alloc, config.history(), packets, profile)
     }
 }
 

@@ -6,16 +6,18 @@ use crate::closing::HangingUp;
 use crate::connection::Connection;
 use crate::guest::Guest;
 use crate::host::Host;
+use crate::judging::{Decision, Judging};
 use crate::limits::Limits;
 use crate::shared::Shared;
 use crate::watching::Watching;
 use crate::wired::Wired;
 use hub_threads::Worker;
-use sessions::serve_session;
+use sessions::serve_by;
 use shell::Counted;
 use std::alloc::Global;
 use std::io;
 use std::net::{SocketAddr, TcpStream};
+use std::sync::Arc;
 use std::time::Duration;
 use steward::Event;
 
@@ -38,9 +40,11 @@ fn prepare(stream: &TcpStream, limits: &Limits) -> io::Result<()> {
 /// Serves a client to its end, whose login may take so long; an error if it could not be begun.
 fn serve<R: Host>(guest: Guest<'_, R>, time: Duration) -> io::Result<()> {
     prepare(guest.connection.stream(), &guest.shared.limits())?;
-    let gate = HangingUp::on(guest.connection.share()?);
+    let journals = Arc::try_clone(guest.shared.journals())?;
+    let gate = HangingUp::on(guest.connection.share()?).with_journals_that_wait(journals);
     let (out, count) = Counted::new(guest.alloc, guest.connection.share()?)?;
     let mut input = ClientInput::start(guest.rt, guest.alloc, Wired(guest.connection), time)?;
+    let judging = Judging::new(guest);
     let mut watching = Watching::start(guest, count);
     let worker = Worker {
         rt: *guest.rt,
@@ -48,9 +52,7 @@ fn serve<R: Host>(guest: Guest<'_, R>, time: Duration) -> io::Result<()> {
         gate: &gate,
         clock: &SystemClock::of(guest.rt),
     };
-    let config = guest.roster.config();
-    let networks = guest.roster.networks();
-    let served = serve_session(&worker, &mut input, out, config, networks, &mut watching);
+    let served = serve_by(&worker, &mut input, out, &judging, &mut watching);
     watching.finish(&input, &served);
     Ok(())
 }
@@ -65,19 +67,17 @@ pub(crate) fn serve_client<R: Host>(
     connection: &Connection,
     peer: SocketAddr,
 ) {
-    if let Ok((roster, settings)) = shared.settings(&rt) {
-        let guest = Guest {
-            rt: &rt,
-            alloc,
-            shared,
-            roster: &roster,
-            settings,
-            number: seat.number,
-            connection,
-            peer,
-        };
-        let _ = serve(guest, seat.time);
-    }
+    let decision = Decision::new();
+    let guest = Guest {
+        rt: &rt,
+        alloc,
+        shared,
+        number: seat.number,
+        connection,
+        peer,
+        decision: &decision,
+    };
+    let _ = serve(guest, seat.time);
     connection.hang_up();
     let client = seat.number;
     let _ = shared.decide(&rt, Event::Gone { client });

@@ -7,6 +7,7 @@ use hub_threads::Network;
 use quick_view::QuickView;
 use shell::{Neighbours, lines_left};
 use std::rt::Clock;
+use std::sync::atomic::{AtomicBool, Ordering};
 use std::sync::{Arc, Wait};
 
 /// What reads a client.
@@ -17,6 +18,8 @@ pub(crate) type ClientInput<'a, R> = shell::ClientInput<'a, Wired<'a>, Others<'a
 pub(crate) struct Others<'a, R: Wait> {
     pub(crate) rt: &'a R,
     pub(crate) network: Arc<Network<QuickView>>,
+    /// Whether the client's capabilities were changed, as its watcher notes it.
+    pub(crate) changed: Arc<AtomicBool>,
 }
 
 impl<R: Wait> Neighbours for Others<'_, R> {
@@ -32,6 +35,10 @@ impl<R: Wait> Neighbours for Others<'_, R> {
             Ok(sessions) => !sessions.is_empty(),
             Err(_) => false,
         }
+    }
+
+    fn take_changed(&self) -> bool {
+        self.changed.swap(false, Ordering::SeqCst)
     }
 }
 

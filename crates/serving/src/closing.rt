@@ -22,6 +22,8 @@ pub struct HangingUp {
     connection: Connection,
     // whom to tell of what was written
     journals: Option<Arc<Journals>>,
+    // whether only if it is waited for
+    if_awaited: bool,
 }
 
 impl HangingUp {
@@ -30,6 +32,7 @@ impl HangingUp {
         HangingUp {
             connection,
             journals: None,
+            if_awaited: false,
         }
     }
 
@@ -41,6 +44,16 @@ impl HangingUp {
             ..self
         }
     }
+
+    /// The same gate, of the writer to a client: how much it has written is kept over a restart, and
+    /// may be waited for.
+    pub(crate) fn with_journals_that_wait(self, journals: Arc<Journals>) -> HangingUp {
+        HangingUp {
+            journals: Some(journals),
+            if_awaited: true,
+            ..self
+        }
+    }
 }
 
 impl Gate for HangingUp {
@@ -49,7 +62,11 @@ impl Gate for HangingUp {
             self.connection.end();
         }
         if let (Point::AfterWrite, Some(journals)) = (point, &self.journals) {
-            journals.ring();
+            if self.if_awaited {
+                journals.ring_if_awaited();
+            } else {
+                journals.ring();
+            }
         }
     }
 }
@@ -62,6 +79,7 @@ impl Clone for HangingUp {
                 Some(journals) => Some(Arc::try_clone(journals)?),
                 None => None,
             },
+            if_awaited: self.if_awaited,
         })
     }
 }

@@ -1,5 +1,8 @@
 //! The thread that dials a network and serves each connection to it.
 
+ghost use Rattle.std.specs.Prelude.{IsTrue};
+ghost use Rattle.irc_names.specs.Nick.{is_nameable};
+
 use crate::clock::SystemClock;
 use crate::closing::HangingUp;
 use crate::connection::{Connection, Farewell};
@@ -11,6 +14,7 @@ use crate::link::Link;
 use crate::network_event::{Ending, GivenUp, NetworkEvent};
 use crate::network_input::NetworkInput;
 use crate::network_output::NetworkOutput;
+use crate::nick_asked::{is_nick_refused, nick_asked};
 use crate::opening::{Opened, Opening};
 use crate::reaching::connect;
 use crate::roster::Roster;
@@ -25,7 +29,7 @@ use std::random::RandomSource;
 use std::rt::Clock;
 use std::sync::{Arc, Wait};
 use std::time::Duration;
-use upstream::{DialFault, Duplex, NetworkEnd, RegisterFault, serve_network};
+use upstream::{DialFault, Duplex, NetworkEnd, RegisterFault, serve_network_as};
 
 /// Any number, by which a rest after a failed dial is longer.
 fn chance<R: RandomSource>(rt: &R) -> u64 {
@@ -108,8 +112,14 @@ fn ends_of<'a, R: Wait + Clock + Copy>(
 fn said_of<R: Wait + Clock>(
     end: &NetworkEnd,
     reader: &Input<'_, R>,
+    settings: &NetworkConfig,
     alloc: Global,
 ) -> Option<Vec<u8>> {
+    if is_nick_refused(end, settings) {
+        if let Ok(Some(text)) = reader.no_nick(alloc) {
+            return Some(text);
+        }
+    }
     let failed = matches!(
         end,
         NetworkEnd::NotRegistered(DialFault::Register(RegisterFault::SaslFailed))
@@ -122,13 +132,35 @@ fn said_of<R: Wait + Clock>(
     reader.parting(alloc).unwrap_or(None)
 }
 
-/// Serves a connection that registers, to its end. Answers the link, and how it ended.
+/// How a connection ended for which a registration asked for this nick. If it was not taken, the next
+/// registration asks for another one.
+fn ending_under<'a, R: Wait + Clock>(
+    keeping: &Keeping<'a, R>,
+    end: NetworkEnd,
+    said: Option<Vec<u8>>,
+    nick: Vec<u8>,
+) -> Ending<'static> {
+    let Dialling { rt, station, .. } = keeping.dialling;
+    let is_refused = is_nick_refused(&end, keeping.settings);
+    if is_refused {
+        station.nick_tries().lock(rt).refused();
+    }
+    match ending_of(end, said, keeping.connection, keeping.given_up) {
+        Ending::NotRegistered { fault, said } if is_refused => Ending::NoNick { nick, fault, said },
+        ending => ending,
+    }
+}
+
+/// Serves a connection that registers under this nick, to its end. Answers the link, and how it ended.
 fn serve<'a, R: Host>(
     dialling: Dialling<'a, R>,
     settings: &'a NetworkConfig,
     connection: &'a Connection,
+    nick: Vec<u8>,
     link: Link,
-) -> (Link, Ending<'static>) {
+) -> (Link, Ending<'static>)
+    requires { IsTrue (is_nameable nick.items) }
+{
     let Dialling { rt, alloc, .. } = dialling;
     let limits = dialling.shared.limits();
     let Ok(opening) = Opening::new(alloc) else {
@@ -151,7 +183,7 @@ fn serve<'a, R: Host>(
         gate: &gate,
         clock: &clock,
     };
-    let over = serve_network(&worker, stream, settings, link, &mut keeping);
+    let over = serve_network_as(&worker, stream, settings, &nick, link, &mut keeping);
     let upstream::Served {
         end,
         mut link,
@@ -159,13 +191,33 @@ fn serve<'a, R: Host>(
         written,
     } = over;
     let farewell = connection.farewell();
-    let said = said_of(&end, &stream.reader, alloc);
-    let ending = ending_of(end, said, farewell, keeping.given_up);
+    let said = said_of(&end, &stream.reader, settings, alloc);
+    let ending = ending_under(&keeping, end, said, nick);
     if let (Some(farewell), true) = (farewell, written.is_ok()) {
         part_with(connection, farewell, &mut link.outlet, limits.stop);
     }
     connection.hang_up();
     (link, ending)
+}
+
+/// Registers over a connection, if that is still wanted, and serves it to its end.
+fn register_and_serve<'a, R: Host>(
+    dialling: Dialling<'a, R>,
+    settings: &'a NetworkConfig,
+    connection: &'a Connection,
+    link: Link,
+) -> (Link, Ending<'static>) {
+    if !dialling.registers(connection) {
+        connection.hang_up();
+        return (link, Ending::GivenUp(GivenUp::Outdated));
+    }
+    match nick_asked(&dialling, settings, chance(dialling.rt)) {
+        Ok(nick) => serve(dialling, settings, connection, nick, link),
+        Err(_) => {
+            connection.hang_up();
+            (link, Ending::GivenUp(GivenUp::NoMemory))
+        }
+    }
 }
 
 /// Dials once, and serves the connection to its end.
@@ -182,15 +234,9 @@ fn dial<R: Host + Net<Listener = TcpListener, Stream = TcpStream>>(
     };
     let mut link = link;
     link.drop_unsent();
+    dialling.shared.metrics().note_dial();
     let (link, ending) = match come_in(dialling, settings) {
-        Ok(connection) => {
-            if dialling.registers(&connection) {
-                serve(*dialling, settings, &connection, link)
-            } else {
-                connection.hang_up();
-                (link, Ending::GivenUp(GivenUp::Outdated))
-            }
-        }
+        Ok(connection) => register_and_serve(*dialling, settings, &connection, link),
         Err(ending) => (link, ending),
     };
     let again = dialling.lose(chance(dialling.rt));

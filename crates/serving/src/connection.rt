@@ -61,6 +61,8 @@ impl Farewell {
 struct Line {
     stream: TcpStream,
     is_shut: AtomicBool,
+    // whether lines of the shell could not be written
+    is_unsaid: AtomicBool,
     farewell: AtomicU64,
     // whether what was written in turn ends within a line
     is_within_line: Mutex<bool>,
@@ -80,6 +82,7 @@ impl Connection {
         let line = Line {
             stream,
             is_shut: AtomicBool::new(false),
+            is_unsaid: AtomicBool::new(false),
             farewell: AtomicU64::new(NONE),
             is_within_line: Mutex::new(false),
         };
@@ -157,11 +160,17 @@ impl Connection {
         let mut out = Patiently(self.stream());
         for part in parts {
             if out.write_all(part).is_err() {
+                self.line.is_unsaid.store(true, Ordering::SeqCst);
                 self.hang_up();
                 break;
             }
         }
         true
+    }
+
+    /// Whether it was shut since whole lines could not be written.
+    pub(crate) fn is_unsaid(&self) -> bool {
+        self.line.is_unsaid.load(Ordering::SeqCst)
     }
 
     /// Whether one of its hands has shut it, or ended what comes in.

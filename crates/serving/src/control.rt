@@ -4,7 +4,7 @@ use crate::control_event::ControlEvent;
 use crate::forgetting::forget;
 use crate::helm::Standing;
 use crate::host::Host;
-use crate::kept::Kept;
+use crate::metrics::{ask_for_metrics, kept_of};
 use crate::reloading::{Source, reload};
 use crate::shared::Shared;
 use crate::station::Station;
@@ -43,6 +43,8 @@ enum Word {
     Status,
     /// `forget USER/NETWORK NAME`: to forget a client name; what stands after the word.
     Forget(Vec<u8>),
+    /// `metrics`: to write the figures now.
+    Metrics,
     /// `stop`: to end the service.
     Stop,
 }
@@ -69,6 +71,7 @@ fn word_of(alloc: Global, line: &[u8]) -> Option<Word> {
         b"reload" => Some(Word::Reload),
         b"reload empty" => Some(Word::ReloadEmpty),
         b"status" => Some(Word::Status),
+        b"metrics" => Some(Word::Metrics),
         b"stop" => Some(Word::Stop),
         _ => None,
     }
@@ -81,8 +84,7 @@ fn status_of<R: Wait>(
     shared: &Shared,
     station: &Station,
 ) -> ControlEvent<'static> {
-    let network = station.slot().network(rt);
-    let kept = network.and_then(|network| Kept::by(rt, alloc, &network).ok());
+    let kept = kept_of(rt, alloc, station);
     let Standing { since, sessions } = shared.helm().lock(rt).standing(station.number());
     ControlEvent::Status {
         since,
@@ -174,6 +176,7 @@ fn obey_word<S: Source, R: Host + Net<Listener = TcpListener, Stream = TcpStream
         Word::Reload => reload(rt, alloc, shared, source, false),
         Word::ReloadEmpty => reload(rt, alloc, shared, source, true),
         Word::Status => tell_status(&rt, alloc, shared),
+        Word::Metrics => ask_for_metrics(&rt, shared),
         Word::Forget(line) => forget(&rt, shared, line.as_slice()),
         Word::Stop => return true,
     }

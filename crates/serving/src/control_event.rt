@@ -4,7 +4,7 @@ use crate::kept::Kept;
 use crate::shown::{Shown, Words};
 use client_caps::{Moment, time_text};
 use hub_core::ForgetFault;
-use std::fmt;
+use std::{fmt, io};
 
 /// What the log says of a word, and of what it asks for.
 #[derive(Clone, Copy)]
@@ -53,6 +53,13 @@ pub enum ControlEvent<'a> {
     NoNetwork {
         /// What stands after the word.
         line: &'a [u8],
+    },
+    /// The figures are to be written, and the settings name no file for them.
+    NoMetrics,
+    /// The figures were not written.
+    MetricsNotWritten {
+        /// Why not.
+        error: &'a io::Error,
     },
     /// The service ends.
     Stops,
@@ -114,6 +121,12 @@ impl fmt::Display for ControlEvent<'_> {
             }
             ControlEvent::NoNetwork { line } => {
                 write!(f, "control: forget: no such network: {}", Shown(line))
+            }
+            ControlEvent::NoMetrics => {
+                f.write_str("control: metrics: the settings have no key `metrics`")
+            }
+            ControlEvent::MetricsNotWritten { error } => {
+                write!(f, "metrics not written, tries again each minute: {error}")
             }
             ControlEvent::Stops => f.write_str("stops"),
             ControlEvent::Ignored { word } => write!(f, "control: ignored {}", Shown(word)),

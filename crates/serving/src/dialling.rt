@@ -3,9 +3,11 @@
 use crate::clock::SystemClock;
 use crate::connection::Connection;
 use crate::network_event::{Ending, NetworkEvent};
+use crate::rejoining::all_names;
 use crate::roster::Roster;
 use crate::shared::Shared;
 use crate::station::Station;
+use bnc_config::NetworkConfig;
 use shell::Noted;
 use std::alloc::Global;
 use std::rt::Clock;
@@ -44,7 +46,7 @@ impl<R: Wait + Clock> Dialling<'_, R> {
         log.tell(self.rt, &self.station.who(), event)
     }
 
-    /// Logs how often dials ended as the one that was told last, if any did.
+    /// Logs how often dials ended as the one that was logged last, if any did.
     fn tell_alike(&self, count: u64) {
         if count > 0 {
             self.tell(&NetworkEvent::EndedAlike { count });
@@ -121,6 +123,20 @@ impl<R: Wait + Clock> Dialling<'_, R> {
         let now = self.shared.ticks(self.rt);
         let mut helm = self.shared.helm().lock(self.rt);
         helm.connect(self.station.number(), noted, now)
+    }
+
+    /// Notes which channels are to be joined, if logins wait for them. If there is no memory for that
+    /// nobody waits.
+    pub(crate) fn await_channels(&self, settings: &NetworkConfig) {
+        let wait = self.shared.wait();
+        if wait == 0 {
+            return;
+        }
+        let channels = match all_names(self, settings) {
+            Ok(channels) => channels,
+            Err(_) => Vec::new(self.alloc),
+        };
+        self.station.joining().lock(self.rt).begin(channels, wait);
     }
 
     /// Notes that the network has let us in; whether it is served from now on.

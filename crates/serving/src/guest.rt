@@ -2,14 +2,15 @@
 //! log.
 
 use crate::connection::{Connection, Farewell};
+use crate::judging::Decision;
 use crate::refusals::tell_refusal;
-use crate::roster::Roster;
 use crate::session_event::SessionEvent;
 use crate::shared::Shared;
 use crate::shown::Who;
 use crate::station::Station;
 use crate::stranger_event::StrangerEvent;
 use hub_threads::WRITE_CALL;
+use shell::is_silence;
 use std::alloc::Global;
 use std::io::Write;
 use std::net::SocketAddr;
@@ -19,8 +20,7 @@ use std::time::Duration;
 use std::{io, thread};
 use steward::{Answer, Event, Verdict};
 
-/// After how many milliseconds a thread that waits to answer looks whether its client is to be sent
-/// its last line.
+/// After how many milliseconds a thread that waits looks whether its client is to be sent its last line.
 const STEP: u64 = 50;
 
 /// A client, as its own thread knows it.
@@ -29,13 +29,11 @@ pub(crate) struct Guest<'a, R> {
     pub(crate) rt: &'a R,
     pub(crate) alloc: Global,
     pub(crate) shared: &'a Shared,
-    /// The settings by which it logs in.
-    pub(crate) roster: &'a Roster,
-    /// How often the settings had been read then.
-    pub(crate) settings: u64,
     pub(crate) number: u64,
     pub(crate) connection: &'a Connection,
     pub(crate) peer: SocketAddr,
+    /// What is decided about its login.
+    pub(crate) decision: &'a Decision,
 }
 
 /// Whose a client's last line is.
@@ -77,15 +75,16 @@ impl<R: Wait + Clock> Guest<'_, R> {
         tell_refusal(self.rt, self.shared, peer.ip(), &who, &event);
     }
 
-    /// Asks what becomes of its login: right for this network, or wrong.
-    pub(crate) fn judge(&self, station: Option<&Station>) -> Answer {
+    /// Asks what becomes of its login, which is right for this network or wrong by settings that were
+    /// read so often.
+    pub(crate) fn judge(&self, station: Option<&Station>, settings: u64) -> Answer {
         let verdict = match station {
             Some(station) => Verdict::Right(station.label()),
             None => Verdict::Wrong,
         };
         let event = Event::Judged {
             client: self.number,
-            settings: self.settings,
+            settings,
             verdict,
         };
         self.shared.decide(self.rt, event)
@@ -110,6 +109,46 @@ impl<R: Wait + Clock> Guest<'_, R> {
                 LastLine::Closed
             }
         }
+    }
+
+    /// Whether its peer has gone, after a wait of 50 ms. Nothing is read of it.
+    fn has_gone(&self) -> bool {
+        let stream = self.connection.stream();
+        let step = Duration::from_millis(STEP);
+        if stream.set_read_timeout(Some(step)).is_err() {
+            return true;
+        }
+        let mut first = [0u8; 1];
+        match stream.peek(&mut first) {
+            Ok(0) => true,
+            Ok(_) => {
+                thread::sleep(self.rt, step);
+                false
+            }
+            Err(error) => !is_silence(&error),
+        }
+    }
+
+    /// Waits while its network joins channels; whether it gets its session. It does not if it is to be
+    /// sent its last line, or has gone.
+    pub(crate) fn waits_for_channels(&self, station: &Station) -> bool {
+        if self.shared.wait() == 0 {
+            return true;
+        }
+        let client = self.number;
+        for _ in self.rt.forever() {
+            let channels = station.channels(self.rt, self.shared.ticks(self.rt));
+            let event = Event::Enters { client, channels };
+            match self.shared.decide(self.rt, event) {
+                Answer::Enter { .. } => return true,
+                Answer::Hold { .. } => {}
+                _ => return false,
+            }
+            if self.connection.is_shut() || self.has_gone() {
+                return false;
+            }
+        }
+        unreachable!()
     }
 
     /// Writes its last line; one that has gone does not get it.

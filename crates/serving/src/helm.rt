@@ -41,17 +41,20 @@ pub(crate) struct Helm {
 }
 
 impl Helm {
-    /// Nobody is there, and no network is served yet.
+    /// Nobody is there, and no network is served yet. A login waits so many milliseconds while channels
+    /// are joined.
     pub(crate) fn new(
         alloc: Global,
         config: Arc<Config>,
         limits: &Limits,
+        wait: u64,
         journals: Arc<Journals>,
     ) -> Result<Helm, AllocError> {
+        let terms = limits.terms(wait);
         let roster = Roster::without_networks(alloc, config, limits.retry, journals);
         let times = limits.times(limits.retry);
         Ok(Helm {
-            steward: Steward::new(alloc, limits.of_clients(), times, limits.terms()),
+            steward: Steward::new(alloc, limits.of_clients(), times, terms),
             numbers: Numbers::new(alloc),
             roster: Arc::new(alloc, roster)?,
             tables: Tables::new(alloc),

@@ -21,6 +21,8 @@ pub enum JournalEvent<'a> {
     },
     /// All is written again.
     Written,
+    /// The network ends, or the service, and not all is written.
+    Unwritten,
     /// The network was begun anew, since there was no memory for what came from it.
     BegunAnew {
         /// Whether with the messages that its journal holds, or with its marks and channels alone.
@@ -63,6 +65,7 @@ impl fmt::Display for JournalEvent<'_> {
                 write!(f, "journal not written, tries again: {why}")
             }
             JournalEvent::Written => f.write_str("journal written again"),
+            JournalEvent::Unwritten => f.write_str("journal not written to its end"),
             JournalEvent::BegunAnew {
                 with_messages: true,
             } => f.write_str("out of memory, begun anew with what its journal holds"),

@@ -1,32 +1,24 @@
 //! The thread that writes the journals of the networks.
 
-ghost use Rattle.std.specs.Prelude.{IfOk, IfSome};
+ghost use Rattle.std.specs.Prelude.{IfOk};
 ghost use Rattle.journal.specs.Recalls.{CanBegin};
 
 use crate::host::Host;
 use crate::journal_event::JournalEvent;
-use crate::kept_journal::KeptJournal;
+use crate::kept_journal::{AGAIN, KeptJournal};
 use crate::link::{Link, network_again};
+use crate::looking_again::LookingAgain;
+use crate::profiles::profile_of;
 use crate::shared::Shared;
 use crate::station::Station;
-use hub_core::Past;
 use hub_threads::Network;
-use journal_writer::{Disk, Journal, NoJournal, OpenError, Opened, WriteError, open};
+use journal_writer::{Disk, Due, Found, Journal, NoJournal, OpenError, Opened, WriteError, open};
 use quick_view::QuickView;
 use std::alloc::{AllocError, Global};
 use std::rt::Clock;
 use std::sync::{Arc, Wait};
 use std::thread;
 use std::time::Duration;
-
-/// How many milliseconds what changed may wait before it is written (our own choice).
-const REST: u64 = 200;
-
-/// After how many milliseconds a client is looked at again that has not taken all.
-const BEHIND: u64 = 1_000;
-
-/// After how many milliseconds something is written again that was not.
-const AGAIN: u64 = 30_000;
 
 /// How often a journal is opened that another holds, and how many milliseconds pass in between: a
 /// network that was removed may still hold it, unless the program has just begun.
@@ -80,123 +72,151 @@ fn open_journal<R: Host>(
     unreachable!()
 }
 
-/// Begins a network with what its journal holds, if it has one; its journal is written from then on.
-/// Why there is none is logged.
-pub(crate) fn recall_network<R: Host>(
+/// A network that begins with what its journal holds, its link, that journal, and what was found.
+fn recalled<R: Host>(
     rt: &R,
     alloc: Global,
     shared: &Shared,
     station: &Station,
-) -> Result<(), AllocError> {
-    let Some(folder) = shared.journals().folder() else {
-        return Ok(());
+    folder: &str,
+) -> Result<(Arc<Network<QuickView>>, Link, Journal, Found), NoJournal> {
+    let Opened {
+        journal,
+        past,
+        found,
+    } = open_journal(rt, alloc, shared, station, folder)?;
+    let profile = profile_of(alloc, shared.roster(rt)?.config())?;
+    let (network, link) = network_again(alloc, past, shared.limits().packets, profile)?;
+    let Ok(network) = Arc::new(alloc, network) else {
+        return Err(NoJournal::OutOfMemory);
     };
-    match open_journal(rt, alloc, shared, station, folder) {
-        Ok(opened) => {
-            let Opened {
-                journal,
-                past,
-                found,
-            } = opened;
-            let (network, link) = network_again(alloc, past, shared.limits().packets)?;
+    // its file changes only here, once all memory is there
+    let journal = journal.begin(rt)?;
+    Ok((network, link, journal, found))
+}
+
+/// Begins a network with what its journal holds, if it is kept; its journal is written from then on. If
+/// that can't be, also for lack of memory, the network goes on without it, and the log says why.
+pub(crate) fn recall_network<R: Host>(rt: &R, alloc: Global, shared: &Shared, station: &Station) {
+    let Some(folder) = shared.journals().folder() else {
+        return;
+    };
+    match recalled(rt, alloc, shared, station, folder) {
+        Ok((network, link, journal, found)) => {
             station.slot().clear(rt);
-            station.slot().fill(rt, Arc::new(alloc, network)?, link);
+            station.slot().fill(rt, network, link);
             *station.journal().lock(rt) = Some(KeptJournal::new(journal));
             tell(rt, shared, station, &JournalEvent::Recalled(found));
         }
         Err(why) => tell(rt, shared, station, &JournalEvent::None { why: &why }),
     }
-    Ok(())
 }
 
-/// What a network goes on from that is begun anew, by its journal; `None` if it has none, or if that
-/// can't be read.
-fn past_of<R: Wait + Clock + Disk>(
+/// A network that goes on from what its journal holds, with its messages or without.
+fn network_from<R: Wait + Clock + Disk>(
     rt: &R,
     alloc: Global,
     shared: &Shared,
-    station: &Station,
-) -> Result<Option<Past>, AllocError>
-    ensures begins { IfOk result (λ past. IfSome past (λ p. CanBegin p.history)) }
-{
-    let capacity = shared.roster(rt)?.config().history();
-    let mut journal = station.journal().lock(rt);
-    let Some(kept) = &mut *journal else {
-        return Ok(None);
-    };
-    let with_messages = kept.begin_anew(shared.ticks(rt));
-    match kept.journal.again(rt, alloc, capacity, with_messages) {
-        Ok(past) => {
-            tell(
-                rt,
-                shared,
-                station,
-                &JournalEvent::BegunAnew { with_messages },
-            );
-            Ok(Some(past))
-        }
-        Err(why) => {
-            tell(rt, shared, station, &JournalEvent::None { why: &why });
-            *journal = None;
-            Ok(None)
-        }
-    }
+    journal: &mut Journal,
+    with_messages: bool,
+) -> Result<(Network<QuickView>, Link), NoJournal> {
+    let roster = shared.roster(rt)?;
+    let capacity = roster.config().history();
+    let past = journal.again(rt, alloc, capacity, with_messages)?;
+    let profile = profile_of(alloc, roster.config())?;
+    let network = network_again(alloc, past, shared.limits().packets, profile)?;
+    Ok(network)
 }
 
-/// A network that is begun anew with what its journal holds; `None` if there is none.
+/// A network that is begun anew with what its journal holds; `None` if it has none. If that can't be
+/// read, also for lack of memory, the network goes on without it, and the log says why.
 pub(crate) fn begin_again<R: Wait + Clock + Disk>(
     rt: &R,
     alloc: Global,
     shared: &Shared,
     station: &Station,
-) -> Result<Option<(Network<QuickView>, Link)>, AllocError> {
-    match past_of(rt, alloc, shared, station)? {
-        Some(past) => Ok(Some(network_again(alloc, past, shared.limits().packets)?)),
-        None => Ok(None),
+) -> Option<(Network<QuickView>, Link)> {
+    let mut journal = station.journal().lock(rt);
+    let kept = (*journal).as_mut()?;
+    let with_messages = !kept.was_begun_anew(shared.ticks(rt));
+    match network_from(rt, alloc, shared, &mut kept.journal, with_messages) {
+        Ok(network) => {
+            let event = JournalEvent::BegunAnew { with_messages };
+            tell(rt, shared, station, &event);
+            Some(network)
+        }
+        Err(why) => {
+            tell(rt, shared, station, &JournalEvent::None { why: &why });
+            *journal = None;
+            None
+        }
     }
 }
 
-/// Writes what is due for a journal; answers whether a session's writer still has something to write.
+/// Writes what is due for a journal; answers whether something was, and whether a session's writer still
+/// has something to write.
 fn write_due<R: Host>(
     rt: &R,
     alloc: Global,
     journal: &mut Journal,
     network: &Network<QuickView>,
     now: u64,
-) -> Result<bool, WriteError> {
+) -> Result<(bool, bool), WriteError> {
     let taken = {
         let hub = network.lock(rt);
         journal.take(alloc, &*hub, now)
     };
     let (due, is_behind) = taken?;
+    let was_due = !matches!(due, Due::Nothing);
     journal.write(rt, alloc, due, now)?;
-    Ok(is_behind)
+    Ok((was_due, is_behind))
 }
 
-/// Writes what is due for the journal of a network, if it has one. Answers after how many milliseconds
-/// it is to be looked at again, although nothing changes; `None` if it needs not.
+/// Writes what is due for the journal of a network, if it has one. Answers when it is to be looked at
+/// again, although nothing rings.
 pub(crate) fn write_journal<R: Host>(
     rt: &R,
     alloc: Global,
     shared: &Shared,
     station: &Station,
-) -> Option<u64> {
+) -> LookingAgain {
     let mut journal = station.journal().lock(rt);
-    let kept = (*journal).as_mut()?;
-    let network = station.slot().network(rt)?;
+    let Some(kept) = (*journal).as_mut() else {
+        return LookingAgain::if_rung(false);
+    };
+    let Some(network) = station.slot().network(rt) else {
+        return LookingAgain::if_rung(false);
+    };
     let now = shared.ticks(rt);
     match write_due(rt, alloc, &mut kept.journal, &network, now) {
-        Ok(is_behind) => {
+        Ok((was_due, is_behind)) => {
+            // after a fault the file rests, and nothing is due meanwhile
+            let rest = kept.rest(now);
+            if !was_due && rest > 0 {
+                return LookingAgain::after(rest);
+            }
             if kept.note_written() {
                 tell(rt, shared, station, &JournalEvent::Written);
             }
-            if is_behind { Some(BEHIND) } else { None }
+            LookingAgain::if_rung(is_behind)
         }
         Err(why) => {
-            if kept.note_fault() {
+            if kept.note_fault(now) {
                 tell(rt, shared, station, &JournalEvent::NotWritten { why: &why });
             }
-            Some(AGAIN)
+            LookingAgain::after(AGAIN)
+        }
+    }
+}
+
+/// Writes what is left for a network; the log says so if not all is written then.
+fn write_left<R: Host>(rt: &R, alloc: Global, shared: &Shared, station: &Station) {
+    let _ = write_journal(rt, alloc, shared, station);
+    let mut journal = station.journal().lock(rt);
+    if let Some(kept) = (*journal).as_mut() {
+        kept.note_done();
+        if kept.is_faulty() {
+            tell(rt, shared, station, &JournalEvent::Unwritten);
         }
     }
 }
@@ -204,7 +224,7 @@ pub(crate) fn write_journal<R: Host>(
 /// Writes what is left for a network that ends. Its file stays if the network was removed, and the log
 /// says so.
 pub(crate) fn write_last<R: Host>(rt: &R, alloc: Global, shared: &Shared, station: &Station) {
-    let _ = write_journal(rt, alloc, shared, station);
+    write_left(rt, alloc, shared, station);
     let mut journal = station.journal().lock(rt);
     if let (Some(kept), false) = (&*journal, shared.is_stopping(rt)) {
         let path = kept.journal.path();
@@ -215,32 +235,41 @@ pub(crate) fn write_last<R: Host>(rt: &R, alloc: Global, shared: &Shared, statio
 }
 
 /// Writes what is due for all journals; answers as `write_journal` does.
-fn write_all<R: Host>(rt: &R, alloc: Global, shared: &Shared) -> Option<u64> {
+fn write_all<R: Host>(rt: &R, alloc: Global, shared: &Shared) -> LookingAgain {
     let Ok(roster) = shared.roster(rt) else {
-        return Some(AGAIN);
+        return LookingAgain::after(AGAIN);
     };
-    let mut again: Option<u64> = None;
+    let mut again = LookingAgain::if_rung(false);
     for (_, station) in roster.networks() {
-        if let Some(time) = write_journal(rt, alloc, shared, station) {
-            again = Some(again.map_or(time, |before| before.min(time)));
-        }
+        again = again.or(write_journal(rt, alloc, shared, station));
     }
     again
 }
 
 /// Writes what is left for all journals, at the end of the service.
-pub fn write_journals<R: Host>(rt: &R, alloc: Global, shared: &Shared) {
-    let _ = write_all(rt, alloc, shared);
+fn write_journals<R: Host>(rt: &R, alloc: Global, shared: &Shared) {
+    let Ok(roster) = shared.roster(rt) else {
+        return;
+    };
+    for (_, station) in roster.networks() {
+        write_left(rt, alloc, shared, station);
+    }
 }
 
-/// Writes journals whenever something has changed, after a rest of 200 ms, for good.
+/// Writes journals whenever something has changed, after a rest by the limits, and what is left once
+/// the service ends.
 pub(crate) fn keep_journals<R: Host>(rt: &R, alloc: Global, shared: &Shared) {
     let journals = shared.journals();
-    let mut again = None;
+    let mut time = None;
     for _ in rt.forever() {
-        journals.wait(rt, again.map(Duration::from_millis));
-        thread::sleep(rt, Duration::from_millis(REST));
+        let was_rung = journals.wait(rt, time.map(Duration::from_millis));
+        journals.rest(rt, shared.limits().unwritten);
         journals.answer();
-        again = write_all(rt, alloc, shared);
+        if journals.is_ending() {
+            return write_journals(rt, alloc, shared);
+        }
+        let again = write_all(rt, alloc, shared);
+        journals.await_writers(again.is_behind());
+        time = again.time(was_rung);
     }
 }

@@ -12,6 +12,10 @@ pub struct Journals {
     folder: Option<String>,
     bed: Parker,
     is_rung: AtomicBool,
+    // whether the writers to clients ring too, since one had not written all
+    awaits_writers: AtomicBool,
+    // whether what is left is written now, and then nothing more
+    is_ending: AtomicBool,
 }
 
 impl Journals {
@@ -21,6 +25,8 @@ impl Journals {
             folder,
             bed: Parker::new(),
             is_rung: AtomicBool::new(false),
+            awaits_writers: AtomicBool::new(false),
+            is_ending: AtomicBool::new(false),
         }
     }
 
@@ -36,19 +42,48 @@ impl Journals {
         }
     }
 
-    /// Waits until it is rung, at most so long if there is a limit.
-    pub(crate) fn wait<R: Wait>(&self, rt: &R, most: Option<Duration>) {
-        if self.is_rung.load(Ordering::SeqCst) {
-            return;
+    /// Says that a client's writer has nothing left to write. That rings only if one is waited for.
+    pub(crate) fn ring_if_awaited(&self) {
+        if self.awaits_writers.load(Ordering::SeqCst) {
+            self.ring();
         }
+    }
+
+    /// Says whether a client's writer is waited for.
+    pub(crate) fn await_writers(&self, awaits: bool) {
+        self.awaits_writers.store(awaits, Ordering::SeqCst);
+    }
+
+    /// Waits until it is rung, at most so long if there is a limit; whether it was rung. From then on
+    /// nobody needs to ring until that is answered.
+    pub(crate) fn wait<R: Wait>(&self, rt: &R, most: Option<Duration>) -> bool {
         match most {
             Some(time) => self.bed.park_timeout(rt, time),
             None => self.bed.park(rt),
+        }
+        self.is_rung.swap(true, Ordering::SeqCst)
+    }
+
+    /// Rests for so long, or until the service ends.
+    pub(crate) fn rest<R: Wait>(&self, rt: &R, time: Duration) {
+        if !self.is_ending() {
+            self.bed.park_timeout(rt, time);
         }
     }
 
     /// Says that all is looked at anew that was rung for.
     pub(crate) fn answer(&self) {
         self.is_rung.store(false, Ordering::SeqCst);
+    }
+
+    /// Has the thread that writes them write what is left, and end.
+    pub(crate) fn end(&self) {
+        self.is_ending.store(true, Ordering::SeqCst);
+        self.bed.unpark();
+    }
+
+    /// Whether that was asked for.
+    pub(crate) fn is_ending(&self) -> bool {
+        self.is_ending.load(Ordering::SeqCst)
     }
 }

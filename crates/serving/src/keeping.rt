@@ -3,13 +3,14 @@
 
 ghost use Rattle.std.specs.Prelude.{◌≡◌};
 
-use crate::connection::{Connection, Farewell};
+use crate::connection::Connection;
 use crate::dialling::Dialling;
 use crate::network_event::{Ending, GivenUp, NetworkEvent};
 use crate::network_input::{KeepAlive, NetworkInput};
 use crate::network_output::NetworkOutput;
-use crate::opening::Opening;
+use crate::opening::{Opening, Plan};
 use crate::rejoining::{all_joins, rejoin};
+use crate::saying_again::{away_line, regain_from};
 use bnc_config::NetworkConfig;
 use hub_threads::{ReadEnd, WRITE_CALL};
 use irc_line::Line;
@@ -56,18 +57,22 @@ fn cause_of(ended: ReadEnd) -> &'static str {
     }
 }
 
-/// How a connection ended that ends so, with what the network said then, the last line that it is to be
-/// sent, and the cause if it was given up.
+/// How a connection ended that ends so, with what the network said then, and the cause if it was given
+/// up.
 pub(crate) fn ending_of(
     end: NetworkEnd,
     said: Option<Vec<u8>>,
-    farewell: Option<Farewell>,
+    connection: &Connection,
     given_up: GivenUp,
 ) -> Ending<'static> {
-    if let Some(farewell) = farewell {
+    if let Some(farewell) = connection.farewell() {
         return Ending::Parted(farewell);
     }
     match end {
+        NetworkEnd::Lost(_) if connection.is_unsaid() => Ending::Lost {
+            cause: "cannot write",
+            said,
+        },
         NetworkEnd::NotRegistered(fault) => Ending::NotRegistered { fault, said },
         NetworkEnd::Lost(ended) => Ending::Lost {
             cause: cause_of(ended),
@@ -98,23 +103,39 @@ impl<'a, R: Wait + Clock> Keeping<'a, R> {
 
     /// Asks for the channels that were lost; if the settings have lines that come first, for all
     /// channels once these were sent.
-    fn ask_for_channels(&self, writer: &mut NetworkOutput<R>) -> io::Result<()> {
+    fn ask_for_channels(&self, writer: &mut NetworkOutput<R>) -> io::Result<Vec<u8>> {
         if self.settings.on_connect().is_empty() {
-            return rejoin(&self.dialling, self.settings, writer);
+            rejoin(&self.dialling, self.settings, writer)?;
+            return Ok(Vec::new(self.dialling.alloc));
         }
+        Ok(all_joins(&self.dialling, self.settings)?)
+    }
+
+    /// Asks for what outlives a connection, or notes that it is to be asked for later: the channels,
+    /// AWAY, and the wanted nick if we have another one.
+    fn ask_again(&self, writer: &mut NetworkOutput<R>, lines: &[Line]) -> io::Result<()> {
         let Dialling { rt, shared, .. } = self.dialling;
-        let joins = all_joins(&self.dialling, self.settings)?;
-        self.opening
-            .begin(rt, self.settings, joins, shared.ticks(rt));
+        let now = shared.ticks(rt);
+        let plan = Plan {
+            joins: self.ask_for_channels(writer)?,
+            away: away_line(&self.dialling, self.settings)?,
+            regain: regain_from(self.settings, nick_in(lines), now),
+        };
+        self.opening.begin(rt, self.settings, plan, now);
         Ok(())
     }
 
-    /// Asks for the channels that were lost, and sets what holds of the connection from then on.
-    fn begin(&self, input: &mut Input<'a, R>, writer: &mut NetworkOutput<R>) -> Result<(), GivenUp>
+    /// Asks for what outlives a connection, and sets what holds of the connection from then on.
+    fn begin(
+        &self,
+        input: &mut Input<'a, R>,
+        writer: &mut NetworkOutput<R>,
+        lines: &[Line],
+    ) -> Result<(), GivenUp>
         ensures { ⟦<Input<'a, R> as Read>⟧.remaining input.new
             ≡ ⟦<Input<'a, R> as Read>⟧.remaining input.old }
     {
-        if self.ask_for_channels(writer).is_err() {
+        if self.ask_again(writer, lines).is_err() {
             return Err(GivenUp::NotRejoined);
         }
         match self.begin_live(input) {
@@ -131,14 +152,17 @@ impl<'a, R: Wait + Clock> Keeper<Input<'a, R>, NetworkOutput<R>> for Keeping<'a,
         writer: &mut NetworkOutput<R>,
         lines: &[Line],
     ) -> bool {
+        self.dialling.await_channels(self.settings);
         if !self.dialling.is_welcome() {
             return false;
         }
+        let Dialling { rt, station, .. } = self.dialling;
+        station.nick_tries().lock(rt).welcomed();
         self.dialling.tell_connected(&NetworkEvent::Connected {
             address: self.settings.address(),
             nick: nick_in(lines),
         });
-        match self.begin(reader, writer) {
+        match self.begin(reader, writer, lines) {
             Ok(()) => true,
             Err(cause) => {
                 self.given_up = cause;

@@ -73,6 +73,8 @@ pub struct Limits {
     /// How many packets may wait for a network, and how many items of it for its hub; 0 counts as
     /// 1.
     pub packets: usize,
+    /// From a change of what a network keeps to the writing of its journal.
+    pub unwritten: Duration,
 }
 
 impl Limits {
@@ -110,6 +112,7 @@ impl Limits {
             reserve: 8_388_608,
             spare: 60_000,
             packets: 256,
+            unwritten: Duration::from_millis(200),
         }
     }
 
@@ -128,14 +131,15 @@ impl Limits {
         Times::new(millis(retry), millis(self.most), millis(self.gap))
     }
 
-    /// How long last lines may take. A network has no budget yet: it is begun anew if it finds no
-    /// memory.
-    pub(crate) fn terms(&self) -> Terms {
+    /// How long last lines may take, and for how many milliseconds a login waits while channels
+    /// are joined. A network has no budget yet: it is begun anew if it finds no memory.
+    pub(crate) fn terms(&self, wait: u64) -> Terms {
         Terms {
             answer: millis(self.wrong_password),
             grace: millis(self.stop / 2),
             quit: millis(self.stop / 2),
             rest: millis(self.stop / 4),
+            wait,
             budget: u64::MAX - 1,
         }
     }

@@ -4,19 +4,20 @@ ghost use Rattle.std.specs.Prelude.{◌≡◌, true};
 ghost use Rattle.history.specs.Messages.{is_capacity};
 ghost use Rattle.journal.specs.Recalls.{CanBegin};
 
-use hub_core::{Past, Setup};
+use hub_core::{Past, Profile, Setup};
 use hub_threads::{Network, Started};
 use quick_view::QuickView;
 use std::alloc::{AllocError, Global};
 pub use upstream::Link;
 
 /// A network that has received nothing, and its link. Its history keeps `history` messages of each
-/// target, and its rings hold `packets` items and as many packets; 0 counts as 1. Messages are
+/// target, those that the profile keeps, and its rings hold `packets` items and as many packets; 0 counts as 1. Messages are
 /// numbered from 1, sessions from 0. `AllocError` if an allocation fails.
 pub fn network_with_link(
     alloc: Global,
     history: usize,
     packets: usize,
+    profile: Profile,
 ) -> Result<(Network<QuickView>, Link), AllocError>
     requires { is_capacity history ≡ true }
 {
@@ -27,21 +28,22 @@ pub fn network_with_link(
         first_session: 0,
     };
     let view = QuickView::new(alloc)?;
-    linked(Network::start(alloc, view, setup, packets, packets)?)
+    linked(Network::start_by(alloc, view, setup, packets, packets, profile)?)
 }
 
-/// A network that goes on from what was before, and its link. Its rings hold `packets` items
+/// A network that goes on from what was before, by this profile, and its link. Its rings hold `packets` items
 /// and as many packets; 0 counts as 1. `AllocError` if an allocation fails.
 pub(crate) fn network_again(
     alloc: Global,
     past: Past,
     packets: usize,
+    profile: Profile,
 ) -> Result<(Network<QuickView>, Link), AllocError>
     requires { CanBegin past.history }
 {
     let packets = packets.max(1);
     let view = QuickView::new(alloc)?;
-    linked(Network::start_again(alloc, view, past, 0, packets, packets)?)
+    linked(Network::start_again(alloc, view, past, 0, packets, packets, profile)?)
 }
 
 /// A network that was started, and its link.

@@ -30,6 +30,8 @@ struct Waiting {
     lines: VecDeque<Told>,
     // how many were lost since the last line that waits
     lost: u64,
+    // how many were lost in all
+    lost_ever: u64,
     is_over: bool,
 }
 
@@ -62,14 +64,19 @@ impl Waiting {
     fn put(&mut self, text: Option<String>) {
         let text = text.filter(|_| self.lines.len() < LINES);
         if text.is_none() {
-            self.lost = self.lost.saturating_add(1);
-            return;
+            return self.lose();
         }
         let lost = self.lost;
         match self.lines.push_back(Told { lost, text }) {
             Ok(()) => self.lost = 0,
-            Err(_) => self.lost = lost.saturating_add(1),
+            Err(_) => self.lose(),
         }
+    }
+
+    /// Counts a line that is dropped.
+    fn lose(&mut self) {
+        self.lost = self.lost.saturating_add(1);
+        self.lost_ever = self.lost_ever.saturating_add(1);
     }
 
     /// Takes the next line, or how many were dropped after the last one.
@@ -94,6 +101,7 @@ impl Log {
             waiting: Mutex::new(Waiting {
                 lines: VecDeque::with_capacity(alloc, LINES)?,
                 lost: 0,
+                lost_ever: 0,
                 is_over: false,
             }),
             writer: Parker::new(),
@@ -113,6 +121,17 @@ impl Log {
         let text = format!(in self.alloc; "{now} {who}: {what}\n").ok();
         self.waiting.lock(rt).put(text);
         self.writer.unpark();
+    }
+
+    /// How many lines were dropped so far, or could not be written.
+    pub(crate) fn lost<R: Wait>(&self, rt: &R) -> u64 {
+        self.waiting.lock(rt).lost_ever
+    }
+
+    /// Counts a line that could not be written.
+    fn note_unwritten<R: Wait>(&self, rt: &R) {
+        let mut waiting = self.waiting.lock(rt);
+        waiting.lost_ever = waiting.lost_ever.saturating_add(1);
     }
 
     /// Has the thread that writes end once nothing waits.
@@ -136,7 +155,11 @@ impl Log {
     pub fn write_to<R: Wait + Clock, W: Write>(&self, rt: &R, out: &mut W) {
         for _ in rt.forever() {
             match self.next(rt) {
-                Next::Write(told) => write_told(rt, out, &told),
+                Next::Write(told) => {
+                    if !write_told(rt, out, &told) {
+                        self.note_unwritten(rt);
+                    }
+                }
                 Next::Sleep => self.writer.park(rt),
                 Next::End => {
                     self.is_written.store(true, Ordering::SeqCst);
@@ -149,15 +172,17 @@ impl Log {
 }
 
 /// Writes a line, and before it how many were lost. What can't be written is lost, and no more.
-fn write_told<R: Clock, W: Write>(rt: &R, out: &mut W, told: &Told) {
+/// Answers whether the line is written, if there is one.
+fn write_told<R: Clock, W: Write>(rt: &R, out: &mut W, told: &Told) -> bool {
     if told.lost > 0 {
         let now = now(rt);
         let now = Shown(&now);
         let lost = told.lost;
         let _ = write!(out, "{now} bnc: {lost} lines of the log were lost\n");
     }
-    if let Some(text) = &told.text {
-        let _ = out.write_all(text.as_str().as_bytes());
+    match &told.text {
+        Some(text) => out.write_all(text.as_str().as_bytes()).is_ok(),
+        None => true,
     }
 }
 

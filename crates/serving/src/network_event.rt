@@ -22,6 +22,15 @@ pub enum Ending<'a> {
         /// What its ERROR said, if it ended with one.
         said: Option<Vec<u8>>,
     },
+    /// The network did not take the nick that a registration asked for; the next asks for another one.
+    NoNick {
+        /// The nick, without the `_` that were appended.
+        nick: Vec<u8>,
+        /// Why not.
+        fault: DialFault,
+        /// What the network said of it.
+        said: Option<Vec<u8>>,
+    },
     /// The connection was lost.
     Lost {
         /// Why.
@@ -80,7 +89,7 @@ pub enum NetworkEvent<'a> {
         /// The seconds to the next dial; `None` if there is none.
         again: Option<u64>,
     },
-    /// Dials ended as the last one that was told, so often.
+    /// Dials ended this often as the last one that was logged.
     EndedAlike {
         /// How often.
         count: u64,
@@ -107,6 +116,10 @@ impl fmt::Display for Ending<'_> {
             }
             Ending::NotRegistered { fault, said } => {
                 write!(f, "not registered: {fault}{}", Parting(said.as_deref()))
+            }
+            Ending::NoNick { nick, fault, said } => {
+                let said = Parting(said.as_deref());
+                write!(f, "not registered as {}: {fault}{said}", Shown(nick))
             }
             Ending::Lost { cause, said } => {
                 write!(f, "connection lost: {cause}{}", Parting(said.as_deref()))

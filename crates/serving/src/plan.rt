@@ -52,10 +52,9 @@ impl Making<'_> {
             return Arc::try_clone(station);
         }
         let number = self.next.saturating_add(begun.len() as u64);
-        let history = self.config.history();
         let journals = Arc::try_clone(self.old.journals())?;
         let numbers = (number, label);
-        let new = Begun::new(self.alloc, who, numbers, history, self.limits, journals)?;
+        let new = Begun::new(self.alloc, who, numbers, self.config, self.limits, journals)?;
         let station = Arc::try_clone(&new.station)?;
         begun.push(new)?;
         Ok(station)

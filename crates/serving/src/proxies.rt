@@ -83,7 +83,7 @@ fn left_of<R: Clock>(rt: &R, start: Option<Instant>, time: Duration) -> Duration
 }
 
 /// A seat by the address that a proxy named, in place of that of the proxy. If there is none, the
-/// client is told so.
+/// client gets that answer.
 fn seat_by_name<R: Wait + Clock>(
     rt: &R,
     shared: &Shared,

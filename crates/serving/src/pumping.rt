@@ -3,6 +3,7 @@
 use crate::anew::{OfSettings, begin_network_anew};
 use crate::clock::SystemClock;
 use crate::host::Host;
+use crate::journaling::write_journal;
 use crate::network_event::NetworkEvent;
 use crate::reserve::Reserve;
 use crate::shared::Shared;
@@ -180,13 +181,19 @@ fn begin_by_settings<R: Host>(rt: &R, alloc: Global, shared: &Shared, station: &
         shared,
         station,
     };
+    // what its journal does not hold yet would be lost with it
+    let _ = write_journal(rt, alloc, shared, station);
     let is_begun = begin_network_anew(rt, alloc, shared, station, &start);
-    // of one that is kept the log has that already
-    if is_begun && station.journal().lock(rt).is_none() {
-        // logged now, since a line of the log needs memory too
-        shared
-            .log()
-            .tell(rt, &station.who(), &NetworkEvent::BegunAnew);
+    // logged now, since a line of the log needs memory too
+    let mut journal = station.journal().lock(rt);
+    match (*journal).as_mut() {
+        // the log has that already
+        Some(kept) => kept.note_begun_anew(shared.ticks(rt)),
+        None if is_begun => {
+            let log = shared.log();
+            log.tell(rt, &station.who(), &NetworkEvent::BegunAnew);
+        }
+        None => {}
     }
 }
 

@@ -40,6 +40,7 @@ pub(crate) fn tell_refusal<R: Wait + Clock, T: fmt::Display, U: fmt::Display>(
     who: &T,
     event: &U,
 ) {
+    shared.metrics().note_refusal();
     let now = shared.ticks(rt);
     let mut refusals = shared.refusals().lock(rt);
     let said = refusals.note(key_of(from), now);

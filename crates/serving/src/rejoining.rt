@@ -3,8 +3,10 @@
 use crate::dialling::Dialling;
 use bnc_config::NetworkConfig;
 use hub_core::LostChannel;
+use hub_threads::RingHub;
 use irc_line::{Line, MakeError};
 use net_view::is_word;
+use quick_view::QuickView;
 use std::alloc::{AllocError, Global};
 use std::io;
 use std::io::Write;
@@ -136,23 +138,38 @@ impl JoinLines {
     }
 }
 
-/// Whether the settings join this channel, without a key, by themselves.
-fn is_in_settings(settings: &NetworkConfig, channel: &LostChannel) -> bool {
+/// Whether the settings join the channel of this name by themselves.
+fn is_in_settings(settings: &NetworkConfig, name: &[u8]) -> bool {
     let mut names = settings.join().iter();
-    channel.key.is_none() && names.any(|name| name.as_bytes() == channel.name.as_slice())
+    names.any(|joined| joined.as_bytes() == name)
 }
 
-/// Adds a channel if it has a key, or if it has none, unless the settings join it.
+/// The key of a channel that we were on: the one that it had when the connection was lost, or else
+/// the one by which a client had joined it.
+fn known_key<'a>(hub: &'a RingHub<QuickView>, channel: &'a LostChannel) -> Option<&'a [u8]> {
+    match &channel.key {
+        Some(key) => Some(key.as_slice()),
+        None => hub.joined_key(&channel.name),
+    }
+}
+
+/// Adds a channel with its key that is known, or else that of the settings, if it has one, or if it has
+/// none. A channel of which no key is known is left out if the settings join it.
 fn add_lost(
     lines: &mut JoinLines,
     settings: &NetworkConfig,
-    channel: &LostChannel,
+    name: &[u8],
+    known: Option<&[u8]>,
     has_key: bool,
 ) -> Result<(), AllocError> {
-    if channel.key.is_some() != has_key || is_in_settings(settings, channel) {
+    let key = match known {
+        Some(key) => Some(key),
+        None => settings.key_of(name),
+    };
+    if key.is_some() != has_key || known.is_none() && is_in_settings(settings, name) {
         return Ok(());
     }
-    lines.add(&channel.name, channel.key.as_deref())
+    lines.add(name, key)
 }
 
 /// The JOIN lines of the channels that we were on when a connection was lost, or before a restart,
@@ -171,10 +188,12 @@ fn joins<R: Wait>(
             let Some(channel) = hub.lost_channel_at(i) else {
                 break;
             };
-            add_lost(&mut lines, settings, channel, has_key)?;
+            let key = known_key(&hub, channel);
+            add_lost(&mut lines, settings, &channel.name, key, has_key)?;
         }
         for channel in hub.recalled_channels() {
-            add_lost(&mut lines, settings, channel, has_key)?;
+            let key = channel.key.as_deref();
+            add_lost(&mut lines, settings, &channel.name, key, has_key)?;
         }
     }
     lines.finish()
@@ -192,6 +211,46 @@ pub(crate) fn all_joins<R: Wait>(
     }
     bytes.extend_from_slice(&joins(dialling, settings)?)?;
     Ok(bytes)
+}
+
+/// Adds a channel to names, if it can be asked for.
+fn push_name(
+    alloc: Global,
+    names: &mut Vec<Vec<u8>>,
+    name: &[u8],
+    key: Option<&[u8]>,
+) -> Result<(), AllocError> {
+    if !can_be_asked_for(name, key) {
+        return Ok(());
+    }
+    Ok(names.push(Vec::from_slice(alloc, name)?)?)
+}
+
+/// The names of all these channels.
+pub(crate) fn all_names<R: Wait>(
+    dialling: &Dialling<'_, R>,
+    settings: &NetworkConfig,
+) -> Result<Vec<Vec<u8>>, AllocError> {
+    let alloc = dialling.alloc;
+    let mut names = Vec::new(alloc);
+    for list in settings.join() {
+        for name in list.as_bytes().split(|byte| *byte == b',') {
+            push_name(alloc, &mut names, name, None)?;
+        }
+    }
+    let Some(network) = dialling.station.slot().network(dialling.rt) else {
+        return Ok(names);
+    };
+    let hub = network.lock(dialling.rt);
+    for i in 0..hub.lost_channel_count() {
+        if let Some(channel) = hub.lost_channel_at(i) {
+            push_name(alloc, &mut names, &channel.name, known_key(&hub, channel))?;
+        }
+    }
+    for channel in hub.recalled_channels() {
+        push_name(alloc, &mut names, &channel.name, channel.key.as_deref())?;
+    }
+    Ok(names)
 }
 
 /// Asks a network for the channels that we were on when a connection was lost, or before a restart,

@@ -7,7 +7,7 @@ use crate::shared::Shared;
 use crate::starting::start_network;
 use crate::station::Begun;
 use crate::stopping::REST;
-use bnc_config::{Config, Text};
+use bnc_config::{Config, MessagesConfig, PlaybackConfig, Text};
 use std::alloc::{AllocError, Global};
 use std::net::{Net, TcpListener, TcpStream};
 use std::rt::Clock;
@@ -36,7 +36,7 @@ const EMPTY: &str = "the file has no network; `reload empty` leaves all of them"
 
 /// Starts the threads of networks that are new. The log tells of one for which there are none; the
 /// next reload begins it once more.
-fn start_all<R: Host + Net<Listener = TcpListener, Stream = TcpStream>>(
+fn start_each<R: Host + Net<Listener = TcpListener, Stream = TcpStream>>(
     rt: R,
     alloc: Global,
     shared: &Arc<Shared>,
@@ -46,6 +46,29 @@ fn start_all<R: Host + Net<Listener = TcpListener, Stream = TcpStream>>(
         // the threads run on by themselves
         let mut threads = Vec::new(alloc);
         let _ = start_network(rt, alloc, shared, one, &mut threads);
+    }
+}
+
+/// The same; in a thread of its own if networks are kept, since a disk may take long, or hang.
+fn start_all<R: Host + Net<Listener = TcpListener, Stream = TcpStream>>(
+    rt: R,
+    alloc: Global,
+    shared: &Arc<Shared>,
+    begun: Vec<Begun>,
+) {
+    if begun.is_empty() || shared.journals().folder().is_none() {
+        return start_each(rt, alloc, shared, begun);
+    }
+    let Ok(theirs) = Arc::try_clone(shared) else {
+        return start_each(rt, alloc, shared, begun);
+    };
+    let start = move || {
+        let begun = begun;
+        start_each(rt, alloc, &theirs, begun)
+    };
+    if let Err(refused) = thread::spawn(&rt, start) {
+        let start = refused.value;
+        start();
     }
 }
 
@@ -91,29 +114,43 @@ fn has_same_proxies(old: &Config, new: &Config) -> bool {
     }
 }
 
+/// Whether the same is kept.
+fn keep_the_same(old: &MessagesConfig, new: &MessagesConfig) -> bool {
+    old.ctcp() == new.ctcp()
+        && old.server_notices() == new.server_notices()
+        && are_same(old.never(), new.never())
+        && old.to_self() == new.to_self()
+        && old.by_person() == new.by_person()
+}
+
+/// Whether it is played back alike.
+fn play_alike(old: &PlaybackConfig, new: &PlaybackConfig) -> bool {
+    old.private_batches() == new.private_batches()
+        && old.times() == new.times()
+        && old.visits() == new.visits()
+        && old.wait() == new.wait()
+}
+
 /// Logs which settings go by what they were at the start.
 fn tell_restarts<R: Wait + Clock>(rt: &R, shared: &Shared, old: &Config, new: &Config) {
-    let log = shared.log();
-    if !are_same(old.listens(), new.listens()) {
-        log.tell(rt, &"bnc", &ControlEvent::NeedsRestart { key: "listen" });
-    }
-    if !are_same(old.listen_proxy(), new.listen_proxy()) {
-        log.tell(
-            rt,
-            &"bnc",
-            &ControlEvent::NeedsRestart {
-                key: "listen_proxy",
-            },
-        );
-    }
-    if !has_same_proxies(old, new) {
-        log.tell(rt, &"bnc", &ControlEvent::NeedsRestart { key: "proxies" });
-    }
-    if old.history() != new.history() {
-        log.tell(rt, &"bnc", &ControlEvent::NeedsRestart { key: "history" });
-    }
-    if old.kept() != new.kept() {
-        log.tell(rt, &"bnc", &ControlEvent::NeedsRestart { key: "kept" });
+    let keys = [
+        ("listen", are_same(old.listens(), new.listens())),
+        (
+            "listen_proxy",
+            are_same(old.listen_proxy(), new.listen_proxy()),
+        ),
+        ("proxies", has_same_proxies(old, new)),
+        ("history", old.history() == new.history()),
+        ("kept", old.kept() == new.kept()),
+        ("metrics", old.metrics() == new.metrics()),
+        ("messages", keep_the_same(old.messages(), new.messages())),
+        ("playback", play_alike(old.playback(), new.playback())),
+    ];
+    for (key, is_same) in &keys {
+        if !is_same {
+            let event = ControlEvent::NeedsRestart { key: *key };
+            shared.log().tell(rt, &"bnc", &event);
+        }
     }
 }
 

@@ -10,7 +10,7 @@ use std::sync::Arc;
 use std::time::Duration;
 
 /// The settings in force, and the networks that they name. When the settings are read again, another
-/// roster replaces this one; a client that logs in keeps the one with which it began.
+/// roster replaces this one.
 #[derive(Drop)]
 pub struct Roster {
     config: Arc<Config>,
@@ -78,7 +78,7 @@ impl Roster {
 
     /// The network that a client claims; `None` if its password is wrong, or the settings have no such
     /// user or network.
-    pub(crate) fn admitted(&self, claim: &Claim) -> Option<&Station> {
+    pub(crate) fn admitted(&self, claim: &Claim) -> Option<&Arc<Station>> {
         let place = admitted(&self.config, claim)?;
         for (other, station) in &self.networks {
             if *other == place {

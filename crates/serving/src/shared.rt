@@ -4,6 +4,7 @@ use crate::helm::Helm;
 use crate::journals::Journals;
 use crate::limits::Limits;
 use crate::log::Log;
+use crate::metrics::Metrics;
 use crate::plan::Plan;
 use crate::refusals::{ADDRESSES, PAUSE};
 use crate::reserve::Reserve;
@@ -27,10 +28,13 @@ pub struct Shared {
     limits: Limits,
     log: Log,
     journals: Arc<Journals>,
+    metrics: Metrics,
     // what the networks that take little go on with
     reserve: Reserve,
     // how many networks are still dialled
     dialled: AtomicU64,
+    // for how many milliseconds a login waits while channels are joined
+    wait: u64,
 }
 
 impl Shared {
@@ -54,9 +58,10 @@ impl Shared {
         journals: Journals,
     ) -> Result<(Shared, Vec<Begun>), AllocError> {
         let config = Arc::new(alloc, config)?;
+        let wait = config.playback().wait().saturating_mul(1_000);
         let journals = Arc::new(alloc, journals)?;
         let ours = Arc::try_clone(&journals)?;
-        let mut helm = Helm::new(alloc, Arc::try_clone(&config)?, &limits, ours)?;
+        let mut helm = Helm::new(alloc, Arc::try_clone(&config)?, &limits, wait, ours)?;
         let wanted = helm.wanted(alloc, &config)?;
         let next = helm.next_network();
         let mut plan = Plan::new(alloc, helm.roster(), config, wanted, next, &limits)?;
@@ -68,11 +73,21 @@ impl Shared {
             limits,
             log: Log::new(alloc)?,
             journals,
+            metrics: Metrics::new(None),
             reserve: Reserve::new(alloc, limits.reserve),
             dialled: AtomicU64::new(0),
+            wait,
         };
         let Plan { begun, .. } = plan;
         Ok((shared, begun))
+    }
+
+    /// The same with figures for the file at this path, if there is one.
+    pub fn with_metrics(self, path: Option<String>) -> Shared {
+        Shared {
+            metrics: Metrics::new(path),
+            ..self
+        }
     }
 
     /// What is decided, and what its numbers stand for. While its lock is held nothing waits, and no
@@ -112,6 +127,17 @@ impl Shared {
     /// Where journals are kept.
     pub(crate) fn journals(&self) -> &Arc<Journals> {
         &self.journals
+    }
+
+    /// Where figures are written, and what is counted for them.
+    pub(crate) fn metrics(&self) -> &Metrics {
+        &self.metrics
+    }
+
+    /// For how many milliseconds after the end of a network's greeting a login waits while channels are
+    /// joined. 0: it does not.
+    pub(crate) fn wait(&self) -> u64 {
+        self.wait
     }
 
     /// How many connections wait for their login.

@@ -6,8 +6,10 @@ use crate::dialling::Dialling;
 use crate::host::Host;
 use crate::journaling::{keep_journals, recall_network};
 use crate::log::StandardError;
+use crate::metrics::keep_metrics;
 use crate::network_event::NetworkEvent;
 use crate::proxies::Proxies;
+use crate::publishing::Publish;
 use crate::pumping::keep_pumping;
 use crate::shared::Shared;
 use crate::station::Begun;
@@ -77,10 +79,11 @@ pub(crate) fn start_network<R: Host + Net<Listener = TcpListener, Stream = TcpSt
 ) -> Result<(), AllocError> {
     let station = Arc::try_clone(&begun.station)?;
     shared.dials_one_more();
-    let started = recall_network(&rt, alloc, shared, &station).and_then(|_| start_threads(
-        rt, alloc, shared, begun, threads,
-    ));
+    recall_network(&rt, alloc, shared, &station);
+    let started = start_threads(rt, alloc, shared, begun, threads);
     if started.is_err() {
+        // another network of its names may have the file
+        *station.journal().lock(&rt) = None;
         shared.dials_no_more();
         let network = station.number();
         let _ = shared.decide(&rt, Event::Unstarted { network });
@@ -120,6 +123,23 @@ pub fn start_journals<R: Host>(
     }
     let theirs = Arc::try_clone(shared)?;
     match small_thread().spawn(&rt, move || keep_journals(&rt, alloc, &theirs)) {
+        Ok(thread) => Ok(Some(thread)),
+        Err(_) => Err(AllocError),
+    }
+}
+
+/// Starts the thread that writes the figures, if there is a file for them. `AllocError` if memory is
+/// refused or no thread can be started.
+pub fn start_metrics<R: Host + Publish>(
+    rt: R,
+    alloc: Global,
+    shared: &Arc<Shared>,
+) -> Result<Option<JoinHandle<()>>, AllocError> {
+    if shared.metrics().path().is_none() {
+        return Ok(None);
+    }
+    let theirs = Arc::try_clone(shared)?;
+    match small_thread().spawn(&rt, move || keep_metrics(&rt, alloc, &theirs)) {
         Ok(thread) => Ok(Some(thread)),
         Err(_) => Err(AllocError),
     }

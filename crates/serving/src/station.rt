@@ -1,20 +1,21 @@
 //! A network that is served, by its names, until the settings have it no more.
 
-ghost use Rattle.std.specs.Prelude.{◌≡◌, true};
-ghost use Rattle.history.specs.Messages.{is_capacity};
-
+use crate::joining::Joining;
 use crate::journals::Journals;
 use crate::kept_journal::KeptJournal;
 use crate::limits::Limits;
 use crate::link::{Link, network_with_link};
+use crate::profiles::profile_of;
 use crate::shown::Who;
 use crate::slot::Slot;
+use bnc_config::Config;
 use quick_view::QuickView;
-use shell::{Pace, Repeats};
+use shell::{NickTries, Pace, Repeats};
 use std::alloc::{AllocError, Global};
 use std::sync::{Arc, Mutex, Wait};
 use std::thread::Parker;
 use std::time::Duration;
+use steward::Channels;
 
 /// A network that is served. It is known by its user's name and its own, and stays the same while
 /// its settings change.
@@ -28,10 +29,14 @@ pub struct Station {
     slot: Slot<QuickView>,
     // what keeps it over a restart, if it is kept
     journal: Mutex<Option<KeptJournal>>,
+    // the channels that are joined after the registration
+    joining: Mutex<Joining>,
     // at which its clients may speak, all together
     pace: Pace,
     // how the last dial ended, and how often others ended alike after it
     repeats: Mutex<Repeats>,
+    // how often in succession the nick of a registration was not taken
+    nick_tries: Mutex<NickTries>,
     // on which the thread that dials rests
     bed: Parker,
 }
@@ -44,19 +49,18 @@ pub struct Begun {
 }
 
 impl Begun {
-    /// A network of this number and these names that has received nothing. Its history keeps
-    /// `history` messages of each target.
+    /// A network of this number and these names that has received nothing, by these settings.
     pub(crate) fn new(
         alloc: Global,
         who: Who<'_>,
         numbers: (u64, u64),
-        history: usize,
+        config: &Config,
         limits: &Limits,
         journals: Arc<Journals>,
-    ) -> Result<Begun, AllocError>
-        requires { is_capacity history ≡ true }
-    {
-        let (hub, link) = network_with_link(alloc, history, limits.packets)?;
+    ) -> Result<Begun, AllocError> {
+        let profile = profile_of(alloc, config)?;
+        let history = config.history();
+        let (hub, link) = network_with_link(alloc, history, limits.packets, profile)?;
         let (number, label) = numbers;
         let station = Station {
             user: Vec::from_slice(alloc, who.user)?,
@@ -65,8 +69,10 @@ impl Begun {
             label,
             slot: Slot::new(alloc, hub)?.with_journals(journals),
             journal: Mutex::new(None),
+            joining: Mutex::new(Joining::new(alloc)),
             pace: Pace::new(limits.burst, limits.pace),
             repeats: Mutex::new(Repeats::new()),
+            nick_tries: Mutex::new(NickTries::new()),
             bed: Parker::new(),
         };
         Ok(Begun {
@@ -106,6 +112,23 @@ impl Station {
         &self.journal
     }
 
+    /// The channels that are joined after the registration. Who holds the hub's lock does not take it.
+    pub(crate) fn joining(&self) -> &Mutex<Joining> {
+        &self.joining
+    }
+
+    /// How far these channels are at this time.
+    pub(crate) fn channels<R: Wait>(&self, rt: &R, now: u64) -> Channels {
+        let mut joining = self.joining.lock(rt);
+        if !joining.is_open(now) {
+            return joining.channels(now);
+        }
+        if let Some(network) = self.slot.network(rt) {
+            joining.leave_out(network.lock(rt).view());
+        }
+        joining.channels(now)
+    }
+
     /// At which pace its clients may speak, all together.
     pub(crate) fn pace(&self) -> &Pace {
         &self.pace
@@ -114,6 +137,11 @@ impl Station {
     /// How the last dial ended, and how often others ended alike after it.
     pub(crate) fn repeats(&self) -> &Mutex<Repeats> {
         &self.repeats
+    }
+
+    /// How often in succession the nick of a registration was not taken.
+    pub(crate) fn nick_tries(&self) -> &Mutex<NickTries> {
+        &self.nick_tries
     }
 
     /// Rests, for so long or until it is woken.

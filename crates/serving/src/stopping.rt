@@ -2,9 +2,10 @@
 
 use crate::control_event::ControlEvent;
 use crate::host::Host;
-use crate::journaling::write_journals;
+use crate::journal_event::JournalEvent;
 use crate::log::Log;
 use crate::shared::Shared;
+use crate::station::Station;
 use std::alloc::Global;
 use std::net::TcpListener;
 use std::rt::Clock;
@@ -35,14 +36,64 @@ fn give_orders<R: Wait + Clock>(rt: &R, shared: &Shared) {
     unreachable!()
 }
 
+/// Whether so much time has gone by since a moment.
+fn is_past<R: Clock>(rt: &R, start: Instant, time: Duration) -> bool {
+    match start.elapsed(rt) {
+        Ok(passed) => passed >= time,
+        Err(_) => true,
+    }
+}
+
+/// Whether what is left for a network's journal is still to be written, or is written just now.
+fn is_unwritten(station: &Station) -> bool {
+    match station.journal().try_lock() {
+        Some(journal) => match &*journal {
+            Some(kept) => !kept.is_done(),
+            None => false,
+        },
+        None => true,
+    }
+}
+
+/// Waits until what is left for a network's journal is written, or so much time has gone by since a
+/// moment; whether it is written.
+fn waits_for_journal<R: Wait + Clock>(
+    rt: &R,
+    station: &Station,
+    start: Instant,
+    time: Duration,
+) -> bool {
+    for _ in rt.forever() {
+        if !is_unwritten(station) {
+            return true;
+        }
+        if is_past(rt, start, time) {
+            return false;
+        }
+        thread::sleep(rt, Duration::from_millis(REST));
+    }
+    unreachable!()
+}
+
+/// Has what is left for the journals written, and waits for that until so much time has gone by since
+/// a moment, since a disk may hang. The log tells of each network of which not all is written then.
+fn end_journals<R: Wait + Clock>(rt: &R, shared: &Shared, start: Instant, time: Duration) {
+    shared.journals().end();
+    let Ok(roster) = shared.roster(rt) else {
+        return;
+    };
+    for (_, station) in roster.networks() {
+        if !waits_for_journal(rt, station, start, time) {
+            let log = shared.log();
+            log.tell(rt, &station.who(), &JournalEvent::Unwritten);
+        }
+    }
+}
+
 /// Waits until the log is written out, or so much time has gone by since a moment.
 fn wait_for_log<R: Wait + Clock>(rt: &R, log: &Log, start: Instant, time: Duration) {
     for _ in rt.forever() {
-        let is_over = match start.elapsed(rt) {
-            Ok(passed) => passed >= time,
-            Err(_) => true,
-        };
-        if is_over || log.is_written() {
+        if is_past(rt, start, time) || log.is_written() {
             return;
         }
         thread::sleep(rt, Duration::from_millis(REST));
@@ -52,15 +103,17 @@ fn wait_for_log<R: Wait + Clock>(rt: &R, log: &Log, start: Instant, time: Durati
 
 /// Ends the service: each client is sent `ERROR :bnc stops` after what waits for it, also one that
 /// logs in, then each network `QUIT :bnc stops`, and the journals and the log are written out. It
-/// takes no longer than the limits say; who has not taken all by then gets no more.
-pub fn stop<R: Host>(rt: &R, alloc: Global, shared: &Shared) {
+/// takes no longer than the limits say; who has not taken all by then gets no more, and the log tells
+/// of a journal that is not written by a sixteenth of that time before.
+pub fn stop<R: Host>(rt: &R, _alloc: Global, shared: &Shared) {
     let Ok(start) = Instant::now(rt) else {
         return;
     };
     shared.begin_stop(rt);
     shared.log().tell(rt, &"bnc", &ControlEvent::Stops);
     give_orders(rt, shared);
-    write_journals(rt, alloc, shared);
+    let time = shared.limits().stop;
+    end_journals(rt, shared, start, time.saturating_sub(time / 16));
     shared.log().end(rt);
-    wait_for_log(rt, shared.log(), start, shared.limits().stop);
+    wait_for_log(rt, shared.log(), start, time);
 }

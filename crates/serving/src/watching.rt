@@ -7,6 +7,7 @@ use crate::claimed::Claimed;
 use crate::client_input::{ClientInput, Others, unsaid};
 use crate::connection::Farewell;
 use crate::guest::{Guest, LastLine};
+use crate::judging::{Judged, TurnedAway};
 use crate::session_event::SessionEvent;
 use crate::station::Station;
 use client_caps::Caps;
@@ -18,17 +19,14 @@ use sessions::{Claim, Leave, LoginFault, OutOfMemory, Refusal, Served, Watcher};
 use shell::Count;
 use std::io::{Read, Write};
 use std::rt::Clock;
+use std::sync::atomic::{AtomicBool, Ordering};
 use std::sync::{Arc, Wait};
-use steward::{Answer, Why};
 
 /// Why a login was over whose seat another took.
 const GAVE_WAY: &str = "gave way, too many connections";
 
 /// What a client is sent whose time for a login is up, and that sent no PASS.
 const SEND_PASS: &[u8] = b"ERROR :send PASS user@client/network:password\r\n";
-
-/// What a client is sent whose login was complete after the settings had changed.
-const OUTDATED: &[u8] = b"ERROR :settings changed, log in again\r\n";
 
 /// What a client is sent whose login was complete only after the service had begun to end.
 const STOPS: &[u8] = b"ERROR :bnc stops\r\n";
@@ -65,30 +63,6 @@ fn is_whole<W: Write>(served: &Result<Served<W>, OutOfMemory>) -> bool {
     }
 }
 
-/// Why a client whose login is complete is not served, and gets no answer from `serve_session`.
-#[derive(Clone, Copy, PartialEq, Eq)]
-enum TurnedAway {
-    /// There is no memory for the names that it claims.
-    NoMemory,
-    /// The settings have changed since it began to log in.
-    Outdated,
-    /// Its password is wrong, and as many wait for an answer as may.
-    Wrong,
-    /// It was closed before, or the service ends.
-    Closed,
-}
-
-/// What was decided about a client whose login is complete.
-#[derive(Clone, Copy)]
-enum Judged<'a> {
-    /// It is let in to this network.
-    LetIn(&'a Station),
-    /// It is not let in, for this reason.
-    Refused(AttachError),
-    /// Its password is wrong, and it is answered at this time.
-    Wrong(u64),
-}
-
 /// Watches one client.
 #[derive(Drop)]
 pub(crate) struct Watching<'a, R: Wait + Clock + Copy + Drop> {
@@ -97,9 +71,6 @@ pub(crate) struct Watching<'a, R: Wait + Clock + Copy + Drop> {
     count: Count,
     // whom the client claims to be
     claimed: Option<Claimed>,
-    judged: Option<Judged<'a>>,
-    // its password is right, and its user has no network of the name
-    lacks_network: bool,
     // why it is not served although its login is complete
     turned_away: Option<TurnedAway>,
     // why it has no session
@@ -109,6 +80,8 @@ pub(crate) struct Watching<'a, R: Wait + Clock + Copy + Drop> {
     // why its session ended
     why: Option<Leave>,
     session: Option<SessionId>,
+    // whether its capabilities were changed, as what reads it asks
+    changed: Option<Arc<AtomicBool>>,
 }
 
 impl<'a, R: Wait + Clock + Copy + Drop> Watching<'a, R> {
@@ -118,13 +91,12 @@ impl<'a, R: Wait + Clock + Copy + Drop> Watching<'a, R> {
             guest,
             count,
             claimed: None,
-            judged: None,
-            lacks_network: false,
             turned_away: None,
             refusal: None,
             last: None,
             why: None,
             session: None,
+            changed: None,
         }
     }
 
@@ -139,7 +111,8 @@ impl<'a, R: Wait + Clock + Copy + Drop> Watching<'a, R> {
     /// Logs that its password was wrong, or that its user has no such network.
     fn tell_wrong(&self) {
         if let Some(claimed) = &self.claimed {
-            self.guest.tell_wrong(claimed.who(), self.lacks_network);
+            self.guest
+                .tell_wrong(claimed.who(), self.guest.decision.lacks_network());
         }
     }
 
@@ -155,63 +128,68 @@ impl<'a, R: Wait + Clock + Copy + Drop> Watching<'a, R> {
         last
     }
 
-    /// Asks what becomes of a login that claims this; answers why it is turned away, if it is.
-    fn judge(&mut self, claim: &Claim) -> Option<TurnedAway>
+    /// Notes who logs in by this claim, which was judged; answers why it is turned away, if it is.
+    fn note(&mut self, claim: &Claim) -> Option<TurnedAway>
         ensures { self.new.session ≡ self.old.session }
     {
         let Ok(claimed) = Claimed::of(self.guest.alloc, claim) else {
             return Some(TurnedAway::NoMemory);
         };
         self.claimed = Some(claimed);
-        let station = self.guest.roster.admitted(claim);
-        self.lacks_network = self.guest.roster.lacks_network_of(claim);
-        let judged = match (self.guest.judge(station), station) {
-            (Answer::LetIn { .. }, Some(station)) => Judged::LetIn(station),
-            (Answer::AnswerAt { time, .. }, _) => Judged::Wrong(time),
-            (Answer::Tell { why: Why::Full, .. }, _) => Judged::Refused(AttachError::Full),
-            (Answer::Tell { .. }, _) => Judged::Refused(AttachError::NotReady),
-            (Answer::JudgeAgain, _) => return Some(TurnedAway::Outdated),
-            (Answer::Drop { .. }, _) => return Some(TurnedAway::Wrong),
-            _ => return Some(TurnedAway::Closed),
-        };
-        if matches!(judged, Judged::Refused(_)) {
-            self.last = Some(LastLine::Own);
+        match self.guest.decision.judged() {
+            Some(Judged::TurnedAway(why)) => Some(*why),
+            Some(Judged::Refused(_, _)) => {
+                self.last = Some(LastLine::Own);
+                None
+            }
+            _ => None,
         }
-        self.judged = Some(judged);
-        None
     }
 
     /// The network that the client is let in to, at the pace of its clients.
-    fn enter(&self, reader: &mut ClientInput<'a, R>) -> Result<Arc<Network<QuickView>>, AttachError>
-        ensures { ⟦<ClientInput<'a, R> as Read>⟧.remaining reader.new
+    fn enter(
+        &mut self,
+        reader: &mut ClientInput<'a, R>,
+    ) -> Result<Arc<Network<QuickView>>, AttachError>
+        ensures kept { ⟦<ClientInput<'a, R> as Read>⟧.remaining reader.new
             ≡ ⟦<ClientInput<'a, R> as Read>⟧.remaining reader.old }
+        ensures session { self.new.session ≡ self.old.session }
     {
-        let station = match self.judged {
+        let decision = self.guest.decision;
+        let station = match decision.judged() {
             Some(Judged::LetIn(station)) => station,
-            Some(Judged::Refused(error)) => return Err(error),
-            Some(Judged::Wrong(_)) | None => return Err(AttachError::NotReady),
+            Some(Judged::Refused(_, error)) => return Err(*error),
+            Some(Judged::Wrong(_) | Judged::TurnedAway(_)) | None => {
+                return Err(AttachError::NotReady);
+            }
         };
+        if !self.guest.waits_for_channels(station) {
+            // it ends as a session
+            self.why = Some(Leave::EndOfInput);
+            return Err(AttachError::NotReady);
+        }
         let network = station.slot().network(self.guest.rt);
         let network = network.ok_or(AttachError::OutOfMemory)?;
         if self.guest.set_timeouts().is_err() {
             return Err(AttachError::OutOfMemory);
         }
+        let Ok(changed) = Arc::new(self.guest.alloc, AtomicBool::new(false)) else {
+            return Err(AttachError::OutOfMemory);
+        };
         let others = Others {
             rt: self.guest.rt,
             network: Arc::try_clone(&network)?,
+            changed: Arc::try_clone(&changed)?,
         };
+        self.changed = Some(changed);
         reader.begin_session(others, station.pace());
         self.count.begin();
         Ok(network)
     }
 
-    /// Why a login ended to which no other thread wrote a last line: PASS is missing, the settings
-    /// have changed since it began, or the service ends.
+    /// Why a login ended to which no other thread wrote a last line: PASS is missing, or the service
+    /// ends.
     fn cause_of_no_login(&self, input: &ClientInput<'a, R>) -> Option<&'static str> {
-        if self.turned_away == Some(TurnedAway::Outdated) {
-            self.guest.say(OUTDATED);
-            return Some("the settings changed meanwhile");
-        }
         if self.turned_away == Some(TurnedAway::Closed) {
             self.guest.say(STOPS);
             return Some(Farewell::Stops.text());
@@ -266,8 +244,20 @@ impl<'a, R: Wait + Clock + Copy + Drop> Watching<'a, R> {
         }
     }
 
+    /// Logs how the session of a client ended that had waited for it.
+    fn tell_waited(&self, last: LastLine) {
+        self.tell(&SessionEvent::Ended {
+            cause: self.cause_of_end(last),
+            whole: true,
+            bytes: self.count.so_far(),
+        });
+    }
+
     /// Logs how a session ended.
     fn tell_ended<W: Write>(&self, ended: &Ended<W>, last: LastLine) {
+        if self.why == Some(Leave::Cut) {
+            self.guest.shared.metrics().note_cut();
+        }
         self.tell(&SessionEvent::Ended {
             cause: self.cause_of_end(last),
             whole: ended.written.is_ok(),
@@ -291,9 +281,14 @@ impl<'a, R: Wait + Clock + Copy + Drop> Watching<'a, R> {
         let last = watching.last_line();
         match served {
             Ok(Served::NoLogin) => watching.end_login(input, last),
-            Ok(Served::Refused(error)) => watching.tell(&SessionEvent::NotAttached(*error)),
+            Ok(Served::Refused(_)) if watching.why.is_some() => watching.tell_waited(last),
+            Ok(Served::Refused(error)) => {
+                watching.guest.shared.metrics().note_refusal();
+                watching.tell(&SessionEvent::NotAttached(*error))
+            }
             Ok(Served::Cut) => {
                 let bytes = watching.count.so_far();
+                watching.guest.shared.metrics().note_cut();
                 watching.tell(&SessionEvent::Cut { bytes });
                 watching.tell_unsaid(input);
             }
@@ -301,7 +296,9 @@ impl<'a, R: Wait + Clock + Copy + Drop> Watching<'a, R> {
                 watching.tell_ended(ended, last);
                 watching.tell_unsaid(input);
             }
-            Err(_) if watching.judged.is_some() => watching.tell(&SessionEvent::NoMeans),
+            Err(_) if watching.guest.decision.judged().is_some() => watching.tell(
+                &SessionEvent::NoMeans,
+            ),
             Err(_) => watching.guest.tell_no_login("out of memory"),
         }
     }
@@ -315,7 +312,7 @@ impl<'a, R: Wait + Clock + Copy + Drop> Watcher<QuickView, Arc<Station>, ClientI
     ghost session = { λ w. w.session };
 
     fn logged_in(&mut self, claim: &Claim) -> bool {
-        self.turned_away = self.judge(claim);
+        self.turned_away = self.note(claim);
         if self.turned_away == Some(TurnedAway::Wrong) {
             self.tell_wrong();
         }
@@ -342,9 +339,12 @@ impl<'a, R: Wait + Clock + Copy + Drop> Watcher<QuickView, Arc<Station>, ClientI
 
     fn refused(&mut self, refusal: Refusal) {
         self.refusal = Some(refusal);
-        if let (Refusal::Denied, Some(Judged::Wrong(time))) = (refusal, self.judged) {
+        if let (Refusal::Denied, Some(Judged::Wrong(time))) = (
+            refusal,
+            self.guest.decision.judged(),
+        ) {
             self.tell_wrong();
-            self.guest.wait_until(time);
+            self.guest.wait_until(*time);
         }
         if let Refusal::Denied | Refusal::NotAttached(_) = refusal {
             // the reason is sent after this, if the last line is this thread's own
@@ -358,6 +358,9 @@ impl<'a, R: Wait + Clock + Copy + Drop> Watcher<QuickView, Arc<Station>, ClientI
     }
 
     fn caps_changed(&mut self, caps: Caps) {
+        if let Some(changed) = &self.changed {
+            changed.store(true, Ordering::SeqCst);
+        }
         self.tell(&SessionEvent::CapsChanged { caps });
     }
 

@@ -22,8 +22,7 @@ use Rattle.sessions.specs.declared.serving.Served.{Served}
 use Rattle.sessions.specs.declared.serving.Served.TheVariants as served
 
 -- A client came in: it logged in over its streams, and what it claims is let in.
-pub record CameIn (settings : Settings) (places : List Place) (began was : Option (List ℕ))
-    : Type 0 where
+pub record CameIn (lets_in : ClaimParts → Type 0) (began was : Option (List ℕ)) : Type 0 where
   pub claim : Claim
   -- what is left to read and was written by then, and what was read and not yet taken
   pub left : Option (List ℕ)
@@ -31,7 +30,7 @@ pub record CameIn (settings : Settings) (places : List Place) (began was : Optio
   pub lines : List Parts
   pub splitter : Pending
   pub login : LogsIn began left was now (Claims claim) lines splitter
-  pub let_in : IsLetIn settings places (parts_of claim)
+  pub let_in : lets_in (parts_of claim)
 
 -- A login failed for this cause, of which these bytes were read.
 pub record Failed (began left : Option (List ℕ)) : Type 0 where
@@ -42,29 +41,28 @@ pub record Failed (began left : Option (List ℕ)) : Type 0 where
   pub not_memory : fault ≢ Memory
 
 -- why a login that ended so gives no session: it was closed; or the watcher turned its client away,
--- or it is not let in
-abbrev pub IsNoWayIn : (ClaimParts → Type 0) → Settings → List Place → Ending → Type 0
-IsNoWayIn turns_away settings places Closes = Unit {0}
-IsNoWayIn turns_away settings places (Claims claim) =
-    turns_away (parts_of claim) ⊎ (IsLetIn settings places (parts_of claim) → ⊥)
+-- or what it claims is denied
+abbrev pub IsNoWayIn : (ClaimParts → Type 0) → (ClaimParts → Type 0) → Ending → Type 0
+IsNoWayIn turns_away denies Closes = Unit {0}
+IsNoWayIn turns_away denies (Claims claim) = turns_away (parts_of claim) ⊎ denies (parts_of claim)
 
 -- A login ended, and gives no session. All that was read is its own.
-pub record GotNoWayIn (turns_away : ClaimParts → Type 0) (settings : Settings) (places : List Place)
-    (began left was : Option (List ℕ)) : Type 0 where
+pub record GotNoWayIn (turns_away denies : ClaimParts → Type 0) (began left was : Option (List ℕ))
+    : Type 0 where
   pub ending : Ending
   pub now : Option (List ℕ)
   pub lines : List Parts
   pub splitter : Pending
   pub login : LogsIn began left was now ending lines splitter
-  pub why : IsNoWayIn turns_away settings places ending
+  pub why : IsNoWayIn turns_away denies ending
 
 module _ {W : Type 0} {g : Ghosts W} (contents : W → Option (List ℕ))
-    (turns_away : ClaimParts → Type 0) (session : Option ℕ) (settings : Settings)
-    (places : List Place) (began left was : Option (List ℕ)) where
+    (turns_away : ClaimParts → Type 0) (session : Option ℕ) (lets_in denies : ClaimParts → Type 0)
+    (began left was : Option (List ℕ)) where
   -- A client came in, and had a session: what it said after its login was heard until it left, and
   -- its writer wrote behind what its login was sent.
   pub record HadSession (e : Ended W g) : Type 0 where
-    pub came : CameIn settings places began was
+    pub came : CameIn lets_in began was
     pub why : Leave
     pub heard : WasHeard came.splitter came.lines came.left left why
     -- of this number, which its watcher was given
@@ -72,11 +70,20 @@ module _ {W : Type 0} {g : Ghosts W} (contents : W → Option (List ℕ))
     pub given : session ≡ Some id
     pub ended : HasEnded id e.token e.fresh (items_of e.end) came.now (contents e.out) e.written
 
-  -- Nobody has a session, or is refused one, but who came in; and who logged in and is let in has
+  -- Nobody has a session, or is refused one, but who came in; and who logged in and is not denied has
   -- one or is refused one, if the watcher has not turned the client away.
-  abbrev pub IsServed : Served W g → Type 0
-  IsServed served.NoLogin =
-      Failed began left ⊎ GotNoWayIn turns_away settings places began left was
-  IsServed (served.Refused e) = CameIn settings places began was
-  IsServed served.Cut = CameIn settings places began was
-  IsServed (served.Ended e) = HadSession e
+  abbrev pub IsServedBy : Served W g → Type 0
+  IsServedBy served.NoLogin =
+      Failed began left ⊎ GotNoWayIn turns_away denies began left was
+  IsServedBy (served.Refused e) = CameIn lets_in began was
+  IsServedBy served.Cut = CameIn lets_in began was
+  IsServedBy (served.Ended e) = HadSession e
+
+-- The same by settings, and by the places of the networks that are served: who is let in by these is
+-- let in, and everybody else is denied.
+abbrev pub IsServed : {W : Type 0} {g : Ghosts W} → (W → Option (List ℕ)) → (ClaimParts → Type 0)
+    → Option ℕ → Settings → List Place → Option (List ℕ) → Option (List ℕ) → Option (List ℕ)
+    → Served W g → Type 0
+IsServed contents turns_away session settings places =
+    IsServedBy contents turns_away session (IsLetIn settings places)
+    (λ claim. IsLetIn settings places claim → ⊥)

@@ -34,9 +34,9 @@ pub enum Ending {
 /// What was read of a client and is still to be taken.
 #[derive(Drop)]
 pub struct Unread {
-    /// The splitter, with the bytes behind the last line.
+    /// The splitter, with the bytes after the last line.
     pub splitter: Splitter,
-    /// The lines behind those that were taken, in order.
+    /// The lines after those that were taken, in order.
     pub lines: Vec<Line>,
 }
 
@@ -45,7 +45,7 @@ pub struct Unread {
 pub struct LoggedIn {
     /// How.
     pub ending: Ending,
-    /// What was read behind its last line.
+    /// What was read after its last line.
     pub unread: Unread,
 }
 
@@ -110,7 +110,7 @@ fn take_lines<W: Write>(
     Ok(None)
 }
 
-/// Leaves the lines behind a place.
+/// Leaves the lines after a place.
 fn leave_behind(lines: &mut Vec<Line>, place: usize)
     requires { place < length lines.old.items }
     ensures { lines.new.items ≡ drop (place + 1) lines.old.items }
@@ -125,7 +125,7 @@ fn leave_behind(lines: &mut Vec<Line>, place: usize)
 struct LastLine {
     /// How it ended the login.
     ending: Ending,
-    /// The lines behind it, in order.
+    /// The lines after it, in order.
     behind: Vec<Line>,
 }
 

@@ -148,7 +148,7 @@ impl Login {
     }
 
     /// Takes a line of the client, and tells what follows from it; once it has ended, that nothing
-    /// is to be sent. After want of memory the login is as it was.
+    /// is to be sent. After a refused allocation the login is as it was.
     ///
     /// It is done when NICK, USER and PASS came and no negotiation of capabilities is open. A later
     /// line replaces the earlier; one without a parameter is ignored. A negotiation is open from

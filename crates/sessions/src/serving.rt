@@ -4,14 +4,14 @@ ghost use Rattle.std.specs.Prelude.{◌≡◌, [], IfOk, None, Some, map};
 ghost use Rattle.hub_threads.specs.Rings.{closed_of, items_of, sent_of};
 ghost use Rattle.sessions.specs.Claims.{parts_of};
 ghost use Rattle.sessions.specs.Leaving.{HasEnded, WasHeard};
-ghost use Rattle.sessions.specs.Serving.{IsServed};
+ghost use Rattle.sessions.specs.Serving.{IsServed, IsServedBy};
 
 use crate::OutOfMemory;
-use crate::admission::let_in;
 use crate::arrival::{Ending, LoggedIn, Unread, log_in};
 use crate::attending::{Leave, attach_claim};
 use crate::claim::Claim;
 use crate::fault::LoginFault;
+use crate::judge::{Judge, Listed};
 use crate::sending::{deny, refuse};
 use crate::talk::{Talking, talk};
 use crate::watcher::{Refusal, Watcher};
@@ -39,7 +39,7 @@ pub enum ServeFault {
     /// message.
     #[error("out of memory or threads")]
     Memory,
-    /// It was not attached, and was told why.
+    /// It was not attached, and got the reason.
     #[error("{0}")]
     Refused(AttachError),
     /// The hub has the session no more: its outlet was full. Its writer has ended.
@@ -63,7 +63,7 @@ impl From<OutOfMemory> for ServeFault {
 pub enum Served<W: Write> {
     /// It did not log in: it went, could not be read or written to, was closed, or was not let in.
     NoLogin,
-    /// It was not attached, and was told why.
+    /// It was not attached, and got the reason.
     Refused(AttachError),
     /// The hub has the session no more: its outlet was full. Its writer has ended.
     Cut,
@@ -128,12 +128,12 @@ fn turn_away<W: Write + Drop, R: Threads + Wait>(rt: &R, handle: Writer<W>, erro
 /// of its lines to the hub, those that are unread first, until QUIT, the input's end or a fault.
 /// Answers why it went, what its writer handed back, and the number of its session. No write is made
 /// under the lock. If no
-/// thread can be started it is not attached; if it is not attached it is told why.
+/// thread can be started it is not attached; if it is not attached it gets the reason.
 ///
 /// A line that comes while the network is offline or takes no more, or for which there is no memory
-/// or no number, is dropped. More than 16,384 bytes without LF, and want of memory for what was
+/// or no number, is dropped. More than 16,384 bytes without LF, and memory refused for what was
 /// read, end the session like the input's end. It reads at most 1,000,000,000 times. The watcher is
-/// told when the client's capabilities change.
+/// called when the client's capabilities change.
 pub fn serve<
     V: NetworkView + Drop,
     N,
@@ -190,10 +190,76 @@ pub fn serve<
     }
 }
 
+/// Lets a client log in, asks a judge whether its claim is right, and serves it. A client that is not
+/// let in, for its password or its network, gets `:bnc 464 * :Password incorrect`. The watcher is told
+/// each step, and lends the network. The password is dropped once it is let in. `OutOfMemory` also if
+/// no thread can be started; then there is no session.
+pub fn serve_by<
+    V: NetworkView + Drop,
+    N,
+    I: Read,
+    W: Write + Send + Drop + 'static,
+    G: Gate + Clone + Send + Drop + 'static,
+    C: Clock,
+    J: Judge<N>,
+    X: Watcher<V, N, I>,
+    R: Threads + Wait + Send + Copy + 'static,
+>(
+    worker: &Worker<'_, R, G, C>,
+    reader: &mut I,
+    writer: W,
+    judge: &J,
+    watcher: &mut X,
+) -> Result<Served<W>, OutOfMemory>
+    ensures { IfOk result (IsServedBy W.contents (X.turns_away watcher.new) (X.session watcher.new)
+        (J.lets_in judge.now) (J.denies judge.now) (I.remaining reader.old)
+        (I.remaining reader.new) (W.contents writer)) }
+{
+    let mut writer = writer;
+    let LoggedIn { ending, unread } = match log_in(worker.alloc, reader, &mut writer) {
+        Ok(login) => login,
+        Err(fault) => {
+            watcher.refused(Refusal::Login(fault));
+            return match fault {
+                LoginFault::Memory => Err(OutOfMemory),
+                _ => Ok(Served::NoLogin),
+            };
+        }
+    };
+    let Ending::Claims(claim) = ending else {
+        watcher.refused(Refusal::Closed);
+        return Ok(Served::NoLogin);
+    };
+    let judged = judge.judge(&claim);
+    if !watcher.logged_in(&claim) {
+        return Ok(Served::NoLogin);
+    }
+    let Some(network) = judged else {
+        watcher.refused(Refusal::Denied);
+        let _ = deny(&mut writer);
+        return Ok(Served::NoLogin);
+    };
+    let network = match watcher.let_in(reader, &claim, network) {
+        Ok(network) => network,
+        Err(error) => {
+            let _ = refuse(&mut writer, error);
+            return Ok(Served::Refused(error));
+        }
+    };
+    let mut claim = claim;
+    claim.password = Vec::new(worker.alloc);
+    match serve(worker, reader, writer, &claim, unread, &network, watcher) {
+        Ok((_, ended, _)) => Ok(Served::Ended(ended)),
+        Err(ServeFault::Refused(error)) => Ok(Served::Refused(error)),
+        Err(ServeFault::Cut) => Ok(Served::Cut),
+        Err(ServeFault::Memory) => Err(OutOfMemory),
+    }
+}
+
 /// Lets a client log in, asks whether its claim is right and its network among these, and serves
 /// it. A client that is not let in, for its password or its network, gets
 /// `:bnc 464 * :Password incorrect`; a network whose place is not among these is an unknown one. The
-/// watcher is told each step, and lends the network. The password is dropped once it is let in.
+/// watcher learns each step, and lends the network. The password is dropped once it is let in.
 /// `OutOfMemory` also if no thread can be started; then there is no session.
 pub fn serve_session<
     V: NetworkView + Drop,
@@ -216,42 +282,6 @@ pub fn serve_session<
         config.now (map (λ one. one.0) networks.now) (I.remaining reader.old)
         (I.remaining reader.new) (W.contents writer)) }
 {
-    let mut writer = writer;
-    let LoggedIn { ending, unread } = match log_in(worker.alloc, reader, &mut writer) {
-        Ok(login) => login,
-        Err(fault) => {
-            watcher.refused(Refusal::Login(fault));
-            return match fault {
-                LoginFault::Memory => Err(OutOfMemory),
-                _ => Ok(Served::NoLogin),
-            };
-        }
-    };
-    let Ending::Claims(claim) = ending else {
-        watcher.refused(Refusal::Closed);
-        return Ok(Served::NoLogin);
-    };
-    if !watcher.logged_in(&claim) {
-        return Ok(Served::NoLogin);
-    }
-    let Some(network) = let_in(config, networks, &claim) else {
-        watcher.refused(Refusal::Denied);
-        let _ = deny(&mut writer);
-        return Ok(Served::NoLogin);
-    };
-    let network = match watcher.let_in(reader, &claim, network) {
-        Ok(network) => network,
-        Err(error) => {
-            let _ = refuse(&mut writer, error);
-            return Ok(Served::Refused(error));
-        }
-    };
-    let mut claim = claim;
-    claim.password = Vec::new(worker.alloc);
-    match serve(worker, reader, writer, &claim, unread, &network, watcher) {
-        Ok((_, ended, _)) => Ok(Served::Ended(ended)),
-        Err(ServeFault::Refused(error)) => Ok(Served::Refused(error)),
-        Err(ServeFault::Cut) => Ok(Served::Cut),
-        Err(ServeFault::Memory) => Err(OutOfMemory),
-    }
+    let judge = Listed { config, networks };
+    serve_by(worker, reader, writer, &judge, watcher)
 }

@@ -30,7 +30,7 @@ pub enum Refusal {
 /// Who watches how a client is served: a program's limits and log. `N` stands for a network that is
 /// served, `I` is the client's reader. No lock is held during these calls.
 ///
-/// What [`serve_session`](crate::serve_session) promises holds whatever a watcher answers: it can
+/// What [`serve_by`](crate::serve_by) promises holds whatever a watcher answers: it can
 /// turn a client away, and can't let one in.
 pub trait Watcher<V: NetworkView + Drop, N, I: Read> {
     // It has turned away a client that claims this.
@@ -39,14 +39,14 @@ pub trait Watcher<V: NetworkView + Drop, N, I: Read> {
     // The number of the session that its client got last, if any.
     ghost session: { Self → Option ℕ };
 
-    /// The login is complete; whether the password is right isn't known yet. If the answer is
-    /// `false`, the client is not served and gets no answer.
+    /// The login is complete, and its claim was judged. If the answer is `false`, the client is not
+    /// served and gets no answer, whether it is right or not.
     fn logged_in(&mut self, claim: &Claim) -> bool
         ensures turned { result ≡ false → turns_away self.new (parts_of claim.now) }
         ensures kept { session self.new ≡ session self.old };
 
     /// The client may attach to this network. Lends the network for the session, or tells why there
-    /// is none now; the client is then told so. From here on the reader reads for a session; it must
+    /// is none now; the client then gets that. From here on the reader reads for a session; it must
     /// not have read anything in this call.
     fn let_in(
         &mut self,
@@ -57,7 +57,7 @@ pub trait Watcher<V: NetworkView + Drop, N, I: Read> {
         ensures unread { I.remaining reader.new ≡ I.remaining reader.old }
         ensures kept { session self.new ≡ session self.old };
 
-    /// The client gets no session. It is told why after this call returns, unless its login failed
+    /// The client gets no session. It hears why after this call returns, unless its login failed
     /// or was closed, or no thread could be started for its session.
     fn refused(&mut self, refusal: Refusal)
         ensures kept { session self.new ≡ session self.old };

@@ -5,3 +5,6 @@ pub mod Recalled
 pub mod Inputs
 pub mod AfterConnect
 pub mod Repeats
+pub mod Regain
+pub mod NickTries
+pub mod NickCut

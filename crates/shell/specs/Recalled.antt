@@ -18,10 +18,13 @@ error_text line = if has_command line (codes "ERROR") then slice_get line.params
 abbrev pub last_error : List Parts → Option (List ℕ)
 last_error lines = option_and_then error_text (slice_get lines (length lines - 1))
 
--- a line that refuses us, or the login to our account
+-- a line that refuses us, the login to our account, or a nick (RFC 2812, section 5.2)
 abbrev pub refuses : About → Parts → Bool
 refuses About.Entry line = has_command line (codes "463") || has_command line (codes "465")
 refuses About.Account line = is_failure line
+refuses About.Nick line =
+    has_command line (codes "432") || has_command line (codes "433")
+    || has_command line (codes "437")
 
 -- the last parameter of the last of these lines that refuses this; else what was found before them
 abbrev pub refusal_after : About → Option (List ℕ) → List Parts → Option (List ℕ)
@@ -48,6 +51,14 @@ and_then kept bytes = buffer (keep_last kept.capacity (kept.items ++ bytes)) kep
 abbrev pub parting : Buffer ℕ → Option (List ℕ)
 parting kept = parting_in (whole_lines kept.capacity kept.items)
 
+-- what refuses this, by what is kept
+abbrev pub refusal_of : About → Buffer ℕ → Option (List ℕ)
+refusal_of about kept = refusal_after about None (whole_lines kept.capacity kept.items)
+
 -- why we are not logged in to our account, by what is kept
 abbrev pub no_login : Buffer ℕ → Option (List ℕ)
-no_login kept = refusal_after About.Account None (whole_lines kept.capacity kept.items)
+no_login kept = refusal_of About.Account kept
+
+-- why we don't get a nick, by what is kept
+abbrev pub no_nick : Buffer ℕ → Option (List ℕ)
+no_nick kept = refusal_of About.Nick kept

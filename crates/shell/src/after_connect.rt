@@ -1,6 +1,6 @@
 //! What a connection sends by itself after its registration, if lines come before the channels.
 
-ghost use Rattle.std.specs.Prelude.{◌≡◌, ◌||◌, ◌+◌, ◌<◌, ◌≤◌, false, true};
+ghost use Rattle.std.specs.Prelude.{◌≡◌, ◌||◌, ◌+◌, ◌<◌, ◌≤◌, None, Some, false, true};
 ghost use Rattle.shell.specs.AfterConnect.{IsNext, ends_greeting};
 
 use irc_line::Line;
@@ -15,6 +15,8 @@ pub enum Due {
     Nothing,
     /// Nothing for this many milliseconds.
     After(u64),
+    /// The line at this place, from 0, is next: the network's pace is to be asked when it may go.
+    Ask(usize),
     /// The line at this place, from 0, is to be sent.
     Line(usize),
     /// The channels are to be joined.
@@ -22,8 +24,9 @@ pub enum Due {
 }
 
 /// What a connection sends by itself after its registration: lines, once the network has ended its
-/// greeting with 376 RPL_ENDOFMOTD or 422 ERR_NOMOTD, or 10 s after its welcome; and then the JOIN
-/// lines, a time after the last of these, since a service that they are for answers later.
+/// greeting with 376 RPL_ENDOFMOTD or 422 ERR_NOMOTD, or 10 s after its welcome, each no sooner than
+/// the network's pace has it; and then the JOIN lines, a time after the last of these, since a service
+/// that they are for answers later.
 ///
 /// Times are milliseconds since any moment.
 #[derive(Clone, Copy, Debug)]
@@ -34,6 +37,8 @@ pub struct AfterConnect {
     // when the welcome came, and when the last line was sent
     welcome: u64,
     last: u64,
+    // when the next line may be sent, if the pace was asked
+    let_in: Option<u64>,
     // from the last line to the channels
     join_after: u64,
     is_greeted: bool,
@@ -53,7 +58,7 @@ impl AfterConnect {
     pub fn start(lines: usize, join_after: u64, is_greeted: bool, now: u64) -> AfterConnect
         ensures lines { (result.lines ≡ lines) × (result.sent ≡ 0) }
         ensures times { (result.welcome ≡ now) × (result.last ≡ now)
-            × (result.join_after ≡ join_after) }
+            × (result.join_after ≡ join_after) × (result.let_in ≡ None) }
         ensures begun { (result.is_greeted ≡ is_greeted) × (result.is_over ≡ false) }
     {
         AfterConnect {
@@ -61,6 +66,7 @@ impl AfterConnect {
             sent: 0,
             welcome: now,
             last: now,
+            let_in: None,
             join_after,
             is_greeted,
             is_over: false,
@@ -88,7 +94,11 @@ impl AfterConnect {
             if self.sent == 0 && !self.is_greeted && waited < GREETING {
                 return Due::After(GREETING - waited);
             }
-            return Due::Line(self.sent);
+            return match self.let_in {
+                None => Due::Ask(self.sent),
+                Some(at) if now < at => Due::After(at - now),
+                Some(_) => Due::Line(self.sent),
+            };
         }
         let rested = now.saturating_sub(self.last);
         if rested < self.join_after {
@@ -97,15 +107,23 @@ impl AfterConnect {
         Due::Joins
     }
 
+    /// The network's pace lets the next line in at this time.
+    pub fn let_in(&mut self, at: u64)
+        ensures { self.new ≡ record self.old { let_in = Some at } }
+    {
+        self.let_in = Some(at);
+    }
+
     /// The line that was due was sent at this time. If none was due, nothing changes.
     pub fn line_sent(&mut self, now: u64)
         ensures due { self.old.sent < self.old.lines →
-            self.new ≡ record self.old { sent = self.old.sent + 1; last = now } }
+            self.new ≡ record self.old { sent = self.old.sent + 1; last = now; let_in = None } }
         ensures none { self.old.lines ≤ self.old.sent → self.new ≡ self.old }
     {
         if self.lines > self.sent {
             self.sent += 1;
             self.last = now;
+            self.let_in = None;
         }
     }
 

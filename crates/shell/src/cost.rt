@@ -1,8 +1,9 @@
-//! What a line costs of the pace.
+//! What a line costs of the pace, and whether it asks for other capabilities.
 
 ghost use Rattle.std.specs.Prelude.{◌≡◌, IfOk, length};
 ghost use Rattle.std.specs.List.{list_any};
-ghost use Rattle.shell.specs.Pacing.{cost_of, full_cost, is_unheard};
+ghost use Rattle.irc_line.specs.Lines.{lines_of};
+ghost use Rattle.shell.specs.Pacing.{cost_of, full_cost, is_request, is_unheard};
 
 use irc_line::{Line, OutOfMemory, lines_in};
 use std::alloc::Global;
@@ -31,13 +32,46 @@ pub fn full_cost(bytes: usize) -> usize
     bytes.max(LEAST)
 }
 
-/// What these bytes of a line cost: nothing for a PING, PONG, CAP or QUIT.
-pub fn cost_of(alloc: Global, bytes: &[u8]) -> Result<usize, OutOfMemory>
-    ensures { IfOk result (λ cost. cost ≡ cost_of bytes.now) }
+/// Whether a line asks for other capabilities (IRCv3 capability negotiation, CAP REQ).
+fn is_request(line: &Line) -> bool
+    ensures { result ≡ is_request line.now }
+{
+    match line.param(0) {
+        Some(word) => line.is(b"CAP") && word.eq_ignore_ascii_case(b"REQ"),
+        None => false,
+    }
+}
+
+/// Whether one of these lines does.
+fn are_requests(lines: &[Line]) -> bool
+    ensures { result ≡ list_any is_request lines.now }
+{
+    lines.iter().any(|line| is_request(line))
+}
+
+/// What a line asks of the pace.
+#[derive(Clone, Copy, Debug, PartialEq, Eq)]
+pub struct Toll {
+    /// What it costs, in bytes.
+    pub cost: usize,
+    /// Whether it asks for other capabilities.
+    pub is_request: bool,
+}
+
+/// What these bytes of a line ask: nothing is the cost of a PING, PONG, CAP or QUIT.
+pub fn toll_of(alloc: Global, bytes: &[u8]) -> Result<Toll, OutOfMemory>
+    ensures cost { IfOk result (λ toll. toll.cost ≡ cost_of bytes.now) }
+    ensures request { IfOk result
+        (λ toll. toll.is_request ≡ list_any is_request (lines_of bytes.now)) }
 {
     let lines = lines_in(alloc, bytes)?;
-    if are_unheard(&lines) {
-        return Ok(0);
-    }
-    Ok(full_cost(bytes.len()))
+    let cost = if are_unheard(&lines) {
+        0
+    } else {
+        full_cost(bytes.len())
+    };
+    Ok(Toll {
+        cost,
+        is_request: are_requests(&lines),
+    })
 }

@@ -9,7 +9,7 @@ ghost use Rattle.irc_line.specs.Lines.{HasNoLf};
 ghost use Rattle.shell.specs.Held.{line_length};
 
 use crate::ahead::Ahead;
-use crate::cost::{cost_of, full_cost};
+use crate::cost::{Toll, full_cost, toll_of};
 use crate::pace::Pace;
 use crate::timed::is_silence;
 use crate::wire::Wire;
@@ -31,16 +31,24 @@ const PATIENCE: u32 = 50;
 /// How many milliseconds go by at most before it sees that the connection was shut.
 const STEP: u64 = 50;
 
+/// For how many milliseconds a request for capabilities waits after one that changed them: such a
+/// request is answered by the state of all channels.
+const REST: u64 = 1_000;
+
 /// Who gets what a client says: its network, and the network's other clients.
 pub trait Neighbours {
     /// Whether one of them takes no more, or nearly so.
     fn is_crowded(&self) -> bool;
+
+    /// Whether the client's capabilities were changed since this was asked last.
+    fn take_changed(&self) -> bool;
 }
 
 /// A reader that hands on one line at a time, in the order in which they were said, once the pace
 /// of the network's clients lets it in. PING, PONG, CAP and QUIT cost nothing, any other line at
-/// least 30 bytes. While a line waits the reader reads on, and sees the connection's end: it then
-/// fails with `ConnectionAborted`, and what is not handed on by then is lost.
+/// least 30 bytes. A CAP REQ is handed on a second after the last one, if that one changed the
+/// client's capabilities. While a line waits the reader reads on, and sees the connection's end: it
+/// then fails with `ConnectionAborted`, and what is not handed on by then is lost.
 ///
 /// It waits too after each 512 bytes, so that what a client says at once does not fill what goes to
 /// the network or to the other sessions.
@@ -56,6 +64,8 @@ pub struct Paced<'a, S, N, R> {
     count: usize,
     // how many bytes of a line that was let in are not handed on yet
     let_in: usize,
+    // when the last request for capabilities was let in
+    asked: Option<Instant>,
     ghost within: { let_in ≤ line_length ahead },
     ghost few: { count ≤ 512 },
 }
@@ -83,6 +93,7 @@ impl<'a, S: Wire, N: Neighbours, R: Wait + Clock> Paced<'a, S, N, R> {
             ahead,
             count: 0,
             let_in: 0,
+            asked: None,
         }
     }
 
@@ -154,14 +165,27 @@ impl<'a, S: Wire, N: Neighbours, R: Wait + Clock> Paced<'a, S, N, R> {
         unreachable!()
     }
 
-    /// Waits until this many bytes may be said; false if the connection has ended before.
+    /// How long a request for capabilities waits, if the line is one: until a second after the last
+    /// one, if that one changed them.
+    fn rest(&self, toll: Toll) -> Duration {
+        if !toll.is_request || !self.neighbours.take_changed() {
+            return Duration::ZERO;
+        }
+        match self.asked.map(|at| at.elapsed(self.rt)) {
+            Some(Ok(passed)) => Duration::from_millis(REST).saturating_sub(passed),
+            _ => Duration::ZERO,
+        }
+    }
+
+    /// Waits until this many bytes may be said, and for this long at least; false if the connection
+    /// has ended before.
     #[tactic(auto, using(crate::proofs::Kept::keeps_on))]
-    fn is_let_in(&mut self, bytes: usize) -> io::Result<bool>
+    fn is_let_in(&mut self, bytes: usize, rest: Duration) -> io::Result<bool>
         ensures kept { Keeps (paced_remaining S.remaining self.old)
             (paced_remaining S.remaining self.new) }
         ensures line { line_length (paced_held self.old) ≤ line_length (paced_held self.new) }
     {
-        let time = self.pace.take(self.rt, bytes as u64);
+        let time = self.pace.take(self.rt, bytes as u64).max(rest);
         if time.is_zero() {
             return Ok(true);
         }
@@ -173,14 +197,17 @@ impl<'a, S: Wire, N: Neighbours, R: Wait + Clock> Paced<'a, S, N, R> {
         Ok(is_let_in)
     }
 
-    /// What the first bytes cost, this many. If there is no memory to read them, what they cost at
+    /// What the first bytes ask, this many. If there is no memory to read them, what they cost at
     /// most.
-    fn cost(&self, length: usize) -> usize
+    fn toll(&self, length: usize) -> Toll
         requires { length ≤ line_length (paced_held self.now) }
     {
-        match cost_of(self.alloc, &self.ahead.rest()[..length]) {
-            Ok(cost) => cost,
-            Err(_) => full_cost(length),
+        match toll_of(self.alloc, &self.ahead.rest()[..length]) {
+            Ok(toll) => toll,
+            Err(_) => Toll {
+                cost: full_cost(length),
+                is_request: false,
+            },
         }
     }
 
@@ -198,11 +225,15 @@ impl<'a, S: Wire, N: Neighbours, R: Wait + Clock> Paced<'a, S, N, R> {
         if length == 0 {
             return Ok(0);
         }
-        let cost = self.cost(length);
-        if self.is_let_in(cost)? {
-            return Ok(length);
+        let toll = self.toll(length);
+        let rest = self.rest(toll);
+        if !self.is_let_in(toll.cost, rest)? {
+            return Err(io::Error::from(ErrorKind::ConnectionAborted));
         }
-        Err(io::Error::from(ErrorKind::ConnectionAborted))
+        if toll.is_request {
+            self.asked = Instant::now(self.rt).ok();
+        }
+        Ok(length)
     }
 
     /// Waits for the next line, and until it may be said, unless one was let in and is not handed on

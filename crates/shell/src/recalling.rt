@@ -4,8 +4,8 @@ ghost use Rattle.std.specs.Prelude.{◌≡◌, IfOk, None, OnErr, drop, option_a
 ghost use Rattle.std.specs.Prelude.{take};
 ghost use Rattle.std.specs.Io.{ReadsAtMost};
 ghost use Rattle.std.specs.Io.KnownBytes.{ReadConsumes};
-ghost use Rattle.shell.specs.Recalled.{and_then, last_error, no_login, parting, parting_in};
-ghost use Rattle.shell.specs.Recalled.{refusal_after, refuses};
+ghost use Rattle.shell.specs.Recalled.{and_then, last_error, no_login, no_nick, parting, parting_in};
+ghost use Rattle.shell.specs.Recalled.{refusal_after, refusal_of, refuses};
 ghost use Rattle.shell.specs.Readers.{recalled, recalling_input};
 
 use circular_buffer::HeapCircularBuffer;
@@ -46,6 +46,9 @@ enum About {
     Entry,
     /// It does not log us in to our account.
     Account,
+    /// It does not give us a nick: 432 ERR_ERRONEUSNICKNAME, 433 ERR_NICKNAMEINUSE, 437
+    /// ERR_UNAVAILRESOURCE.
+    Nick,
 }
 
 /// Whether a line refuses this.
@@ -55,6 +58,7 @@ fn refuses(about: About, line: &Line) -> bool
     match about {
         About::Entry => line.is(b"463") || line.is(b"465"),
         About::Account => Login::is_failure(line),
+        About::Nick => line.is(b"432") || line.is(b"433") || line.is(b"437"),
     }
 }
 
@@ -124,11 +128,10 @@ impl<I: Read> Recalling<I> {
         parting_in(alloc, &lines)
     }
 
-    /// What was read last says why the network does not log us in to our account, as the text of
-    /// `:s 904 ann :SASL authentication failed`.
-    pub fn no_login(&self, alloc: Global) -> Result<Option<Vec<u8>>, OutOfMemory>
+    /// The last parameter of the last line that refuses this, among what was read last.
+    fn refusal_of(&self, alloc: Global, about: About) -> Result<Option<Vec<u8>>, OutOfMemory>
         ensures { IfOk result (λ text. option_map (λ t. t.items) text
-            ≡ option_and_then no_login (recalled self.now)) }
+            ≡ option_and_then (refusal_of about) (recalled self.now)) }
     {
         let Some(last) = &self.last else {
             return Ok(None);
@@ -136,9 +139,27 @@ impl<I: Read> Recalling<I> {
         let lines = lines_in(alloc, &last.to_vec(alloc)?)?;
         // the first line may have lost its beginning
         if last.is_full() {
-            return refusal(alloc, About::Account, without_first(&lines));
+            return refusal(alloc, about, without_first(&lines));
         }
-        refusal(alloc, About::Account, &lines)
+        refusal(alloc, about, &lines)
+    }
+
+    /// What was read last says why the network does not log us in to our account, as the text of
+    /// `:s 904 ann :SASL authentication failed`.
+    pub fn no_login(&self, alloc: Global) -> Result<Option<Vec<u8>>, OutOfMemory>
+        ensures { IfOk result (λ text. option_map (λ t. t.items) text
+            ≡ option_and_then no_login (recalled self.now)) }
+    {
+        self.refusal_of(alloc, About::Account)
+    }
+
+    /// What was read last says why the network does not give us a nick, as the text of
+    /// `:s 433 * ann :Nickname is already in use`.
+    pub fn no_nick(&self, alloc: Global) -> Result<Option<Vec<u8>>, OutOfMemory>
+        ensures { IfOk result (λ text. option_map (λ t. t.items) text
+            ≡ option_and_then no_nick (recalled self.now)) }
+    {
+        self.refusal_of(alloc, About::Nick)
     }
 }
 

@@ -1,15 +1,15 @@
-//! A reason that repeats, which is told once.
+//! A reason that repeats, which is reported once.
 
 ghost use Rattle.std.specs.Prelude.{◌≡◌, ◌+◌, ◌-◌, ◌^◌, None, Some, false, min, true};
 ghost use Rattle.shell.specs.Repeats.{last_reason, repeats};
 ghost use Rattle.shell.specs.declared.repeats.Noted.TheVariants as Noted;
 
-/// What is to be told of a reason.
+/// What is to be reported of a reason.
 #[derive(Clone, Copy, Debug, PartialEq, Eq)]
 pub enum Noted {
     /// Nothing: it is that of the last time.
     Again,
-    /// Itself; the one before it came this often after it was told.
+    /// Itself; the one before it came this often after it was reported.
     New(u64),
 }
 
@@ -42,7 +42,7 @@ impl Repeats {
         }
     }
 
-    /// Takes a reason, and answers what is to be told.
+    /// Takes a reason, and answers what is to be reported.
     pub fn note(&mut self, reason: Vec<u8>) -> Noted
         ensures same { last_reason self.old ≡ Some reason.items → (result ≡ Noted.Again)
             × (last_reason self.new ≡ last_reason self.old)
@@ -61,7 +61,7 @@ impl Repeats {
         Noted::New(count)
     }
 
-    /// The reason is gone; how often it came again after it was told.
+    /// The reason is gone; how often it came again after it was reported.
     pub fn end(&mut self) -> u64
         ensures { (result ≡ repeats self.old) × (last_reason self.new ≡ None)
             × (repeats self.new ≡ 0) }

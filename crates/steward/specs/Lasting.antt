@@ -26,6 +26,7 @@ abbrev pub begins : Answer → ℕ
 begins (answer.Serve client) = 1
 begins (answer.ServeInPlaceOf client gone) = 1
 begins (answer.LetIn client network) = 1
+begins (answer.Enter client) = 1
 begins (answer.Dial network) = 1
 begins (answer.Register network) = 1
 begins (answer.Welcome network) = 1

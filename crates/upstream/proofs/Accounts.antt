@@ -7,10 +7,9 @@ use Rattle.std.proofs.Common.{Bool, List, Option, Some, [], arith, false, refl, 
 use Rattle.std.proofs.Common.{◌++◌, ◌∷◌, ◌≡◌}
 use Rattle.std.specs.Prelude.{if◌then◌else◌}
 use Rattle.upstream.specs.Registration.{answer_of_login, answer_to, fails, fails_behind}
-use Rattle.upstream.specs.Registration.{fails_or, fault_of, has_ended}
+use Rattle.upstream.specs.Registration.{fails_or, fault_of, has_ended, heard}
 use Rattle.upstream.specs.Registration.{is_welcome, join_lines, login_or, needs_no_login, reply_to}
 use Rattle.upstream.specs.Registration.{sends, welcomes}
-use Rattle.upstream.specs.Said.{said}
 use Rattle.upstream.specs.declared.registration.RegisterFault.{RegisterFault}
 
 -- a welcome is the answer only where no login is needed
@@ -25,9 +24,10 @@ pub welcome_after_login : (network : NetworkSettings) (account : SaslSettings)
     (before : List Parts) (line : Parts) (lines : List Parts) → network.sasl ≡ Some account
     → answer_to network before line ≡ welcomes lines → login.is_logged_in before ≡ true
 welcome_after_login network account before line lines has is =
-    let needs = welcome_needs (has_ended network before) (is_welcome (said line))
+    let needs = welcome_needs (has_ended network before) (is_welcome (heard network line))
     (needs_no_login network.sasl before) (join_lines network) lines
-    (reply_to network before line (said line)) (fault_of before (said line))
+    (reply_to network before line (heard network line))
+    (fault_of network before (heard network line))
     (answer_of_login network.sasl before line) is in
     rw has at needs
 

@@ -14,17 +14,17 @@ use Rattle.upstream.specs.{Progress.Progress, Registration.{answer_to, fails, fa
 use Rattle.upstream.specs.Registration.{Answer, answer_of_login, answer_to_welcome, fails_behind}
 use Rattle.sasl.specs.Login.{is_failed}
 use Rattle.upstream.specs.Registration.{has_login_failed, login_or, needs_no_login}
-use Rattle.upstream.specs.Registration.{fault_of, has_ended, is_end, is_final, is_in_use}
+use Rattle.upstream.specs.Registration.{fault_of, has_ended, heard, is_end, is_final, is_in_use}
 use Rattle.upstream.specs.Registration.{is_welcome, join_lines, offered_by, reply_to, sends}
-use Rattle.upstream.specs.{Registration.{tries_in, welcomes}, Said.said, Taken.{HasTaken, IsAt, IsLoginAt}}
+use Rattle.upstream.specs.{Registration.{tries_in, welcomes}, Taken.{HasTaken, IsAt, IsLoginAt}}
 use Rattle.upstream.specs.declared.{registration.RegisterFault.RegisterFault, said.Said.Said}
 
-abbrev any_final : List Parts → Bool
-any_final lines = list_any (λ line. is_final (said line)) lines
+abbrev any_final : NetworkSettings → List Parts → Bool
+any_final network lines = list_any (λ line. is_final (heard network line)) lines
 
-tries_more : (before : List Parts) (line : Parts)
-    → tries_in (before ++ line ∷ []) ≡ tries_in before + cond (is_in_use (said line)) 1 0
-tries_more before line = sum_by_push (λ x. cond (is_in_use (said x)) 1 0) before line
+tries_more : (network : NetworkSettings) (before : List Parts) (line : Parts)
+    → tries_in network (before ++ line ∷ []) ≡ tries_in network before + cond (is_in_use (heard network line)) 1 0
+tries_more network before line = sum_by_push (λ x. cond (is_in_use (heard network x)) 1 0) before line
 
 -- one line more, of a login
 failed_append : (account : Option SaslSettings) (done a b : List Parts)
@@ -43,24 +43,24 @@ failed_more network before line = failed_append network.sasl [] before (line ∷
 
 ended_more : (network : NetworkSettings) (before : List Parts) (line : Parts)
     → has_ended network (before ++ line ∷ [])
-    ≡ ((any_final before || (is_final (said line) || false))
+    ≡ ((any_final network before || (is_final (heard network line) || false))
     || ((has_login_failed network before || is_failed (answer_of_login network.sasl before line))
-    || (nat_le 4 (tries_in before + cond (is_in_use (said line)) 1 0)
+    || (nat_le 4 (tries_in network before + cond (is_in_use (heard network line)) 1 0)
     || nat_le 10000 (length before + 1))))
 ended_more network before line =
-    rw (list_any-append (λ x. is_final (said x)) before (line ∷ []))
-    (rw (failed_more network before line, tries_more before line, length_push before line))
+    rw (list_any-append (λ x. is_final (heard network x)) before (line ∷ []))
+    (rw (failed_more network before line, tries_more network before line, length_push before line))
 
 -- what a line says, behind so many lines and tries
-step_at : (final lost : Bool) (before reply : List Parts) (w : Answer) (a : login.Answer) (s : Said)
+step_at : (network : NetworkSettings) (final lost : Bool) (before reply : List Parts) (w : Answer) (a : login.Answer) (s : Said)
     → is_end w ≡ true
     → ((final || (is_final s || false)) || ((lost || is_failed a)
-    || (nat_le 4 (tries_in before + cond (is_in_use s) 1 0) || nat_le 10000 (length before + 1))))
-    ≡ ((final || (lost || (nat_le 4 (tries_in before) || nat_le 10000 (length before))))
-    || is_end (if final || (lost || (nat_le 4 (tries_in before) || nat_le 10000 (length before)))
+    || (nat_le 4 (tries_in network before + cond (is_in_use s) 1 0) || nat_le 10000 (length before + 1))))
+    ≡ ((final || (lost || (nat_le 4 (tries_in network before) || nat_le 10000 (length before))))
+    || is_end (if final || (lost || (nat_le 4 (tries_in network before) || nat_le 10000 (length before)))
     then sends [] else if is_welcome s then w
-    else fails_or (fault_of before s) (login_or a reply)))
-step_at final lost before reply w a s ends = grind (arith, nat_tests)
+    else fails_or (fault_of network before s) (login_or a reply)))
+step_at network final lost before reply w a s ends = grind (arith, nat_tests)
 
 end_of_choice : (b : Bool) (f : RegisterFault) (lines : List Parts)
     → is_end (if b then welcomes lines else fails f) ≡ true
@@ -77,9 +77,9 @@ pub ended_step : (network : NetworkSettings) (before : List Parts) (line : Parts
     ≡ (has_ended network before || is_end (answer_to network before line))
 ended_step network before line =
     ended_more network before line
-    ∙ step_at (any_final before) (has_login_failed network before) before
-    (reply_to network before line (said line)) (answer_to_welcome network before)
-    (answer_of_login network.sasl before line) (said line) (welcome_ends network before)
+    ∙ step_at network (any_final network before) (has_login_failed network before) before
+    (reply_to network before line (heard network line)) (answer_to_welcome network before)
+    (answer_of_login network.sasl before line) (heard network line) (welcome_ends network before)
 
 -- what has ended stays so
 pub ended_stays : (network : NetworkSettings) (before : List Parts) (line : Parts)
@@ -109,7 +109,7 @@ no_welcome : (s : Said) → (s ≡ says.Welcome → ⊥) → is_welcome s ≡ fa
 no_welcome s h = grind arith
 
 module _ (network : NetworkSettings) (before : List Parts) (line : Parts) (s : Said)
-    (going : has_ended network before ≡ false) (is : s ≡ said line) where
+    (going : has_ended network before ≡ false) (is : s ≡ heard network line) where
   pub ends_by_welcome : s ≡ says.Welcome → has_ended network (before ++ line ∷ []) ≡ true
   ends_by_welcome welcome =
       ended_step network before line
@@ -120,16 +120,16 @@ module _ (network : NetworkSettings) (before : List Parts) (line : Parts) (s : S
   answer_by_welcome welcome = rw (going, ← is, welcome)
 
   module _ (other : s ≡ says.Welcome → ⊥) where
-    pub answer_by_fault : (f : RegisterFault) → Some f ≡ fault_of before s
+    pub answer_by_fault : (f : RegisterFault) → Some f ≡ fault_of network before s
         → answer_to network before line ≡ fails f
     answer_by_fault f found = rw (going, ← is, no_welcome s other, ← found)
 
-    pub ends_by_fault : (f : RegisterFault) → Some f ≡ fault_of before s
+    pub ends_by_fault : (f : RegisterFault) → Some f ≡ fault_of network before s
         → has_ended network (before ++ line ∷ []) ≡ true
     ends_by_fault f found =
         ended_step network before line ∙ rw (answer_by_fault f found, going)
 
-    module _ (none : None ≡ fault_of before s) (reply : List Parts)
+    module _ (none : None ≡ fault_of network before s) (reply : List Parts)
         (is_reply : reply ≡ reply_to network before line s) (a : login.Answer)
         (is_login : a ≡ answer_of_login network.sasl before line) where
       pub answer_is : answer_to network before line ≡ login_or a reply
@@ -164,7 +164,7 @@ taken_over network lines register over ended =
 -- what it knows after one more line, which the login has taken first
 pub still_taken : (network : NetworkSettings) (before : List Parts) (line : Parts) (s : Said)
     (old mid new : Progress)
-    → IsAt network before old → s ≡ said line → has_ended network (before ++ line ∷ []) ≡ false
+    → IsAt network before old → s ≡ heard network line → has_ended network (before ++ line ∷ []) ≡ false
     → old.is_over ≡ false → mid ≡ record old { login = mid.login }
     → IsLoginAt network.sasl (before ++ line ∷ []) mid.login
     → new.offered ≡ offered_by (before ++ line ∷ [])
@@ -182,11 +182,13 @@ still_taken network before line s old mid new so_far is going on by_login known 
         offered = offered;
         tries = ap (λ (p : Progress). p.tries) same
             ∙ ap (λ t. t + cond (is_in_use s) 1 0) (ap (λ (p : Progress). p.tries) by_login ∙ so_far.tries)
-            ∙ rw (is, tries_more before line);
+            ∙ rw (is, tries_more network before line);
         count = ap (λ (p : Progress). p.count) same
             ∙ ap (λ n. n + 1) (ap (λ (p : Progress). p.count) by_login ∙ so_far.count)
             ∙ rw (length_push before line);
         login = rw (ap (λ (p : Progress). p.login) same) known;
+        nicks = ap (λ (p : Progress). p.has_nicks) same
+            ∙ ap (λ (p : Progress). p.has_nicks) by_login ∙ so_far.nicks;
       };
     }
 

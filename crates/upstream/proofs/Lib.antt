@@ -1,6 +1,7 @@
 pub mod Accounts
 pub mod BegunLemmas
 pub mod Ends
+pub mod Nicks
 pub mod OfferLemmas
 pub mod Registered
 pub mod SentLemmas

@@ -12,7 +12,7 @@ use Rattle.upstream.specs.declared.registration.RegisterFault.TheVariants as fau
 use Rattle.upstream.specs.{Handshake.sent_for, Registration.{answer_to, fails_or, fault_of}}
 use Rattle.upstream.specs.Registration.{answer_of_login, fails, login_or, needs_no_login}
 use Rattle.upstream.specs.Registration.{first_lines, has_ended, is_end, is_welcome, join_lines}
-use Rattle.upstream.specs.{Registration.{reply_to, sends, welcomes}, Said.said}
+use Rattle.upstream.specs.{Registration.{heard, reply_to, sends, welcomes}}
 use Rattle.upstream.specs.declared.handshake.DialFault.{DialFault, TheVariants.{Memory, Register}}
 use Rattle.upstream.specs.declared.handshake.DialFault.TheVariants.{Write}
 use Rattle.upstream.specs.declared.registration.RegisterFault.{RegisterFault}
@@ -45,9 +45,10 @@ pub welcome_is : (network : NetworkSettings) (before : List Parts) (line : Parts
     (lines : List Parts) → welcomes lines ≡ answer_to network before line
     → answer_to network before line ≡ welcomes (join_lines network)
 welcome_is network before line lines is =
-    welcome_in (has_ended network before) (is_welcome (said line))
+    welcome_in (has_ended network before) (is_welcome (heard network line))
     (needs_no_login network.sasl before) (join_lines network) lines
-    (reply_to network before line (said line)) (fault_of before (said line))
+    (reply_to network before line (heard network line))
+    (fault_of network before (heard network line))
     (answer_of_login network.sasl before line) is
 
 -- ---- the line at a place of some lines, behind those that were taken

@@ -5,7 +5,8 @@ use Rattle.upstream.specs.declared.account.AccountLogin.{AccountLogin}
 use Rattle.upstream.specs.declared.offers.Offered.{Offered}
 
 -- the nick without marks, the lines for the welcome, which capabilities were offered, how often the
--- nick was another's, how many lines came, the login if there is one, and whether it has ended
+-- nick was another's, how many lines came, the login if there is one, whether 437 counts as 433, and
+-- whether it has ended
 pub record Progress : Type 0 where
   pub nick : List ℕ
   pub joins : List Parts
@@ -13,4 +14,5 @@ pub record Progress : Type 0 where
   pub tries : ℕ
   pub count : ℕ
   pub login : Option AccountLogin
+  pub has_nicks : Bool
   pub is_over : Bool

@@ -15,7 +15,7 @@ use Rattle.sasl.specs.Login as login
 use Rattle.sasl.specs.Offer as sasl_offer
 use Rattle.sasl.specs.Response.{mechanism_of}
 use Rattle.sasl.specs.Said.{last_param}
-use Rattle.upstream.specs.Said.{said}
+use Rattle.upstream.specs.Said.{heard_by, said}
 use Rattle.upstream.specs.declared.offers.Offered.{Offered}
 use Rattle.upstream.specs.declared.registration.RegisterFault.{RegisterFault}
 use Rattle.upstream.specs.declared.registration.RegisterFault.TheVariants as fault
@@ -38,6 +38,10 @@ nick_line nick = command (codes "NICK") (nick ∷ [])
 abbrev pub user_line : NetworkSettings → Parts
 user_line network =
     command (codes "USER") (network.user ∷ codes "0" ∷ codes "*" ∷ network.realname ∷ [])
+
+-- the settings with another nick
+abbrev pub asked_as : NetworkSettings → List ℕ → NetworkSettings
+asked_as network nick = record network { nick = nick }
 
 -- what is sent before a line has come
 abbrev pub first_lines : NetworkSettings → List Parts
@@ -177,13 +181,17 @@ needs_no_login (Some account) lines = login.is_logged_in lines
 
 -- ---- how it ends
 
+-- what a line says to a registration by these settings
+abbrev pub heard : NetworkSettings → Parts → Said
+heard network line = heard_by (is_some network.options.nicks) line
+
 abbrev pub is_in_use : Said → Bool
 is_in_use says.NickInUse = true
 is_in_use _ = false
 
 -- how many of the lines say that the nick is another's
-abbrev pub tries_in : List Parts → ℕ
-tries_in lines = count_by (λ line. is_in_use (said line)) lines
+abbrev pub tries_in : NetworkSettings → List Parts → ℕ
+tries_in network lines = count_by (λ line. is_in_use (heard network line)) lines
 
 -- a line that ends a registration wherever it comes
 abbrev pub is_final : Said → Bool
@@ -197,9 +205,9 @@ is_final _ = false
 -- `laws::a_registration_ends_once`)
 abbrev pub has_ended : NetworkSettings → List Parts → Bool
 has_ended network lines =
-    list_any (λ line. is_final (said line)) lines
+    list_any (λ line. is_final (heard network line)) lines
     || (has_login_failed network lines
-    || (nat_le 4 (tries_in lines) || nat_le 10000 (length lines)))
+    || (nat_le 4 (tries_in network lines) || nat_le 10000 (length lines)))
 
 -- ---- the answer to a line
 
@@ -214,13 +222,13 @@ abbrev pub fault_by_count : List Parts → Option RegisterFault
 fault_by_count before = if length before == 9999 then Some fault.NoWelcome else None
 
 -- the fault that a line which says this is, behind lines that have not ended the registration
-abbrev pub fault_of : List Parts → Said → Option RegisterFault
-fault_of before says.Welcome = None
-fault_of before says.BadNick = Some fault.BadNick
-fault_of before says.Refused = Some fault.Refused
-fault_of before says.NickInUse =
-    if tries_in before == 3 then Some fault.NickInUse else fault_by_count before
-fault_of before _ = fault_by_count before
+abbrev pub fault_of : NetworkSettings → List Parts → Said → Option RegisterFault
+fault_of network before says.Welcome = None
+fault_of network before says.BadNick = Some fault.BadNick
+fault_of network before says.Refused = Some fault.Refused
+fault_of network before says.NickInUse =
+    if tries_in network before == 3 then Some fault.NickInUse else fault_by_count before
+fault_of network before _ = fault_by_count before
 
 -- what is sent for a line which says this, behind lines that have not ended the registration, if the
 -- login sends nothing for it; with a login the negotiation of capabilities ends by the login
@@ -230,7 +238,7 @@ reply_to network before line says.LastList =
     ++ named (is_some network.sasl) (codes "sasl")) ∷ []
 reply_to network before line says.CapAnswered = if is_some network.sasl then [] else cap_end ∷ []
 reply_to network before line says.NickInUse =
-    nick_line (marked network.nick (tries_in before + 1)) ∷ []
+    nick_line (marked network.nick (tries_in network before + 1)) ∷ []
 reply_to network before line says.Ping = pong_line line ∷ []
 reply_to network before line _ = []
 
@@ -257,10 +265,10 @@ answer_to_welcome network before =
 abbrev pub answer_to : NetworkSettings → List Parts → Parts → Answer
 answer_to network before line =
     if has_ended network before then sends [] else
-    if is_welcome (said line) then answer_to_welcome network before else
-    fails_or (fault_of before (said line))
+    if is_welcome (heard network line) then answer_to_welcome network before else
+    fails_or (fault_of network before (heard network line))
     (login_or (answer_of_login network.sasl before line)
-    (reply_to network before line (said line)))
+    (reply_to network before line (heard network line)))
 
 abbrev pub is_end : Answer → Bool
 is_end (sends lines) = false

@@ -2,7 +2,7 @@
 -- capability negotiation). Commands and subcommands are compared without regard to the case of
 -- ASCII letters; that the subcommand of CAP is parameter 1, and its list the last, is our own
 -- choice.
-use Rattle.std.specs.Prelude.{◌&&◌, ◌||◌, ◌==◌, length, codes}
+use Rattle.std.specs.Prelude.{◌&&◌, ◌||◌, ◌==◌, Bool, length, codes}
 use Rattle.std.specs.Prelude.{if◌then◌else◌}
 use Rattle.std.specs.Str.{bytes_eq}
 use Rattle.irc_line.specs.Line.{Parts, has_command}
@@ -34,3 +34,9 @@ said line =
     if has_command line (codes "432") then BadNick else
     if has_command line (codes "464") || has_command line (codes "ERROR") then Refused else
     if has_command line (codes "PING") then Ping else Other
+
+-- The same to a registration that has further nicks, or none: with them 437 ERR_UNAVAILRESOURCE says
+-- what 433 does (RFC 2812, section 5.2). Without them it says nothing (our own choice).
+abbrev pub heard_by : Bool → Parts → Said
+heard_by has_nicks line =
+    if has_nicks && has_command line (codes "437") then NickInUse else said line

@@ -1,5 +1,5 @@
 -- Where a registration stands after a list of lines.
-use Rattle.std.specs.Prelude.{◌≡◌, false, List, Option, Some, None, length}
+use Rattle.std.specs.Prelude.{◌≡◌, false, List, Option, Some, None, is_some, length}
 use Rattle.irc_line.specs.Line.{Parts}
 use Rattle.bnc_config.specs.Settings.{NetworkSettings, SaslSettings}
 use Rattle.sasl.specs.Login as login
@@ -35,9 +35,10 @@ IsAt network lines register = record {
   nick : register.nick ≡ network.nick;
   joins : register.joins ≡ join_lines network;
   offered : register.offered ≡ offered_by lines;
-  tries : register.tries ≡ tries_in lines;
+  tries : register.tries ≡ tries_in network lines;
   count : register.count ≡ length lines;
   login : IsLoginAt network.sasl lines register.login;
+  nicks : register.has_nicks ≡ is_some network.options.nicks;
 }
 
 -- a registration at the network has taken these lines

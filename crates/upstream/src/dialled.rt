@@ -1,11 +1,12 @@
 //! A connection to a network, from its first byte to the welcome, as one state after the other.
 
-ghost use Rattle.std.specs.Prelude.{◌≡◌, ◌++◌, ◌∷◌, [], ℕ, List, Option, IfErr, IfOk};
+ghost use Rattle.std.specs.Prelude.{◌≡◌, ◌++◌, ◌∷◌, [], ℕ, List, Option, IfErr, IfOk, IsTrue};
+ghost use Rattle.irc_names.specs.Nick.{is_nameable};
 ghost use Rattle.std.specs.Io.KnownBytes.{Appends, Consumes};
 ghost use Rattle.irc_line.specs.Line.{Parts};
 ghost use Rattle.irc_line.specs.Lines.{fed, lines_of, start};
 ghost use Rattle.bnc_config.specs.Settings.{NetworkSettings};
-ghost use Rattle.upstream.specs.Registration.{first_lines};
+ghost use Rattle.upstream.specs.Registration.{asked_as, first_lines};
 ghost use Rattle.irc_line.specs.Writing.{bytes_of};
 ghost use Rattle.upstream.specs.Handshake.{Begins, IsCauseOf, IsSendCause, IsWelcomed, all_sent, sent_for};
 ghost use Rattle.upstream.specs.Taken.{HasTaken};
@@ -73,8 +74,31 @@ impl<R: Read, W: Write> Dialled<R, W> {
             × Begins (W.contents (dialled_stream self).writer) (W.contents x.1.writer)
             (bytes_of (first_lines network.now))) }
     {
+        self.begin_as(alloc, network, network.nick())
+    }
+
+    /// The same of a registration that asks for this nick in place of the settings'.
+    pub fn begin_as(
+        self,
+        alloc: Global,
+        network: &NetworkConfig,
+        nick: &[u8],
+    ) -> Result<Registering<R, W>, (DialFault, Duplex<R, W>)>
+        requires { IsTrue (is_nameable nick.now) }
+        ensures taken { IfOk result
+            (λ r. HasTaken (asked_as network.now nick.now) [] (register_of r)) }
+        ensures sent { IfOk result (λ r. Appends (W.contents (dialled_stream self).writer)
+            (W.contents (registering_stream r).writer)
+            (bytes_of (first_lines (asked_as network.now nick.now)))) }
+        ensures unread { IfOk result (λ r.
+            (registering_stream r).reader ≡ (dialled_stream self).reader) }
+        ensures err { IfErr result (λ x. IsSendCause x.0
+            × (x.1.reader ≡ (dialled_stream self).reader)
+            × Begins (W.contents (dialled_stream self).writer) (W.contents x.1.writer)
+            (bytes_of (first_lines (asked_as network.now nick.now)))) }
+    {
         let mut stream = self.stream;
-        match open(alloc, &mut stream.writer, network) {
+        match open(alloc, &mut stream.writer, network, nick) {
             Ok(register) => Ok(Registering { stream, register }),
             Err(fault) => Err((fault, stream)),
         }

@@ -1,12 +1,13 @@
 //! The registration over a reader and a writer.
 
 ghost use Rattle.std.specs.Prelude.{◌≡◌, ◌++◌, ◌∷◌, [], ◌+◌, ℕ, List, false, take};
-ghost use Rattle.std.specs.Prelude.{◌<◌, ◌≤◌, IfErr, IfNone, IfOk, IfSome, OnOk, drop, length};
+ghost use Rattle.std.specs.Prelude.{◌<◌, ◌≤◌, IfErr, IfNone, IfOk, IfSome, IsTrue, OnOk, drop, length};
+ghost use Rattle.irc_names.specs.Nick.{is_nameable};
 ghost use Rattle.std.specs.Io.KnownBytes.{Appends, Consumes};
 ghost use Rattle.irc_line.specs.Line.{Parts};
 ghost use Rattle.irc_line.specs.Lines.{fed, lines_of, start};
 ghost use Rattle.bnc_config.specs.Settings.{NetworkSettings};
-ghost use Rattle.upstream.specs.Registration.{answer_to, first_lines, has_ended};
+ghost use Rattle.upstream.specs.Registration.{answer_to, asked_as, first_lines, has_ended};
 ghost use Rattle.upstream.specs.Handshake.{Begins, IsCauseOf, IsEndedBy, IsLinesCause, IsSendCause};
 ghost use Rattle.upstream.specs.Handshake.{IsStepCause, IsWelcomeAt, IsWelcomed};
 ghost use Rattle.irc_line.specs.Writing.{bytes_of};
@@ -59,7 +60,7 @@ impl From<OutOfMemory> for DialFault {
 /// What was read of a network that has taken us in.
 #[derive(Drop)]
 pub struct Welcomed {
-    /// The splitter, with the bytes behind the last line.
+    /// The splitter, with the bytes after the last line.
     pub splitter: Splitter,
     /// The lines that were read from the welcome on, in order.
     pub lines: Vec<Line>,
@@ -147,20 +148,23 @@ fn drop_front(lines: &mut Vec<Line>, place: usize)
     lines.truncate(lines.len() - place);
 }
 
-/// Sends what is sent before a line has come, in one write.
+/// Sends what is sent before a line has come, in one write; it asks for this nick.
 pub(crate) fn open<W: Write>(
     alloc: Global,
     writer: &mut W,
     network: &NetworkConfig,
+    nick: &[u8],
 ) -> Result<Register, DialFault>
-    ensures taken { IfOk result (λ register. HasTaken network.now [] register) }
+    requires { IsTrue (is_nameable nick.now) }
+    ensures taken { IfOk result
+        (λ register. HasTaken (asked_as network.now nick.now) [] register) }
     ensures sent { OnOk result (Appends (W.contents writer.old) (W.contents writer.new)
-        (bytes_of (first_lines network.now))) }
+        (bytes_of (first_lines (asked_as network.now nick.now)))) }
     ensures begun { Begins (W.contents writer.old) (W.contents writer.new)
-        (bytes_of (first_lines network.now)) }
+        (bytes_of (first_lines (asked_as network.now nick.now))) }
     ensures err { IfErr result IsSendCause }
 {
-    let (register, first) = Register::start(alloc, network)?;
+    let (register, first) = Register::start_as(alloc, network, nick)?;
     send(alloc, first.as_slice(), writer)?;
     Ok(register)
 }
@@ -279,6 +283,6 @@ pub fn register<R: Read, W: Write>(
         × Begins (W.contents writer.old) (W.contents writer.new)
         (bytes_of (all_sent network.now (lines_of bytes)))) }
 {
-    let register = open(alloc, writer, network)?;
+    let register = open(alloc, writer, network, network.nick())?;
     complete(alloc, register, reader, writer)
 }

@@ -1,11 +1,13 @@
 //! Laws of the definitions that the contracts cite.
 
-ghost use Rattle.std.specs.Prelude.{◌≡◌, ◌||◌, ◌++◌, ◌∷◌, [], ℕ, List, Some, false, true};
-ghost use Rattle.irc_line.specs.Line.{Parts};
+ghost use Rattle.std.specs.Prelude.{◌≡◌, ◌||◌, ◌++◌, ◌∷◌, [], ℕ, List, None, Some, codes, false, true};
+ghost use Rattle.irc_line.specs.Line.{Parts, has_command};
 ghost use Rattle.bnc_config.specs.Settings.{NetworkSettings, SaslSettings};
 ghost use Rattle.sasl.specs.Login.{is_answered, is_logged_in};
-ghost use Rattle.upstream.specs.Registration.{answer_to, first_lines, has_ended, is_end, sends};
+ghost use Rattle.upstream.specs.Registration.{answer_to, first_lines, has_ended, heard, is_end, sends};
 ghost use Rattle.upstream.specs.Registration.{welcomes};
+ghost use Rattle.upstream.specs.Said.{said};
+ghost use Rattle.upstream.specs.declared.said.Said.TheVariants as says;
 
 /// A registration has ended after one more line exactly where it had ended before or this line's
 /// answer is its end; and what follows its end is answered by nothing.
@@ -37,4 +39,14 @@ pub fn the_password_is_sent_for_one_line()
         (before : List Parts) (line : Parts) → is_answered before line ≡ false →
         answer_to (record network { sasl = Some (Some (user, one)) }) before line
         ≡ answer_to (record network { sasl = Some (Some (user, other)) }) before line }
+{}
+
+/// Without further nicks a line says to a registration what it says. With them, and with an empty list
+/// of them, 437 ERR_UNAVAILRESOURCE says what 433 ERR_NICKNAMEINUSE does.
+pub fn only_with_nicks_437_is_heard()
+    ensures without { (network : NetworkSettings) (line : Parts) →
+        network.options.nicks ≡ None → heard network line ≡ said line }
+    ensures with_nicks { (network : NetworkSettings) (nicks : List (List ℕ)) (line : Parts) →
+        network.options.nicks ≡ Some nicks → has_command line (codes "437") ≡ true →
+        heard network line ≡ says.NickInUse }
 {}

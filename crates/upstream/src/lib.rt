@@ -20,5 +20,5 @@ pub use keeper::Keeper;
 pub use link::Link;
 pub use registration::{Register, RegisterFault, Step};
 pub use sending::channel_lines;
-pub use serving::{NetworkEnd, Served, serve_network};
+pub use serving::{NetworkEnd, Served, serve_network, serve_network_as};
 pub use std::alloc::AllocError as OutOfMemory;

@@ -1,13 +1,14 @@
 //! The registration at a network, line by line.
 
 ghost use Rattle.std.specs.Prelude.{◌≡◌, ◌≢◌, ◌<◌, ◌++◌, ◌∷◌, [], List, IfNone, IfOk, OnErr, OnOk};
-ghost use Rattle.std.specs.Prelude.{IfSome, true};
+ghost use Rattle.std.specs.Prelude.{IfSome, IsTrue, true};
+ghost use Rattle.irc_names.specs.Nick.{is_nameable};
 ghost use Rattle.irc_line.specs.Line.{Parts};
 ghost use Rattle.bnc_config.specs.Settings.{NetworkSettings};
 ghost use Rattle.upstream.specs.Said.{said};
 ghost use Rattle.sasl.specs.Login as login;
-ghost use Rattle.upstream.specs.Registration.{answer_of_login, answer_to, answer_to_welcome};
-ghost use Rattle.upstream.specs.Registration.{fails, fault_of, first_lines, login_or, offered_by};
+ghost use Rattle.upstream.specs.Registration.{answer_of_login, answer_to, answer_to_welcome, asked_as};
+ghost use Rattle.upstream.specs.Registration.{fails, fault_of, first_lines, heard, login_or, offered_by};
 ghost use Rattle.upstream.specs.Registration.{reply_to, sends};
 ghost use Rattle.upstream.specs.Taken.{HasTaken, IsAt, IsLoginAt, answer_of};
 
@@ -27,7 +28,8 @@ use thiserror::Error;
 /// Why a network did not take us in.
 #[derive(Clone, Copy, Debug, PartialEq, Eq, Error)]
 pub enum RegisterFault {
-    /// The nick was another's, and so was it with one, two and three marks (433 ERR_NICKNAMEINUSE).
+    /// The nick was another's, and so was it with one, two and three marks (433 ERR_NICKNAMEINUSE; if
+    /// the settings have further nicks, also 437 ERR_UNAVAILRESOURCE).
     #[error("nick in use")]
     NickInUse,
     /// The nick is none on this network (432 ERR_ERRONEUSNICKNAME).
@@ -83,6 +85,8 @@ pub struct Register {
     // how many lines came
     count: usize,
     login: Option<AccountLogin>,
+    // whether the settings have further nicks, or an empty list of them
+    has_nicks: bool,
     is_over: bool,
 }
 
@@ -100,6 +104,7 @@ impl Model for Register {
       tries = register.tries;
       count = register.count;
       login = register.login;
+      has_nicks = register.has_nicks;
       is_over = register.is_over;
     } };
 
@@ -135,23 +140,52 @@ impl Register {
         ensures taken { IfOk result (λ x. HasTaken network.now [] x.0) }
         ensures sent { IfOk result (λ x. x.1.items ≡ first_lines network.now) }
     {
-        let lines = first_lines(alloc, network)?;
+        Register::start_as(alloc, network, network.nick())
+    }
+
+    /// A registration that asks for this nick in place of the settings'.
+    pub fn start_as(
+        alloc: Global,
+        network: &NetworkConfig,
+        nick: &[u8],
+    ) -> Result<(Register, Vec<Line>), OutOfMemory>
+        requires { IsTrue (is_nameable nick.now) }
+        ensures taken { IfOk result (λ x. HasTaken (asked_as network.now nick.now) [] x.0) }
+        ensures sent { IfOk result (λ x.
+            x.1.items ≡ first_lines (asked_as network.now nick.now)) }
+    {
+        let lines = first_lines(alloc, network, nick)?;
         let register = Register {
-            nick: Vec::from_slice(alloc, network.nick())?,
+            nick: Vec::from_slice(alloc, nick)?,
             joins: join_lines(alloc, network)?,
             offered: Offered::none(),
             tries: 0,
             count: 0,
             login: AccountLogin::if_wanted(alloc, network.sasl())?,
+            has_nicks: network.nicks().is_some(),
             is_over: false,
         };
         Ok((register, lines))
     }
 
+    /// What a line, which says this, says to this registration: 437 is taken for 433 if the settings
+    /// have further nicks.
+    fn heard(&self, says: Said, line: &Line) -> Said
+        requires { says ≡ said line.now }
+        ensures { (network : NetworkSettings) (before : List Parts) →
+            IsAt network before self.now → result ≡ heard network line.now }
+    {
+        if self.has_nicks && line.is(b"437") {
+            Said::NickInUse
+        } else {
+            says
+        }
+    }
+
     /// The fault that a line which says this is.
     fn fault_of(&self, says: Said) -> Option<RegisterFault>
         ensures fault { (network : NetworkSettings) (before : List Parts) →
-            IsAt network before self.now → result ≡ fault_of before says }
+            IsAt network before self.now → result ≡ fault_of network before says }
         ensures room { IfNone result (says ≢ Said.Welcome → self.now.count < 9999) }
         ensures tries { IfNone result (says ≡ Said.NickInUse → self.now.tries < 3) }
     {
@@ -224,7 +258,7 @@ impl Register {
     /// Takes a line of the network, and tells what follows from it; once it has ended, that nothing
     /// is to be sent. Of the capabilities that a network offers, `multi-prefix`, `extended-join`,
     /// `account-notify`, `away-notify` and `server-time` are asked for, and `sasl` if the settings
-    /// have an account. After want of memory the registration is as it was.
+    /// have an account. After a refused allocation the registration is as it was.
     pub fn line(&mut self, line: &Line) -> Result<Step, OutOfMemory>
         ensures answer { (network : NetworkSettings) (before : List Parts) →
             HasTaken network before self.old →
@@ -239,22 +273,23 @@ impl Register {
             return Ok(Step::Send(Vec::new(alloc)));
         }
         let says = Said::of(line);
-        if let Said::Welcome = says {
+        let heard = self.heard(says, line);
+        if let Said::Welcome = heard {
             return Ok(self.welcomed());
         }
-        if let Some(fault) = self.fault_of(says) {
+        if let Some(fault) = self.fault_of(heard) {
             self.is_over = true;
             return Ok(Step::Fault(fault));
         }
         let offered = self.offered.with(says, line);
-        let reply = self.reply_to(says, line, offered)?;
+        let reply = self.reply_to(heard, line, offered)?;
         let Some(lines) = lines_of(self.login_step(says, line)?, reply) else {
             self.is_over = true;
             return Ok(Step::Fault(RegisterFault::SaslFailed));
         };
         self.offered = offered;
         self.count += 1;
-        if let Said::NickInUse = says {
+        if let Said::NickInUse = heard {
             self.tries += 1;
         }
         Ok(Step::Send(lines))

@@ -5,7 +5,7 @@ ghost use Rattle.std.specs.List.{list_all};
 ghost use Rattle.irc_line.specs.Writing.{is_clean, is_writable};
 ghost use Rattle.irc_names.specs.Nick.{is_nameable};
 ghost use Rattle.bnc_config.specs.Text.{is_word};
-ghost use Rattle.upstream.specs.Registration.{cap_end, channel_lines, command, first_lines};
+ghost use Rattle.upstream.specs.Registration.{asked_as, cap_end, channel_lines, command, first_lines};
 ghost use Rattle.upstream.specs.Registration.{join_line, join_lines, marked, nick_line, pong_line};
 ghost use Rattle.upstream.specs.Registration.{request_of, user_line};
 
@@ -37,7 +37,7 @@ fn push_command(
     Ok(())
 }
 
-/// `NICK nick`, with so many marks behind the nick.
+/// `NICK nick`, with that many marks after the nick.
 pub(crate) fn nick_line(alloc: Global, nick: &[u8], marks: usize) -> Result<Line, OutOfMemory>
     requires nameable { IsTrue (is_nameable nick.now) }
     requires few { marks < 4 }
@@ -56,17 +56,22 @@ fn user_line(alloc: Global, network: &NetworkConfig) -> Result<Line, OutOfMemory
     command(alloc, b"USER", &params)
 }
 
-/// What is sent before a line has come: `CAP LS 302`, PASS where there is a password, NICK and
-/// USER.
-pub(crate) fn first_lines(alloc: Global, network: &NetworkConfig) -> Result<Vec<Line>, OutOfMemory>
-    ensures { IfOk result (λ lines. lines.items ≡ first_lines network.now) }
+/// What is sent before a line has come: `CAP LS 302`, PASS where there is a password, NICK with this
+/// nick and USER.
+pub(crate) fn first_lines(
+    alloc: Global,
+    network: &NetworkConfig,
+    nick: &[u8],
+) -> Result<Vec<Line>, OutOfMemory>
+    requires { IsTrue (is_nameable nick.now) }
+    ensures { IfOk result (λ lines. lines.items ≡ first_lines (asked_as network.now nick.now)) }
 {
     let mut lines = Vec::with_capacity(alloc, 4)?;
     push_command(alloc, &mut lines, b"CAP", &[b"LS", b"302"])?;
     if let Some(password) = network.password() {
         push_command(alloc, &mut lines, b"PASS", &[password])?;
     }
-    push_command(alloc, &mut lines, b"NICK", &[network.nick()])?;
+    push_command(alloc, &mut lines, b"NICK", &[nick])?;
     lines.push(user_line(alloc, network)?)?;
     Ok(lines)
 }

@@ -1,9 +1,11 @@
 //! A network, from the first byte of a connection to its end.
 
-ghost use Rattle.std.specs.Prelude.{◌≡◌, ℕ, IfErr, IfOk, List};
+ghost use Rattle.std.specs.Prelude.{◌≡◌, ℕ, IfErr, IfOk, IsTrue, List};
+ghost use Rattle.irc_names.specs.Nick.{is_nameable};
 ghost use Rattle.std.specs.Io.KnownBytes.{Consumes};
 ghost use Rattle.hub_threads.specs.Rings.{items_of, put_of};
 ghost use Rattle.upstream.specs.Handshake.{IsCauseOf};
+ghost use Rattle.upstream.specs.Registration.{asked_as};
 ghost use Rattle.upstream.specs.Served.{IsRead, IsRegistered, WasServed};
 
 use crate::dialled::{Dialled, Duplex};
@@ -93,20 +95,23 @@ fn handed_back<I, W: Write>(
     }
 }
 
-/// Registers at a network; the stream and what was read from the welcome on.
+/// Registers at a network under this nick; the stream and what was read from the welcome on.
 fn register_over<I: Read, W: Write>(
     alloc: Global,
     stream: Duplex<I, W>,
     network: &NetworkConfig,
+    nick: &[u8],
 ) -> Result<(Duplex<I, W>, Welcomed), (DialFault, Duplex<I, W>)>
-    ensures ok { IfOk result (λ x. IsRegistered network.now (I.remaining stream.reader)
+    requires { IsTrue (is_nameable nick.now) }
+    ensures ok { IfOk result (λ x. IsRegistered (asked_as network.now nick.now)
+        (I.remaining stream.reader)
         (I.remaining x.0.reader) (W.contents stream.writer) (W.contents x.0.writer)
         x.1.lines.items x.1.splitter) }
     ensures err { IfErr result (λ x. (bytes : List ℕ)
         × Consumes (I.remaining stream.reader) (I.remaining x.1.reader) bytes
-        × IsCauseOf network.now bytes x.0) }
+        × IsCauseOf (asked_as network.now nick.now) bytes x.0) }
 {
-    let registering = Dialled::new(stream).begin(alloc, network)?;
+    let registering = Dialled::new(stream).begin_as(alloc, network, nick)?;
     let live = registering.finish(alloc)?;
     Ok(live.into_parts())
 }
@@ -152,7 +157,7 @@ fn read_to_end<I: Read, W: Write, G: Gate, C: Clock, X: Keeper<I, W>, R: Wait>(
 
 /// Serves a connection to a network, from its first byte to its end: registers, puts the lines from
 /// the welcome on into the hub's inlet and then all that is read, and at the end one loss; in a
-/// thread beside it, writes the hub's packets. The keeper is told each step. Returns once both have
+/// thread beside it, writes the hub's packets. The keeper learns each step. Returns once both have
 /// ended. The reader passes the worker's gate, and the writer a copy of it.
 pub fn serve_network<
     I: Read,
@@ -170,7 +175,29 @@ pub fn serve_network<
 ) -> Served<I, W>
     ensures { WasServed I.remaining W.contents network.now stream link result }
 {
-    let (stream, welcomed) = match register_over(worker.alloc, stream, network) {
+    serve_network_as(worker, stream, network, network.nick(), link, keeper)
+}
+
+/// As `serve_network`, with a registration that asks for this nick in place of the settings'.
+pub fn serve_network_as<
+    I: Read,
+    W: Write + Send + Drop + 'static,
+    G: Gate + Clone + Send + Drop + 'static,
+    C: Clock,
+    X: Keeper<I, W>,
+    R: Threads + Wait + Send + Copy + 'static,
+>(
+    worker: &Worker<'_, R, G, C>,
+    stream: Duplex<I, W>,
+    network: &NetworkConfig,
+    nick: &[u8],
+    link: Link,
+    keeper: &mut X,
+) -> Served<I, W>
+    requires { IsTrue (is_nameable nick.now) }
+    ensures { WasServed I.remaining W.contents (asked_as network.now nick.now) stream link result }
+{
+    let (stream, welcomed) = match register_over(worker.alloc, stream, network, nick) {
         Ok(registered) => registered,
         Err((fault, stream)) => {
             return Served::unread(NetworkEnd::NotRegistered(fault), link, stream);

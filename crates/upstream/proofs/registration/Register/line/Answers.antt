@@ -3,7 +3,7 @@ use Rattle.std.proofs.Common.{false, refl, sym, true, ◌∙◌, ◌≡◌}
 use Rattle.upstream.proofs.Ends.{answer_by_fault, answer_is, ended_stays, ends_by_fault}
 use Rattle.upstream.proofs.Ends.{ends_by_login, ends_by_welcome, goes_on, not_in_use}
 use Rattle.upstream.proofs.Ends.{still_taken, taken_over}
-use Rattle.upstream.proofs.registration.Register.line.Goals.{in-NickInUse, in_default-says}
+use Rattle.upstream.proofs.registration.Register.line.Goals.{in-NickInUse, in_default-heard}
 use Rattle.upstream.specs.Registration.{has_ended}
 
 pub returns-then-self-clause-taken : goal.returns-then-self-clause-taken
@@ -15,31 +15,38 @@ returns-then-self-clause-taken c = λ network before taken.
 pub returns-in-Welcome-clause-taken : goal.returns-in-Welcome-clause-taken
 returns-in-Welcome-clause-taken c = λ network before taken.
     let going : has_ended network before ≡ false = rw (← taken.over, ← c.self.view_is) c.if-self.false in
+    let so_far = taken.going going in
     taken_over network _ _ c.welcomed.ensures.over
-    (ends_by_welcome network before c.args.line.now c.of-says.result going c.of-says.ensures
+    (ends_by_welcome network before c.args.line.now c.heard-heard.result going
+    (c.heard-heard.ensures network before so_far)
     c.in-Welcome.is)
 
 pub returns-in-Some-clause-answer : goal.returns-in-Some-clause-answer
 returns-in-Some-clause-answer c = λ network before taken.
     let going : has_ended network before ≡ false = rw (← taken.over, ← c.self.view_is) c.if-self.false in
-    sym (answer_by_fault network before c.args.line.now c.of-says.result going c.of-says.ensures
+    let so_far = taken.going going in
+    sym (answer_by_fault network before c.args.line.now c.heard-heard.result going
+    (c.heard-heard.ensures network before so_far)
     c.in_default.not-Welcome c.in-Some.fault
-    (c.in-Some.ensures.fault network before (taken.going going)))
+    (c.in-Some.ensures.fault network before so_far))
 
 pub returns-in-Some-clause-taken : goal.returns-in-Some-clause-taken
 returns-in-Some-clause-taken c = λ network before taken.
     let going : has_ended network before ≡ false = rw (← taken.over, ← c.self.view_is) c.if-self.false in
+    let so_far = taken.going going in
     taken_over network _ _ refl
-    (ends_by_fault network before c.args.line.now c.of-says.result going c.of-says.ensures
+    (ends_by_fault network before c.args.line.now c.heard-heard.result going
+    (c.heard-heard.ensures network before so_far)
     c.in_default.not-Welcome c.in-Some.fault
-    (c.in-Some.ensures.fault network before (taken.going going)))
+    (c.in-Some.ensures.fault network before so_far))
 
 pub returns-in_default-lines_of-clause-answer : goal.returns-in_default-lines_of-clause-answer
 returns-in_default-lines_of-clause-answer c = λ network before taken.
     let going : has_ended network before ≡ false = rw (← taken.over, ← c.self.view_is) c.if-self.false in
     let so_far = taken.going going in
     let offered = c.with-offered.ensures before (rw (← c.self.view_is) at so_far.offered) in
-    sym (answer_is network before c.args.line.now c.of-says.result going c.of-says.ensures
+    sym (answer_is network before c.args.line.now c.heard-heard.result going
+    (c.heard-heard.ensures network before so_far)
     c.in_default.not-Welcome (c.in_default-fault_of.ensures.fault network before so_far) _
     (c.in_ok-reply.ensures network before so_far offered) _
     (c.in_ok-login_step.ensures.answer network before so_far)
@@ -51,7 +58,8 @@ returns-in_default-lines_of-clause-taken c = λ network before taken.
     let so_far = taken.going going in
     let offered = c.with-offered.ensures before (rw (← c.self.view_is) at so_far.offered) in
     taken_over network _ _ refl
-    (ends_by_login network before c.args.line.now c.of-says.result going c.of-says.ensures
+    (ends_by_login network before c.args.line.now c.heard-heard.result going
+    (c.heard-heard.ensures network before so_far)
     c.in_default.not-Welcome (c.in_default-fault_of.ensures.fault network before so_far) _
     (c.in_ok-reply.ensures network before so_far offered) _
     (c.in_ok-login_step.ensures.answer network before so_far)
@@ -62,7 +70,8 @@ returns-clause-answer c = λ network before taken.
     let going : has_ended network before ≡ false = rw (← taken.over, ← c.self.view_is) c.if-self.false in
     let so_far = taken.going going in
     let offered = c.with-offered.ensures before (rw (← c.self.view_is) at so_far.offered) in
-    sym (answer_is network before c.args.line.now c.of-says.result going c.of-says.ensures
+    sym (answer_is network before c.args.line.now c.heard-heard.result going
+    (c.heard-heard.ensures network before so_far)
     c.in_default.not-Welcome (c.in_default-fault_of.ensures.fault network before so_far) _
     (c.in_ok-reply.ensures network before so_far offered) _
     (c.in_ok-login_step.ensures.answer network before so_far)
@@ -74,24 +83,27 @@ returns-clause-taken c = λ network before taken.
     let so_far = taken.going going in
     let offered = c.with-offered.ensures before (rw (← c.self.view_is) at so_far.offered) in
     let on =
-    goes_on network before c.args.line.now c.of-says.result going c.of-says.ensures
+    goes_on network before c.args.line.now c.heard-heard.result going
+    (c.heard-heard.ensures network before so_far)
     c.in_default.not-Welcome (c.in_default-fault_of.ensures.fault network before so_far) _
     (c.in_ok-reply.ensures network before so_far offered) _
     (c.in_ok-login_step.ensures.answer network before so_far) _
     c.in-Some-lines_of.ensures.some in
     let over : c.args.self.now.is_over ≡ false = rw (← c.self.view_is) c.if-self.false in
     let known = c.in_ok-login_step.ensures.taken network before so_far in
-    elim c.match-says-2.branch [
+    elim c.match-heard-2.branch [
       | in-NickInUse w ↦
           rw w.self-is
-          (still_taken network before c.args.line.now c.of-says.result c.args.self.now
-          c.login_step.new.self _ so_far c.of-says.ensures on over
+          (still_taken network before c.args.line.now c.heard-heard.result c.args.self.now
+          c.login_step.new.self _ so_far
+          (c.heard-heard.ensures network before so_far) on over
           c.in_ok-login_step.ensures.rest known offered
           (rw (← c.self-2.view_is, w.in-NickInUse.is) refl))
-      | in_default-says w ↦
+      | in_default-heard w ↦
           rw w.self-is
-          (still_taken network before c.args.line.now c.of-says.result c.args.self.now
-          c.login_step.new.self _ so_far c.of-says.ensures on over
+          (still_taken network before c.args.line.now c.heard-heard.result c.args.self.now
+          c.login_step.new.self _ so_far
+          (c.heard-heard.ensures network before so_far) on over
           c.in_ok-login_step.ensures.rest known offered
-          (rw (← c.self-2.view_is, not_in_use _ _ w.in_default-says.not-NickInUse) refl))
+          (rw (← c.self-2.view_is, not_in_use _ _ w.in_default-heard.not-NickInUse) refl))
     ]
