@@ -25,6 +25,17 @@ nick = \"ann\\\\\"
 user = \"ann\\\\\"
 realname = \"ann\\\\\"
 join = [\"#c\", \"#d\"]
+
+# not kept: requests by CTCP, notices of servers, what you say to yourself, and what is said to or by services
+[messages]
+ctcp = false
+server_notices = false
+to_self = false
+never = [\"NickServ\", \"ChanServ\"]
+
+# private messages come person by person, for clients that know batches
+[playback]
+private_batches = true
 ";
 
 #[test]

@@ -4,6 +4,8 @@
 #[cfg(test)]
 mod answers;
 #[cfg(test)]
+mod profile;
+#[cfg(test)]
 mod settings;
 #[cfg(test)]
 mod streams;

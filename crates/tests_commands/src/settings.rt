@@ -98,23 +98,39 @@ realname = \"\"
 ";
 
 #[test]
-fn what_is_left_out_has_its_default(rt: HostRuntime) -> Result<(), Fail> {
+fn settings_may_have_no_user(rt: HostRuntime) -> Result<(), Fail> {
     let config = Config::read(rt.alloc(), b"listen = \"host:1\"")?;
     assert!(rt; config.user_count() == 0 && config.networks(0).is_empty());
     assert!(rt; config.network(PLACE).is_none());
-    let config = Config::read(rt.alloc(), LEAST)?;
+    Ok(())
+}
+
+/// What is left out has its default.
+fn have_defaults<R: AllocGlobal + Abort>(rt: &R, config: &Config) -> Result<(), Fail> {
     assert!(rt; config.history() == 500 && config.retry() == 30);
     let network = config.network(PLACE).ok_or("a network")?;
     assert!(rt; network.password().is_none() && network.join().is_empty());
     assert!(rt; network.on_connect().is_empty() && network.join_after() == 3);
     assert!(rt; network.keys().is_empty() && network.nicks().is_none() && !network.away());
     assert!(rt; config.listens().len() == 1 && config.listen_proxy().is_empty());
-    assert!(rt; config.proxies().is_none());
+    assert!(rt; config.proxies().is_none() && config.metrics().is_none());
+    let (messages, playback) = (config.messages(), config.playback());
+    assert!(rt; messages.ctcp() && messages.server_notices() && messages.to_self());
+    assert!(rt; !messages.by_person() && messages.never().is_empty());
+    assert!(rt; !playback.private_batches() && playback.times().is_none());
+    assert!(rt; !playback.visits() && playback.wait() == 0);
     Ok(())
+}
+
+#[test]
+fn what_is_left_out_has_its_default(rt: HostRuntime) -> Result<(), Fail> {
+    let config = Config::read(rt.alloc(), LEAST)?;
+    have_defaults(&rt, &config)
 }
 
 /// All keys that came later, after what there must be.
 const LATER: &[u8] = b"listen = [\"host:1\", \"[::1]:2\"]
+metrics = \"a b.prom\"
 listen_proxy = \"host:3\"
 proxies = [\"192.0.2.1\", \"::1\"]
 [[user]]
@@ -144,10 +160,9 @@ fn spaced(alloc: Global, texts: &[Text]) -> Result<String, Fail> {
     Ok(out)
 }
 
-#[test]
-fn the_later_keys_are_read(rt: HostRuntime) -> Result<(), Fail> {
-    let config = Config::read(rt.alloc(), LATER)?;
-    assert!(rt; config.listen() == "host:1");
+/// The settings have what `LATER` says.
+fn have_later_keys<R: AllocGlobal + Abort>(rt: &R, config: &Config) -> Result<(), Fail> {
+    assert!(rt; config.listen() == "host:1" && config.metrics() == Some("a b.prom"));
     assert!(rt; spaced(rt.alloc(), config.listens())?.as_str() == "host:1 [::1]:2 ");
     assert!(rt; spaced(rt.alloc(), config.listen_proxy())?.as_str() == "host:3 ");
     let proxies = config.proxies().ok_or("proxies")?;
@@ -157,6 +172,12 @@ fn the_later_keys_are_read(rt: HostRuntime) -> Result<(), Fail> {
     assert!(rt; network.join_after() == 0 && network.away());
     assert!(rt; network.nicks().is_some_and(|nicks| nicks.is_empty()));
     Ok(())
+}
+
+#[test]
+fn the_later_keys_are_read(rt: HostRuntime) -> Result<(), Fail> {
+    let config = Config::read(rt.alloc(), LATER)?;
+    have_later_keys(&rt, &config)
 }
 
 /// Channels, and the keys that they have by `LATER`.

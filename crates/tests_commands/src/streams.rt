@@ -2,7 +2,7 @@
 
 use bnc_config::ConfigFault;
 use client_caps::Caps;
-use commands::{Fault, run_attach, run_check, run_view};
+use commands::{Fault, run_attach, run_attach_profiled, run_check, run_view};
 use std::alloc::Global;
 use std::io::{ErrorKind, Read, Write};
 use std::process::Abort;
@@ -25,6 +25,7 @@ const CHANNEL: &[u8] = b":bnc 422 Me :MOTD File is missing\r\n:Me JOIN #c\r\n\
 enum Reading {
     View,
     Attach,
+    Profiled,
 }
 
 /// Runs a command; a client that attaches has no capabilities.
@@ -37,6 +38,7 @@ fn run<I: Read, O: Write>(
     match command {
         Reading::View => run_view(alloc, input, output),
         Reading::Attach => run_attach(alloc, input, output, Caps::none(), 1),
+        Reading::Profiled => run_attach_profiled(alloc, b"", input, output, Caps::none(), 1),
     }
 }
 
@@ -90,7 +92,8 @@ fn check_failing_reads<R: AllocGlobal + Abort>(rt: &R, command: Reading) -> Resu
 #[test]
 fn a_read_that_fails(rt: HostRuntime) -> Result<(), Fail> {
     check_failing_reads(&rt, Reading::View)?;
-    check_failing_reads(&rt, Reading::Attach)
+    check_failing_reads(&rt, Reading::Attach)?;
+    check_failing_reads(&rt, Reading::Profiled)
 }
 
 /// How many bytes an output takes a call and in all, and how many calls are good.
@@ -142,7 +145,21 @@ fn a_report_that_is_not_taken(rt: HostRuntime) -> Result<(), Fail> {
 fn a_burst_that_is_not_taken(rt: HostRuntime) -> Result<(), Fail> {
     let burst = joined(rt.alloc(), &[GREETING, CHANNEL])?;
     check_failing_writes(&rt, (Reading::Attach, burst.as_slice()), &OUTPUTS)?;
-    check_slow_writes(&rt, (Reading::Attach, burst.as_slice()))
+    check_slow_writes(&rt, (Reading::Attach, burst.as_slice()))?;
+    check_failing_writes(&rt, (Reading::Profiled, burst.as_slice()), &OUTPUTS)?;
+    check_slow_writes(&rt, (Reading::Profiled, burst.as_slice()))
+}
+
+/// A fault of a profile comes before the input is read.
+#[test]
+fn a_fault_of_a_profile_before_the_input_is_read(rt: HostRuntime) -> Result<(), Fail> {
+    let mut input = Pieces::new(rt.alloc(), &[JOINED])?;
+    input.fault = Some(ErrorKind::ConnectionReset);
+    let mut output = Sink::new(rt.alloc());
+    let text = b"[messages]\nctcp = 1".as_slice();
+    let done = run_attach_profiled(rt.alloc(), text, &mut input, &mut output, Caps::none(), 1);
+    assert!(rt; matches!(done, Err(Fault::Settings(_))) && output.bytes.is_empty());
+    Ok(())
 }
 
 /// A fault of the settings comes before the output is tried.

@@ -2,58 +2,88 @@
 
 use client_caps::{Caps, read_request};
 use commands::{Command, explain_words, read_words};
-use std::alloc::Global;
 use std::process::Abort;
 use std::test::Fail;
 
-/// The capabilities and the number of messages of an attach, if the words ask for one.
-fn attach_of(alloc: Global, words: &[&str]) -> Option<(Caps, usize)> {
-    match read_words(alloc, words) {
-        Ok(Command::Attach(caps, history)) => Some((caps, history)),
-        _ => None,
+/// Whether a command is an attach with these capabilities, this number of messages, and the profile
+/// of this file, if there is one.
+fn is_attach(command: &Command, caps: Caps, history: usize, file: Option<&str>) -> bool {
+    match (command, file) {
+        (Command::Attach(with, last), None) => *with == caps && *last == history,
+        (Command::AttachBy(with, last, by), Some(file)) => {
+            *with == caps && *last == history && by.as_str() == file
+        }
+        _ => false,
     }
 }
 
-/// Words, and the capabilities and the number of messages that they ask for.
-static ATTACHES: [(&[&str], &[u8], usize); 8] = [
-    (&["attach"], b"", 500),
-    (&["attach", "--caps", ""], b"", 500),
-    (&["attach", "--caps", "batch"], b"batch", 500),
+/// Words, and the capabilities, the number of messages and the profile that they ask for.
+static ATTACHES: [(&[&str], &[u8], usize, Option<&str>); 10] = [
+    (&["attach"], b"", 500, None),
+    (&["attach", "--caps", ""], b"", 500, None),
+    (&["attach", "--caps", "batch"], b"batch", 500, None),
     (
         &["attach", "--caps", "batch,server-time"],
         b"server-time batch",
         500,
+        None,
     ),
     (
         &["attach", "--caps", "multi-prefix,-multi-prefix"],
         b"",
         500,
+        None,
     ),
-    (&["attach", "--history=1"], b"", 1),
+    (&["attach", "--history=1"], b"", 1, None),
     (
         &["attach", "--history", "10000", "--caps", "batch"],
         b"batch",
         10_000,
+        None,
     ),
     (
         &["attach", "--caps", "batch", "--history", "3"],
         b"batch",
         3,
+        None,
+    ),
+    (
+        &["attach", "--profile", "bnc.toml"],
+        b"",
+        500,
+        Some("bnc.toml"),
+    ),
+    (
+        &[
+            "attach",
+            "--profile=a b",
+            "--history",
+            "3",
+            "--caps",
+            "batch",
+        ],
+        b"batch",
+        3,
+        Some("a b"),
     ),
 ];
 
 /// Each row holds.
-fn check_attaches<R: AllocGlobal + Abort>(rt: &R, rows: &[(&[&str], &[u8], usize)]) {
-    for (words, names, history) in rows {
+fn check_attaches<R: AllocGlobal + Abort>(
+    rt: &R,
+    rows: &[(&[&str], &[u8], usize, Option<&str>)],
+) -> Result<(), Fail> {
+    for (words, names, history, file) in rows {
         let caps = read_request(Caps::none(), names);
-        assert!(rt; caps.is_some());
-        assert!(rt; attach_of(rt.alloc(), words) == caps.map(|caps| (caps, *history)));
+        let command = read_words(rt.alloc(), words)?;
+        assert!(rt; caps.is_some_and(|caps| is_attach(&command, caps, *history, *file)));
     }
+    Ok(())
 }
 
 #[test]
-fn capabilities_and_numbers_of_messages(rt: HostRuntime) {
-    check_attaches(&rt, &ATTACHES);
+fn capabilities_numbers_of_messages_and_profiles(rt: HostRuntime) -> Result<(), Fail> {
+    check_attaches(&rt, &ATTACHES)
 }
 
 /// Whether a command is for the file of this name: to check its settings, or else to serve them.

@@ -2,6 +2,7 @@
 
 mod accounts;
 mod channels;
+mod nicks;
 mod servers;
 mod states;
 pub(crate) mod streams;

@@ -5,6 +5,7 @@ mod between;
 pub(crate) mod events;
 mod garden;
 mod images;
+mod keys;
 pub(crate) mod limits;
 pub(crate) mod losses;
 pub(crate) mod messages;

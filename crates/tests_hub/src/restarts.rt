@@ -8,7 +8,7 @@ use crate::hub_rows::events::{WELCOME, events_of};
 use crate::hub_rows::scripts::{Story, outcome, text_of};
 use crate::hub_rows::{BURST, STORY};
 use frames::push_frame;
-use hub_core::{ForgetFault, LostChannel, Past};
+use hub_core::{ForgetFault, LostChannel, Past, Profile};
 use hub_runs::{Run, run_from};
 use journal::{Channel, Kept, RecallError, push_header, recall};
 use quick_view::QuickView;
@@ -60,7 +60,8 @@ fn runs(alloc: Global, script: &[&[u8]]) -> Result<Run<QuickView>, Fail> {
     push_frame(&mut file, KEPT)?;
     let past = past_of(alloc, &file)?;
     let events = events_of(alloc, &WELCOME, script)?;
-    Ok(run_from(alloc, QuickView::new(alloc)?, past, 0, 8, &events)?)
+    let profile = Profile::whole(alloc);
+    Ok(run_from(alloc, QuickView::new(alloc)?, past, 0, 8, &events, profile)?)
 }
 
 /// Three clients attach, and then somebody talks.

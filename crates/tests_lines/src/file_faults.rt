@@ -1,9 +1,6 @@
 //! The file of a journal on a disk that fails: what is told, what is done next, and what the file
 //! holds then.
 
-mod small_disk;
-
-use crate::file_faults::small_disk::{SmallDisk, Trouble, disk};
 use crate::journals::push;
 use journal::recall;
 use journal_files::{Beginning, Deed, Disk, JournalFile, Wanted};
@@ -11,6 +8,7 @@ use std::alloc::Global;
 use std::cell::RefCell;
 use std::process::Abort;
 use std::test::Fail;
+use test_disks::{SmallDisk, Trouble, disk};
 
 /// Moments in milliseconds, at which a batch `b` is to be written, or all in a new file `all`: what is
 /// wrong with the disk then, what comes of it, and what the file holds.

@@ -1,6 +1,5 @@
 //! Connections that are turned away, and those that fall silent.
 
-use crate::bouncer::{Bouncer, limits, start};
 use keep::{Watch, keep_watch, watch_on};
 use serving::Limits;
 use std::alloc::Global;
@@ -8,24 +7,10 @@ use std::net::{Net, SocketAddr, TcpListener, TcpStream};
 use std::rt::Clock;
 use std::test::Fail;
 use std::time::{Duration, Instant};
+use test_bouncer::bouncer::{Bouncer, limits, start};
+use test_bouncer::refusal::{SEND_PASS, turned_away};
 use test_stage::ann::LOGIN;
 use test_stage::peer::Peer;
-
-/// A client connects and says this, and is turned away with this answer.
-pub(crate) fn turned_away<R: Net<Listener = TcpListener, Stream = TcpStream>>(
-    rt: &R,
-    alloc: Global,
-    address: SocketAddr,
-    says: &str,
-    answer: &str,
-) -> Result<(), Fail> {
-    let mut client = Peer::dial(rt, address)?;
-    client.say(says)?;
-    client.ends_with(alloc, answer)
-}
-
-/// What a client gets when its time is up, if it has sent no PASS.
-pub(crate) const SEND_PASS: &str = "ERROR :send PASS user@client/network:password\r\n";
 
 /// A client says nothing. How long it was kept.
 fn silence<R: Clock + Net<Listener = TcpListener, Stream = TcpStream>>(

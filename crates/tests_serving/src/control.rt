@@ -1,9 +1,5 @@
 //! Words that control the bouncer, and settings that are read again while it runs.
 
-use crate::bouncer::{Bouncer, limits, settings, settle, start_unlogged};
-use crate::coming_back::{PHONE, PLAIN, come, leave, let_in};
-use crate::connections::turned_away;
-use crate::host::Host;
 use bnc_config::Config;
 use serving::{Limits, Shared, Source, Unread, go_by, obey, stop};
 use std::alloc::Global;
@@ -12,6 +8,10 @@ use std::process::Abort;
 use std::sync::Arc;
 use std::test::Fail;
 use std::time::Duration;
+use test_bouncer::bouncer::{Bouncer, limits, settings, settle, start_unlogged};
+use test_bouncer::host::Host;
+use test_bouncer::refusal::turned_away;
+use test_bouncer::room::{PHONE, PLAIN, come, leave, let_in};
 use test_stage::peer::{Peer, same};
 use test_stage::settings::{BC, BD, Named, settings_of};
 
@@ -63,7 +63,7 @@ fn logged_of<R: Host + Net<Listener = TcpListener, Stream = TcpStream>>(
 /// What each word does, and lines that are none.
 #[test]
 fn words_one_a_line(rt: HostRuntime) -> Result<(), Fail> {
-    let rows: [(&[u8], bool, &str); 6] = [
+    let rows: [(&[u8], bool, &str); 7] = [
         (
             b"status\n",
             false,
@@ -73,6 +73,11 @@ fn words_one_a_line(rt: HostRuntime) -> Result<(), Fail> {
             b"reload\n",
             false,
             "bnc: not reloaded: cannot read\nbnc: not reloaded: bnc.toml: not found\n",
+        ),
+        (
+            b"metrics\n",
+            false,
+            "bnc: control: metrics: the settings have no key `metrics`\n",
         ),
         (b"stop\nstatus\n", true, ""),
         (b"st\x1bop\nstop", false, "bnc: control: ignored st?op\n"),
@@ -202,7 +207,7 @@ fn a_network_is_dialled_by_other_settings(rt: HostRuntime) -> Result<(), Fail> {
 /// The login of the phone with the password `bd`.
 const BY_BD: &str = "PASS ann@phone/net:bd\r\nNICK x\r\nUSER x 0 * :x\r\n";
 
-/// The password changes while a client logs in, and the client is asked to log in again.
+/// The password changes while a client logs in: the client is judged by the new one.
 fn late_login<R: Host + Net<Listener = TcpListener, Stream = TcpStream>>(
     rt: R,
     alloc: Global,
@@ -214,7 +219,7 @@ fn late_login<R: Host + Net<Listener = TcpListener, Stream = TcpStream>>(
     let here = ("net", bouncer.network.local_addr()?, "ann");
     reload(rt, alloc, bouncer, BD, &[here])?;
     late.say("NICK x\r\nUSER x 0 * :x\r\n")?;
-    late.ends_with(alloc, "ERROR :settings changed, log in again\r\n")
+    late.ends_with(alloc, ":bnc 464 * :Password incorrect\r\n")
 }
 
 /// Two clients hear what bob says, and quit.
@@ -230,8 +235,8 @@ fn hear_and_leave(
     leave(alloc, phone)
 }
 
-/// The password changes: a login that began before is asked to log in again, later ones need the
-/// new one, and a session stays.
+/// The password changes: a login that began before needs the new one, as later ones do, and a session
+/// stays.
 fn another_password<R: Host + Net<Listener = TcpListener, Stream = TcpStream>>(
     rt: R,
     alloc: Global,

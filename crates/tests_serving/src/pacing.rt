@@ -1,7 +1,5 @@
 //! The pace at which the clients of a network may speak.
 
-use crate::bouncer::{Bouncer, limits, start, start_unlogged};
-use crate::coming_back::{PHONE, PLAIN, Room, come, gather, leave, let_in};
 use serving::Limits;
 use std::alloc::Global;
 use std::net::{Net, TcpListener, TcpStream};
@@ -9,6 +7,8 @@ use std::rt::Clock;
 use std::sync::Wait;
 use std::test::Fail;
 use std::time::{Duration, Instant};
+use test_bouncer::bouncer::{Bouncer, limits, start, start_unlogged};
+use test_bouncer::room::{PHONE, PLAIN, Room, come, gather, leave, let_in};
 use test_stage::peer::Peer;
 
 /// How many lines are sent at once.

@@ -1,10 +1,10 @@
 //! A client that sends a lot at once.
 
-use crate::bouncer::{Bouncer, limits, start};
-use crate::coming_back::{Room, gather, leave};
 use std::alloc::Global;
 use std::net::{Net, TcpListener, TcpStream};
 use std::test::Fail;
+use test_bouncer::bouncer::{Bouncer, limits, start};
+use test_bouncer::room::{Room, gather, leave};
 
 /// How many lines are sent at once: more than may wait for the network or for a session.
 const LINES: u32 = 600;

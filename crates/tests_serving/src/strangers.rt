@@ -1,7 +1,5 @@
 //! Connections that say nothing, and logins beside them.
 
-use crate::bouncer::{Bouncer, limits, start};
-use crate::connections::{SEND_PASS, turned_away};
 use std::alloc::Global;
 use std::net::{Net, SocketAddr, TcpListener, TcpStream};
 use std::rt::Clock;
@@ -9,6 +7,8 @@ use std::sync::Wait;
 use std::test::Fail;
 use std::thread;
 use std::time::{Duration, Instant};
+use test_bouncer::bouncer::{Bouncer, limits, start};
+use test_bouncer::refusal::{SEND_PASS, turned_away};
 use test_stage::ann::LOGIN;
 use test_stage::peer::Peer;
 

@@ -15,4 +15,8 @@ mod memory;
 #[cfg(test)]
 mod networks;
 #[cfg(test)]
+mod nicks;
+#[cfg(test)]
 mod pace;
+#[cfg(test)]
+mod watched;

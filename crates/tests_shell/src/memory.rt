@@ -47,6 +47,10 @@ impl Neighbours for Idle {
     fn is_crowded(&self) -> bool {
         false
     }
+
+    fn take_changed(&self) -> bool {
+        false
+    }
 }
 
 /// What one read gives; nothing at the end.

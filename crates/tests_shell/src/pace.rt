@@ -1,22 +1,24 @@
 //! What lines cost, and how long their speaker waits.
 
-use shell::{Debt, Pace, cost_of, full_cost};
+use shell::{Debt, Pace, Toll, full_cost, toll_of};
 use std::test::Fail;
 use std::time::Duration;
 
 #[test]
 fn what_a_line_costs(rt: HostRuntime) -> Result<(), Fail> {
-    let rows: [(&[u8], usize); 7] = [
-        (b"WHO\n", 30),
-        (b"PRIVMSG #c :hello to all of you\r\n", 33),
-        (b"ping x\r\n", 0),
-        (b"@a=b :x PONG y\r\n", 0),
-        (b"CAP REQ batch\r\n", 0),
-        (b"QUIT\r\n", 0),
-        (b"PRIVMSG #c :PING\r\n", 30),
+    let rows: [(&[u8], usize, bool); 9] = [
+        (b"WHO\n", 30, false),
+        (b"PRIVMSG #c :hello to all of you\r\n", 33, false),
+        (b"ping x\r\n", 0, false),
+        (b"@a=b :x PONG y\r\n", 0, false),
+        (b"CAP REQ batch\r\n", 0, true),
+        (b"cap req :-batch\r\n", 0, true),
+        (b"CAP LS 302\r\n", 0, false),
+        (b"QUIT\r\n", 0, false),
+        (b"PRIVMSG #c :PING\r\n", 30, false),
     ];
-    for (line, cost) in rows {
-        assert_eq!(rt; cost_of(rt.alloc(), line)?, cost);
+    for (line, cost, is_request) in rows {
+        assert_eq!(rt; toll_of(rt.alloc(), line)?, Toll { cost, is_request });
     }
     assert_eq!(rt; full_cost(31), 31);
     Ok(())

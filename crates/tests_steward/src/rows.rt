@@ -1,54 +1,27 @@
-//! Rows: a time in milliseconds, an event, and the text of the answer.
+//! Rows of text: a time in milliseconds, an event with its numbers, and what it is answered.
 
-use std::alloc::Global;
+use std::alloc::{AllocError, Global};
 use std::process::Abort;
 use std::test::Fail;
-use steward::{Event, Limits, Steward, Terms, Times, Verdict, Wanted};
-
-/// A time, what happens then, and what is answered.
-pub(crate) type Row = (u64, Event<'static>, &'static str);
-
-/// A network, by numbers for its name, its address and nick, and its settings.
-pub(crate) const NET: Wanted = Wanted {
-    name: 7,
-    address: 700,
-    holds: 70,
-    settings: 1,
-};
-
-/// The same by another name.
-pub(crate) const RENAMED: Wanted = Wanted {
-    name: 8,
-    address: 700,
-    holds: 70,
-    settings: 1,
-};
-
-/// The same at another address.
-pub(crate) const MOVED: Wanted = Wanted {
-    name: 7,
-    address: 701,
-    holds: 71,
-    settings: 1,
-};
-
-/// Another network at the first address.
-pub(crate) const OTHER: Wanted = Wanted {
-    name: 9,
-    address: 700,
-    holds: 72,
-    settings: 1,
-};
+use steward::{Channels, Event, Limits, Steward, Terms, Times, Verdict, Wanted};
 
 /// Networks rest 100 to 250, and dials at one address are 10 apart.
-pub(crate) const TIMES: Times = Times {
+const TIMES: Times = Times {
     retry: 100,
     most: 250,
     gap: 10,
 };
 
+/// A network that is served from time 1 on.
+pub(crate) const ONLINE: &str = "
+        0 settings net => Reloaded
+        0 asks 0 => Dial { network: 0 }
+        0 connected 0 => Register { network: 0 }
+        1 registered 0 => Welcome { network: 0 }
+    ";
+
 /// Two seats, one late answer, two sessions; a denied login is answered
-/// after 1,000; a removed network has 50 for its clients, and so have clients and networks at a stop.
+/// after 1,000; a session waits 100 for channels; a removed network has 50 for its clients, and so have clients and networks at a stop.
 pub(crate) fn steward(alloc: Global) -> Steward {
     let limits = Limits {
         seats: 2,
@@ -61,89 +34,138 @@ pub(crate) fn steward(alloc: Global) -> Steward {
         grace: 50,
         quit: 50,
         rest: 50,
+        wait: 100,
         budget: 1_000,
     };
     Steward::new(alloc, limits, TIMES, terms)
 }
 
-/// Settings that want these networks are read.
-pub(crate) fn settings(wanted: &'static [Wanted]) -> Event<'static> {
-    Event::Settings {
-        wanted,
-        times: TIMES,
-    }
-}
-
-/// A connection from address 1.
-pub(crate) const CAME: Event<'static> = Event::Came {
-    from: 1,
-    is_exempt: false,
-};
-
-/// A connection from an exempt address.
-pub(crate) const EXEMPT: Event<'static> = Event::Came {
-    from: 2,
-    is_exempt: true,
-};
-
-/// The login of a client is right for the network of this name, by the settings of this number.
-pub(crate) fn right(client: u64, settings: u64, name: u64) -> Event<'static> {
-    Event::Judged {
-        client,
-        settings,
-        verdict: Verdict::Right(name),
-    }
-}
-
-/// The login of a client is wrong, by the first settings.
-pub(crate) fn wrong(client: u64) -> Event<'static> {
-    Event::Judged {
-        client,
+/// A network by its word: its name, its address, and what it holds there.
+fn wanted_of(word: &str) -> Option<Wanted> {
+    let (name, address, holds) = match word {
+        "net" => (7, 700, 70),
+        // the same by another name
+        "renamed" => (8, 700, 70),
+        // the same at another address
+        "moved" => (7, 701, 71),
+        // another network at the first address
+        "other" => (9, 700, 72),
+        _ => return None,
+    };
+    Some(Wanted {
+        name,
+        address,
+        holds,
         settings: 1,
-        verdict: Verdict::Wrong,
+    })
+}
+
+/// The event of a word, with these numbers or networks.
+fn event_of<'a>(word: &str, numbers: [u64; 3], wanted: &'a [Wanted]) -> Option<Event<'a>> {
+    let [first, second, third] = numbers;
+    let (client, network) = (first, first);
+    Some(match word {
+        "came" | "exempt" => Event::Came {
+            from: first,
+            is_exempt: word == "exempt",
+        },
+        "right" => Event::Judged {
+            client,
+            settings: second,
+            verdict: Verdict::Right(third),
+        },
+        "wrong" => Event::Judged {
+            client,
+            settings: 1,
+            verdict: Verdict::Wrong,
+        },
+        "settled" => Event::Enters {
+            client,
+            channels: Channels::Settled,
+        },
+        "awaited" => Event::Enters {
+            client,
+            channels: Channels::Awaited,
+        },
+        "since" => Event::Enters {
+            client,
+            channels: Channels::AwaitedSince(second),
+        },
+        "tells" => Event::Tells { client },
+        "gone" => Event::Gone { client },
+        "asks" => Event::Asks { network },
+        "connected" => Event::Connected { network },
+        "registered" => Event::Registered { network },
+        "lost" => Event::Lost {
+            network,
+            chance: second,
+        },
+        "unstarted" => Event::Unstarted { network },
+        "keeps" => Event::Keeps {
+            network,
+            bytes: second,
+        },
+        "settings" => Event::Settings {
+            wanted,
+            times: TIMES,
+        },
+        "parts" => Event::Parts { network },
+        "stop" => Event::Stop,
+        "ends" => Event::Ends,
+        _ => return None,
+    })
+}
+
+/// What the steward answers to a time and an event as text; `None` if the text means none.
+fn answer_to(
+    alloc: Global,
+    steward: &mut Steward,
+    said: &str,
+) -> Result<Option<steward::Answer>, AllocError> {
+    let mut words = said.split_whitespace();
+    let now = words.next().and_then(|word| word.parse::<u64>().ok());
+    let event = words.next();
+    let (mut numbers, mut count, mut wanted) = ([0; 3], 0, Vec::new(alloc));
+    for word in words {
+        if let Some(network) = wanted_of(word) {
+            wanted.push(network)?;
+        } else if let (Ok(number), true) = (word.parse::<u64>(), count < 3) {
+            numbers[count] = number;
+            count += 1;
+        } else {
+            return Ok(None);
+        }
+    }
+    let (Some(now), Some(word)) = (now, event) else {
+        return Ok(None);
+    };
+    match event_of(word, numbers, &wanted) {
+        Some(event) => Ok(Some(steward.on(event, now)?)),
+        None => Ok(None),
     }
 }
 
-/// A connection to a network has ended, or could not be made.
-pub(crate) fn lost(network: u64) -> Event<'static> {
-    Event::Lost { network, chance: 0 }
-}
-
-/// The steward gives these answers to these events.
+/// The steward gives these answers to these events, a row a line: `TIME EVENT => ANSWER`.
 pub(crate) fn check<R: AllocGlobal + Abort>(
     rt: &R,
     steward: &mut Steward,
-    rows: &[Row],
+    rows: &str,
 ) -> Result<(), Fail> {
-    for (now, event, wanted) in rows {
-        let answer = steward.on(*event, *now)?;
-        let said = format!(in rt.alloc(); "{answer:?}")?;
-        if said.as_str() != *wanted {
-            return Err(Fail::new(format_args!("at {now}: {said}, wanted {wanted}")));
+    for row in rows.lines() {
+        let row = row.trim();
+        if row.is_empty() {
+            continue;
+        }
+        let Some((said, wanted)) = row.split_once(" => ") else {
+            return Err(Fail::new(format_args!("no answer: {row}")));
+        };
+        let Some(answer) = answer_to(rt.alloc(), steward, said)? else {
+            return Err(Fail::new(format_args!("no event: {said}")));
+        };
+        let answer = format!(in rt.alloc(); "{answer:?}")?;
+        if answer.as_str() != wanted {
+            return Err(Fail::new(format_args!("{said}: {answer}, wanted {wanted}")));
         }
     }
     Ok(())
 }
-
-/// A network that is served from time 1 on.
-pub(crate) const ONLINE: [Row; 4] = [
-    (
-        0,
-        Event::Settings {
-            wanted: &[NET],
-            times: TIMES,
-        },
-        "Reloaded",
-    ),
-    (0, Event::Asks { network: 0 }, "Dial { network: 0 }"),
-    (
-        0,
-        Event::Connected { network: 0 },
-        "Register { network: 0 }",
-    ),
-    (
-        1,
-        Event::Registered { network: 0 },
-        "Welcome { network: 0 }",
-    ),
-];

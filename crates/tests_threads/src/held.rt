@@ -5,18 +5,19 @@ ghost use Rattle.std.specs.Prelude.{◌<◌};
 use hub_core::Said;
 use hub_ends::SessionId;
 use hub_threads::{
-    FreeGate, Network, OutletEnd, Stopper, Turns, Writer, Written, end_session, spawn_writer,
+    FreeGate, Network, OutletEnd, PumpEnd, Stopper, Turns, Writer, Written, end_session, pump_loop,
+    spawn_writer,
 };
 use net_view::NetworkView;
 use std::alloc::Global;
 use std::process::Abort;
 use std::sync::{Arc, Wait};
 use std::test::Fail;
-use std::thread::Threads;
-use std::time::Clock;
-use test_stage::gates::{Held, SharedDoor, shut_door};
+use std::thread::{self, JoinHandle, Threads};
+use std::time::{Clock, Duration};
+use test_stage::gates::{Door, Held, SharedDoor, Stepping, shut_door};
 use test_stage::stage::{
-    BURST, JOINED, Stage, attach, is_joined, is_sent, put_and_take, say, stage_after,
+    BURST, JOINED, Stage, attach, is_joined, is_sent, put, put_and_take, say, stage_after,
 };
 use test_streams::Sink;
 
@@ -241,5 +242,71 @@ where
 {
     let bytes = bytes_of_two(rt, rt.alloc(), stage)?;
     assert!(&rt; is_joined(rt.alloc(), &bytes, &[BURST, THREE])?);
+    Ok(())
+}
+
+const MESSAGE: &[u8] = b":bob!b@h PRIVMSG #c m";
+
+/// Twice as many as the ring of the session holds.
+const SIXTEEN_MESSAGES: [&[u8]; 16] = [MESSAGE; 16];
+
+/// Opens a door after a second.
+fn open_later<R: Clock>(rt: &R, door: &Door) {
+    thread::sleep(rt, Duration::from_secs(1));
+    door.let_go();
+}
+
+/// A thread that opens a door after a second.
+fn opener<R: Threads + Clock + Send + Copy + Drop + 'static>(
+    rt: R,
+    door: &SharedDoor,
+) -> Result<JoinHandle<()>, Fail> {
+    let door = Arc::try_clone(door)?;
+    Ok(thread::spawn(&rt, move || open_later(&rt, &door))?)
+}
+
+/// The writer of a session gets no processor for a second, while more comes than its ring holds: the
+/// session is not cut, and is sent everything.
+#[test]
+fn a_writer_that_gets_no_processor(rt: HostRuntime) -> Result<(), Fail> {
+    let mut stage = stage_after(&rt, rt.alloc(), 1, &JOINED)?;
+    nothing_is_lost(rt, &mut stage)
+}
+
+/// A session whose writer is held for a second is sent everything.
+fn nothing_is_lost<V: NetworkView + Drop, R>(rt: R, stage: &mut Stage<V>) -> Result<(), Fail>
+where
+    R: AllocGlobal + Threads + Wait + Clock + Abort + Send + Copy + Drop + 'static,
+{
+    let door = shut_door(rt.alloc())?;
+    nothing_is_lost_at(rt, stage, &door)
+}
+
+/// A session whose writer is held at this door for a second is sent everything.
+fn nothing_is_lost_at<V: NetworkView + Drop, R>(
+    rt: R,
+    stage: &mut Stage<V>,
+    door: &SharedDoor,
+) -> Result<(), Fail>
+where
+    R: AllocGlobal + Threads + Wait + Clock + Abort + Send + Copy + Drop + 'static,
+{
+    let (id, writer) = held(rt, rt.alloc(), &stage.network, 8, door)?;
+    let opening = opener(rt, door)?;
+    put(rt.alloc(), &mut stage.end, &SIXTEEN_MESSAGES)?;
+    let ended = pump_loop(
+        &rt,
+        rt.alloc(),
+        &stage.network,
+        &FreeGate,
+        &Stepping::new(),
+        Turns::AtMost(16),
+        0,
+    );
+    assert!(&rt; ended == PumpEnd::Turns);
+    opening.join(&rt);
+    let bytes = bytes_at_end(&rt, &stage.network, id, writer)?;
+    assert!(&rt; bytes.len() == BURST.len() + 16 * (MESSAGE.len() + 2));
+    assert!(&rt; !door.was_forced());
     Ok(())
 }

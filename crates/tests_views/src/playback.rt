@@ -12,18 +12,23 @@ use net_view::NetworkView;
 use std::alloc::Global;
 use std::process::Abort;
 use std::test::Fail;
-use welcome::playback;
+use welcome::{Playing, playback, playback_by};
 
-/// What a client with these capabilities is played of these messages.
+/// What a client with these capabilities is played of these messages, by a profile.
 fn played<V: NetworkView>(
     alloc: Global,
+    playing: Playing,
     view: &V,
     caps: Caps,
     missed: &[&Entry],
 ) -> Result<Vec<u8>, Fail>
     requires { AllByRecursion (λ entry. IsWrittenEntry entry.now) missed.now }
 {
-    let packet = playback(alloc, view, caps, missed)?;
+    let packet = if playing == Playing::whole() {
+        playback(alloc, view, caps, missed)?
+    } else {
+        playback_by(alloc, playing, view, caps, missed)?
+    };
     Ok(Vec::from_slice(alloc, packet.bytes())?)
 }
 
@@ -31,6 +36,7 @@ fn played<V: NetworkView>(
 #[derive(Clone, Copy)]
 struct Playbacks<'a> {
     said: &'a SaidLines,
+    playing: Playing,
     mark: Option<u64>,
     rows: &'a [(&'a [u8], &'a [u8])],
 }
@@ -39,11 +45,30 @@ impl Rows for Playbacks<'_> {
     fn check<R: AllocGlobal + Abort, V: NetworkView>(&self, rt: &R, view: &V) -> Result<(), Fail> {
         let missed = self.said.missed(rt.alloc(), self.mark)?;
         for (names, wanted) in self.rows {
-            let text = played(rt.alloc(), view, asked(names)?, &missed)?;
+            let text = played(rt.alloc(), self.playing, view, asked(names)?, &missed)?;
             assert!(rt; text.as_slice() == *wanted);
         }
         Ok(())
     }
+}
+
+/// What is played of the messages of these lines above a mark, by a profile.
+fn check_played_by<R: AllocGlobal + Abort>(
+    rt: &R,
+    playing: Playing,
+    texts: &[&[u8]],
+    said: &[&[u8]],
+    mark: Option<u64>,
+    rows: &[(&[u8], &[u8])],
+) -> Result<(), Fail> {
+    let said = SaidLines::of(rt.alloc(), said)?;
+    let playbacks = Playbacks {
+        said: &said,
+        playing,
+        mark,
+        rows,
+    };
+    check_by_tables(rt, texts, &playbacks)
 }
 
 /// What is played of the messages of these lines above a mark.
@@ -54,13 +79,7 @@ fn check_played<R: AllocGlobal + Abort>(
     mark: Option<u64>,
     rows: &[(&[u8], &[u8])],
 ) -> Result<(), Fail> {
-    let said = SaidLines::of(rt.alloc(), said)?;
-    let playbacks = Playbacks {
-        said: &said,
-        mark,
-        rows,
-    };
-    check_by_tables(rt, texts, &playbacks)
+    check_played_by(rt, Playing::whole(), texts, said, mark, rows)
 }
 
 /// Capabilities, and what is played of messages to two channels, to us and to a third channel.
@@ -216,5 +235,67 @@ fn no_message_was_missed(rt: HostRuntime) -> Result<(), Fail> {
         &[],
         None,
         &nothing,
+    )
+}
+
+/// Messages for us, of us, for a channel that we are on, and for one that we are not on.
+const MESSAGES_OF_PERSONS: [&[u8]; 8] = [
+    b":bob!b@h PRIVMSG Me hi",
+    b":eve!e@h PRIVMSG #gone lost",
+    b":Me PRIVMSG bob :hello yourself",
+    b":bob!b@h PRIVMSG #c m1",
+    b":NickServ!s@services NOTICE ME :you are in",
+    b":BOB!b@h PRIVMSG me again",
+    b":!odd@h NOTICE Me :of no nick",
+    b":eve!e@h PRIVMSG #GONE more",
+];
+
+/// Capabilities, and what is played of them in batches of persons: what has no name has no batch,
+/// and a client without batch is played all of them by time.
+const IN_BATCHES_OF_PERSONS: [(&[u8], &[u8]); 2] = [
+    (
+        b"batch",
+        b":bnc BATCH +h0 chathistory #c\r\n\
+        @batch=h0 :bob!b@h PRIVMSG #c m1\r\n\
+        :bnc BATCH -h0\r\n\
+        :bnc BATCH +h1 chathistory #gone\r\n\
+        @batch=h1 :eve!e@h PRIVMSG #gone lost\r\n\
+        @batch=h1 :eve!e@h PRIVMSG #GONE more\r\n\
+        :bnc BATCH -h1\r\n\
+        :bnc BATCH +h2 chathistory bob\r\n\
+        @batch=h2 :bob!b@h PRIVMSG Me hi\r\n\
+        @batch=h2 :Me PRIVMSG bob :hello yourself\r\n\
+        @batch=h2 :BOB!b@h PRIVMSG me again\r\n\
+        :bnc BATCH -h2\r\n\
+        :bnc BATCH +h3 chathistory NickServ\r\n\
+        @batch=h3 :NickServ!s@services NOTICE ME :you are in\r\n\
+        :bnc BATCH -h3\r\n\
+        :!odd@h NOTICE Me :of no nick\r\n",
+    ),
+    (
+        b"",
+        b":bob!b@h PRIVMSG #c m1\r\n\
+        :bob!b@h PRIVMSG Me hi\r\n\
+        :eve!e@h PRIVMSG #gone lost\r\n\
+        :Me PRIVMSG bob :hello yourself\r\n\
+        :NickServ!s@services NOTICE ME :you are in\r\n\
+        :BOB!b@h PRIVMSG me again\r\n\
+        :!odd@h NOTICE Me :of no nick\r\n\
+        :eve!e@h PRIVMSG #GONE more\r\n",
+    ),
+];
+
+/// Private messages in batches of their persons.
+#[test]
+fn messages_in_batches_of_persons(rt: HostRuntime) -> Result<(), Fail> {
+    let mut playing = Playing::whole();
+    playing.private_batches = true;
+    check_played_by(
+        &rt,
+        playing,
+        &[b":s 001 Me :hi", b":Me!m@h JOIN #c"],
+        &MESSAGES_OF_PERSONS,
+        None,
+        &IN_BATCHES_OF_PERSONS,
     )
 }

@@ -1,5 +1,5 @@
-//! What a hub answers between its steps: room, signs of life, sessions that are nearly full, and the
-//! channels of a lost connection.
+//! What a hub answers between its steps: room, signs of life, sessions that are nearly full, the
+//! channels of a lost connection, and what clients asked for that outlives one.
 
 use crate::hub_rows::SETUP;
 use crate::hub_rows::events::{WELCOME, events_of};
@@ -181,6 +181,106 @@ fn lost_again(rt: HostRuntime) -> Result<(), Fail> {
             events[1],
         ];
         assert!(rt; lost_after(rt.alloc(), &script)?.as_slice() == wanted);
+    }
+    Ok(())
+}
+
+/// The text by which we are away after a script.
+fn away_after(alloc: Global, script: &[&[u8]]) -> Result<Vec<u8>, Fail> {
+    let events = events_of(alloc, &WELCOME, script)?;
+    let run = run(alloc, QuickView::new(alloc)?, SETUP, UPSTREAM, &events)?;
+    let mut text = Vec::new(alloc);
+    match run.world.hub.away_text() {
+        Some(away) => push_line(&mut text, away)?,
+        None => push_line(&mut text, b"here")?,
+    }
+    Ok(text)
+}
+
+const AWAY: &[u8] = b"said 0 AWAY :gone";
+
+const OUT: &[u8] = b"said 0 AWAY :out";
+
+const BACK: &[u8] = b"said 0 AWAY";
+
+const NOW_AWAY: &[u8] = b"up :s 306 Me :You are away";
+
+const NOW_BACK: &[u8] = b"up :s 305 Me :You are back";
+
+const WELCOMED: &[u8] = b"up :s 001 Me :hi";
+
+const ATTACH: &[u8] = b"attach - - 9";
+
+/// What a client says and the network answers, and the text by which we are away then. What the network
+/// has not answered does not count; its answers come in the order of what was said, and another text
+/// may have been said meanwhile.
+const AWAYS: [(&[&[u8]], &[u8]); 12] = [
+    (&[ATTACH, AWAY, b"lost", b"lost", WELCOMED], b"here\r\n"),
+    (&[ATTACH, AWAY, NOW_AWAY, b"lost", WELCOMED], b"gone\r\n"),
+    (&[ATTACH, AWAY, NOW_AWAY, b"lost", NOW_AWAY], b"gone\r\n"),
+    (&[ATTACH, AWAY, NOW_AWAY, BACK, NOW_BACK], b"here\r\n"),
+    (&[ATTACH, AWAY, NOW_AWAY, BACK, b"lost"], b"gone\r\n"),
+    (&[ATTACH, AWAY, NOW_AWAY, OUT, NOW_AWAY], b"out\r\n"),
+    (&[ATTACH, AWAY, OUT, NOW_AWAY, NOW_AWAY], b"out\r\n"),
+    (&[ATTACH, AWAY, BACK, NOW_AWAY, NOW_BACK], b"here\r\n"),
+    (&[ATTACH, BACK, AWAY, NOW_BACK, NOW_AWAY], b"gone\r\n"),
+    (&[ATTACH, AWAY, b"lost", WELCOMED, NOW_AWAY], b"here\r\n"),
+    (
+        &[
+            ATTACH,
+            b"said 0 away gone",
+            NOW_AWAY,
+            b"said 0 AWAY :",
+            NOW_BACK,
+        ],
+        b"here\r\n",
+    ),
+    (
+        &[
+            ATTACH,
+            b"said 0 PRIVMSG AWAY :out",
+            NOW_AWAY,
+            NOW_AWAY,
+            b"lost",
+        ],
+        b"here\r\n",
+    ),
+];
+
+#[test]
+fn away(rt: HostRuntime) -> Result<(), Fail> {
+    for (script, wanted) in AWAYS {
+        assert!(rt; away_after(rt.alloc(), script)?.as_slice() == wanted);
+    }
+    Ok(())
+}
+
+/// Whether a client has asked for a nick over this connection: after each of these scripts in turn.
+#[test]
+fn nick_chosen(rt: HostRuntime) -> Result<(), Fail> {
+    const SCRIPTS: [([&[u8]; 3], bool); 4] = [
+        ([b"attach - - 9", b"said 0 nick You", b"said 0 LIST"], true),
+        ([b"attach - - 9", b"said 0 nick You", b"lost"], false),
+        (
+            [
+                b"attach - - 9",
+                b"up :Me!m@h NICK You",
+                b"said 0 PRIVMSG NICK :x",
+            ],
+            false,
+        ),
+        ([b"lost", WELCOMED, b"attach - - 9"], false),
+    ];
+    for (script, wanted) in SCRIPTS {
+        let events = events_of(rt.alloc(), &WELCOME, &script)?;
+        let run = run(
+            rt.alloc(),
+            QuickView::new(rt.alloc())?,
+            SETUP,
+            UPSTREAM,
+            &events,
+        )?;
+        assert!(rt; run.world.hub.is_nick_chosen() == wanted);
     }
     Ok(())
 }

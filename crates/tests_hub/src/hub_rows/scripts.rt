@@ -122,7 +122,7 @@ pub(crate) fn text_of(alloc: Global, lines: &[&[u8]]) -> Result<Vec<u8>, Fail> {
 }
 
 /// The view that searches the lines that came; none has.
-fn searching_view(alloc: Global) -> Result<TapeView, OutOfMemory>
+pub(crate) fn searching_view(alloc: Global) -> Result<TapeView, OutOfMemory>
     ensures { IfOk result (λ v. view_back v ≡ empty_view) }
 {
     let view = TapeView::new(alloc)?;

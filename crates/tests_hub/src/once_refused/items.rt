@@ -44,26 +44,35 @@ fn pumps(rt: &impl Abort, hub: &mut QuickHub) -> Result<(), Fail> {
 }
 
 /// A hub takes an item.
-fn takes(rt: &impl Abort, hub: &mut QuickHub, item: Item) -> Result<(), Fail> {
+pub(super) fn takes(rt: &impl Abort, hub: &mut QuickHub, item: Item) -> Result<(), Fail> {
     hub.put(item, Moment(0))?;
     pumps(rt, hub)
+}
+
+/// A hub takes all of these lines and the loss of the connection.
+fn takes_all<R: AllocGlobal + Abort>(rt: &R, hub: &mut QuickHub) -> Result<(), Fail> {
+    for text in LINES {
+        takes(rt, hub, Item::Line(line(rt.alloc(), text)?))?;
+    }
+    takes(rt, hub, Item::Lost)
+}
+
+/// A hub takes them, and sends what it sends without a refusal.
+fn takes_and_sends<R: AllocGlobal + Abort>(rt: &R, hub: &mut QuickHub) -> Result<(), Fail> {
+    takes_all(rt, hub)?;
+    let mut all: Vec<&[u8]> = Vec::new(rt.alloc());
+    all.extend_from_slice(&BURST)?;
+    all.extend_from_slice(&OF_LINES)?;
+    is_sent(rt, hub.outlet(0), &all)?;
+    is_sent(rt, hub.outlet(1), &all)?;
+    is_sent(rt, Some(hub.upstream_outlet()), &[b"PONG x"])
 }
 
 /// A hub with two sessions takes lines and the loss of the connection: each session is sent what it
 /// is sent without a refusal.
 #[test]
 fn items_that_are_taken_by_the_view_by_tables(rt: HostRuntime) -> Result<(), Fail> {
-    let alloc = rt.alloc();
     let script: [&[u8]; 2] = [b"attach - pc 16", b"attach multi-prefix - 16"];
-    let mut hub = hub_after(alloc, &script)?;
-    for text in LINES {
-        takes(&rt, &mut hub, Item::Line(line(alloc, text)?))?;
-    }
-    takes(&rt, &mut hub, Item::Lost)?;
-    let mut all: Vec<&[u8]> = Vec::new(alloc);
-    all.extend_from_slice(&BURST)?;
-    all.extend_from_slice(&OF_LINES)?;
-    is_sent(&rt, hub.outlet(0), &all)?;
-    is_sent(&rt, hub.outlet(1), &all)?;
-    is_sent(&rt, Some(hub.upstream_outlet()), &[b"PONG x"])
+    let mut hub = hub_after(rt.alloc(), &script)?;
+    takes_and_sends(&rt, &mut hub)
 }

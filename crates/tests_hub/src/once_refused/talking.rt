@@ -1,10 +1,12 @@
 //! Lines of sessions that are sent again.
 
 use super::hubs::{QuickHub, hub_after, is_sent, sent_counts};
+use super::items::takes;
 use crate::hub_rows::BURST;
 use client_caps::Moment;
 use hub_core::{HubError, Said};
 use hub_ends::SessionId;
+use net_view::Item;
 use std::process::Abort;
 use std::test::Fail;
 use test_texts::{again, line};
@@ -51,19 +53,67 @@ fn says<R: AllocGlobal + Abort>(
     }
 }
 
+/// Each line is answered as without a refusal.
+fn says_all<R: AllocGlobal + Abort>(rt: &R, hub: &mut QuickHub) -> Result<(), Fail> {
+    for (id, text, want) in SAID {
+        assert!(rt; says(rt, hub, id, text)? == want, "at {text}");
+    }
+    Ok(())
+}
+
+/// Each line is answered, and goes on.
+fn says_and_sends<R: AllocGlobal + Abort>(rt: &R, hub: &mut QuickHub) -> Result<(), Fail> {
+    says_all(rt, hub)?;
+    let mut all: Vec<&[u8]> = Vec::new(rt.alloc());
+    all.extend_from_slice(&BURST)?;
+    is_sent(rt, hub.outlet(0), &all)?;
+    all.extend_from_slice(&TO_THE_SECOND)?;
+    is_sent(rt, hub.outlet(1), &all)?;
+    is_sent(rt, Some(hub.upstream_outlet()), &UPWARD)
+}
+
 /// Each line is answered, and goes on, as without a refusal.
 #[test]
 fn lines_of_two_sessions(rt: HostRuntime) -> Result<(), Fail> {
-    let alloc = rt.alloc();
     let script: [&[u8]; 2] = [b"attach - - 8", b"attach - - 8"];
-    let mut hub = hub_after(alloc, &script)?;
-    for (id, text, want) in SAID {
-        assert!(&rt; says(&rt, &mut hub, id, text)? == want, "at {text}");
+    let mut hub = hub_after(rt.alloc(), &script)?;
+    says_and_sends(&rt, &mut hub)
+}
+
+/// Our own JOIN of a channel comes, and then this is the key of the channel that is known.
+fn is_joined_by<R: AllocGlobal + Abort>(
+    rt: &R,
+    hub: &mut QuickHub,
+    text: &[u8],
+    name: &[u8],
+    wanted: &[u8],
+) -> Result<(), Fail> {
+    takes(rt, hub, Item::Line(line(rt.alloc(), text)?))?;
+    assert!(rt; hub.joined_key(name) == Some(wanted));
+    Ok(())
+}
+
+/// A session asks for two channels by their keys. A refusal sends nothing, and the key that was asked
+/// for before still counts.
+fn asks_by_keys<R: AllocGlobal + Abort>(rt: &R, hub: &mut QuickHub) -> Result<Said, Fail> {
+    let line = line(rt.alloc(), b"JOIN #k,#l bees,wasps")?;
+    let before = sent_counts(hub);
+    match hub.said(0, &line, Moment(0)) {
+        Ok(said) => Ok(said),
+        Err(error) => {
+            assert!(rt; error == HubError::OutOfMemory && sent_counts(hub) == before);
+            is_joined_by(rt, hub, b":Me!m@h JOIN #k", b"#k", b"ants")?;
+            again(hub.said(0, &line, Moment(0)))
+        }
     }
-    let mut all: Vec<&[u8]> = Vec::new(alloc);
-    all.extend_from_slice(&BURST)?;
-    is_sent(&rt, hub.outlet(0), &all)?;
-    all.extend_from_slice(&TO_THE_SECOND)?;
-    is_sent(&rt, hub.outlet(1), &all)?;
-    is_sent(&rt, Some(hub.upstream_outlet()), &UPWARD)
+}
+
+/// The keys of a JOIN are remembered when it was refused and is said again.
+#[test]
+fn a_join_by_keys(rt: HostRuntime) -> Result<(), Fail> {
+    let script: [&[u8]; 2] = [b"attach - - 8", b"said 0 JOIN #k ants"];
+    let mut hub = hub_after(rt.alloc(), &script)?;
+    assert!(&rt; asks_by_keys(&rt, &mut hub)? == Said::Forwarded);
+    is_joined_by(&rt, &mut hub, b":Me!m@h JOIN #l", b"#l", b"wasps")?;
+    is_joined_by(&rt, &mut hub, b":Me!m@h JOIN #k", b"#k", b"bees")
 }

@@ -66,6 +66,7 @@ pub fn limits(accepts: u64, dials: u64) -> Limits {
         reserve: 65_536,
         spare: 1_024,
         packets: 256,
+        unwritten: Duration::from_millis(20),
     }
 }
 

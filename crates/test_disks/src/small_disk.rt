@@ -7,7 +7,7 @@ use std::io::{self, ErrorKind};
 
 /// What is wrong with a disk.
 #[derive(Clone, Copy)]
-pub(crate) enum Trouble {
+pub enum Trouble {
     /// Nothing.
     Nothing,
     /// It is full after two more bytes.
@@ -22,13 +22,17 @@ pub(crate) enum Trouble {
 
 /// A disk in memory, with one file and that of its damaged ends.
 #[derive(Drop)]
-pub(crate) struct SmallDisk {
-    pub(crate) trouble: Cell<Trouble>,
-    pub(crate) file: RefCell<Vec<u8>>,
-    pub(crate) damaged: RefCell<Vec<u8>>,
+pub struct SmallDisk {
+    /// What is wrong with it now.
+    pub trouble: Cell<Trouble>,
+    /// The file.
+    pub file: RefCell<Vec<u8>>,
+    /// The file of damaged ends.
+    pub damaged: RefCell<Vec<u8>>,
 }
 
-pub(crate) fn disk(alloc: Global, file: Vec<u8>, trouble: Trouble) -> SmallDisk {
+/// A disk whose file has these bytes.
+pub fn disk(alloc: Global, file: Vec<u8>, trouble: Trouble) -> SmallDisk {
     SmallDisk {
         trouble: Cell::new(trouble),
         file: RefCell::new(file),

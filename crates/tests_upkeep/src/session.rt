@@ -1,7 +1,7 @@
 //! A session served over a socket, from the login to QUIT.
 
-use crate::host::Host;
 use bnc_config::{Config, Place};
+use hub_core::Profile;
 use hub_threads::{FreeGate, Network, OutletEnd, PumpEnd, Turns, Worker, pump_loop};
 use quick_view::QuickView;
 use serving::{Link, SystemClock, network_with_link};
@@ -12,6 +12,7 @@ use std::rt::Clock;
 use std::sync::{Arc, Wait};
 use std::test::Fail;
 use std::thread::Threads;
+use test_bouncer::host::Host;
 use test_stage::ann::{BURST, HEARD, LOGIN, of_ann};
 use test_stage::peer::{Peer, same};
 use test_stage::settings::settings_of_two;
@@ -52,7 +53,7 @@ fn network_of_lines<R: Wait + Clock>(
     rt: &R,
     alloc: Global,
 ) -> Result<(Network<QuickView>, Link), Fail> {
-    let (network, mut link) = network_with_link(alloc, 500, 16)?;
+    let (network, mut link) = network_with_link(alloc, 500, 16, Profile::whole(alloc))?;
     put(alloc, &mut link.inlet, &HEARD)?;
     take_all(rt, alloc, &network)?;
     Ok((network, link))

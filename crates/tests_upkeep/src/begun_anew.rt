@@ -1,9 +1,6 @@
 //! Networks that are begun anew, since there was no memory for what they sent.
 
-use crate::bouncer::{Bouncer, limits, settle, start};
-use crate::coming_back::{PHONE, PLAIN, Room, come, gather, leave, let_in};
-use crate::connections::turned_away;
-use crate::host::Host;
+use hub_core::Profile;
 use hub_threads::{Network, PumpEnd, Turns};
 use net_view::NetworkView;
 use quick_view::QuickView;
@@ -20,6 +17,10 @@ use std::test::Fail;
 use std::thread;
 use std::thread::JoinHandle;
 use std::time::Duration;
+use test_bouncer::bouncer::{Bouncer, limits, settle, start};
+use test_bouncer::host::Host;
+use test_bouncer::refusal::turned_away;
+use test_bouncer::room::{PHONE, PLAIN, Room, come, gather, leave, let_in};
 use test_stage::ann::LOGIN;
 use test_stage::refusing::Refusing;
 use test_stage::stage::{BURST, JOINED, attach, empty_stage, is_sent, put};
@@ -157,7 +158,7 @@ impl Start<QuickView> for WhenLet {
         if self.let_go.load(Ordering::SeqCst) == 0 {
             return Err(AllocError);
         }
-        network_with_link(self.alloc, 500, 256)
+        network_with_link(self.alloc, 500, 256, Profile::whole(self.alloc))
     }
 }
 

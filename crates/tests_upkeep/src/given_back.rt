@@ -1,9 +1,6 @@
 //! Descriptors and threads are given back once sessions have ended, and a network has 64 sessions
 //! at most.
 
-use crate::bouncer::{Bouncer, limits, start};
-use crate::coming_back::{PHONE, PLAIN, come, leave, let_in};
-use crate::host::Host;
 use crate::session::connected;
 use std::alloc::Global;
 use std::fs::{Files, read_dir};
@@ -14,6 +11,9 @@ use std::rt::Clock;
 use std::test::Fail;
 use std::thread;
 use std::time::Duration;
+use test_bouncer::bouncer::{Bouncer, limits, start};
+use test_bouncer::host::Host;
+use test_bouncer::room::{PHONE, PLAIN, come, leave, let_in};
 use test_stage::ann::{is_cut, many_questions};
 use test_stage::peer::Peer;
 

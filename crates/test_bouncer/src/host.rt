@@ -8,7 +8,7 @@ use std::thread::Threads;
 
 /// Threads that wait, read the clock, draw random bytes, have a disk and write a log. Sockets are a
 /// bound of their own, since a function that takes no handle of sockets is not to name their types.
-pub(crate) trait Host: Threads
+pub trait Host: Threads
     + Wait
     + Clock
     + RandomSource
