@@ -15,7 +15,7 @@ there="${BNC_BENCH:-$HOME/bnc_bench}"
 program="$1"
 shift
 below="irc_names irc_line irc_support net_view block_list network_tables quick_view client_caps"
-below="$below history welcome hub_ends hub_core hub_threads"
+below="$below history frames journal welcome hub_ends hub_core hub_threads"
 if [ ! -d "$there" ]; then
     mkdir -p "$there/crates"
     git init -q "$there"
@@ -27,7 +27,7 @@ if [ ! -d "$there" ]; then
     {
         echo "hub_alone: client_caps hub_core hub_ends hub_threads irc_line net_view quick_view rtrb welcome"
         echo "by_place: irc_line net_view quick_view"
-        echo "kept: client_caps history irc_line"
+        echo "kept: client_caps history irc_line journal"
     } >> "$there/crates.txt"
 fi
 for name in hub_alone by_place kept; do

@@ -1,5 +1,7 @@
-"""A running bnc with settings that change: reload, stop and a new start, for try_random.py."""
+"""A running bnc with settings that change: reload, stop and a new start, for try_random.py and
+try_metrics.py."""
 
+import errno
 import hashlib
 import os
 import pathlib
@@ -54,10 +56,20 @@ class Bouncer:
         wait_for("a port to log in at", lambda: "listening" in self.log.read_text())
 
     def order(self, word):
-        """Gives bnc a word."""
-        fifo = os.open(self.fifo, os.O_WRONLY | os.O_NONBLOCK)
+        """Gives bnc a word; it may read the FIFO only some time after it listens."""
+        wait_for("reader of the FIFO", lambda: self.is_given(word))
+
+    def is_given(self, word):
+        """Gives bnc a word if it reads the FIFO, and says whether it does."""
+        try:
+            fifo = os.open(self.fifo, os.O_WRONLY | os.O_NONBLOCK)
+        except OSError as error:
+            if error.errno != errno.ENXIO:
+                raise
+            return False
         os.write(fifo, word.encode() + b"\n")
         os.close(fifo)
+        return True
 
     def wait_for_reload(self):
         self.reloads += 1

@@ -11,7 +11,7 @@ trap 'rm -rf "$at"' EXIT
 mkdir "$at/want" "$at/got"
 umask 077 # bnc warns of settings that others can read
 files=$(find . -type f ! -path ./README.md)
-if grep -vE '^\./(view|attach|check|setup|log|words)/[^/. ]+\.(in|args|out|err|status)$' <<< "$files"; then
+if grep -vE '^\./(view|attach|check|setup|log|words)/[^/. ]+\.(in|toml|args|out|err|status)$' <<< "$files"; then
   echo "cases: these are no parts of a case" >&2
   exit 1
 fi
@@ -24,6 +24,7 @@ for case in $(sed 's/\.[a-z]*$//' <<< "$files" | sort -u); do
   elif [ "$folder" = check ] || [ "$folder" = log ]; then words+=(bnc.toml)
   elif [ "$folder" = setup ]; then words+=(new.toml); fi
   if [ -e "$case.in" ]; then input=$PWD/$case.in && cat "$input" > "$room/bnc.toml"; fi
+  if [ -e "$case.toml" ]; then cat "$case.toml" > "$room/profile.toml"; fi
   (cd "$room" && exec timeout 60 "$bnc" "${words[@]}") < "$input" > "$at/got/out" 2> "$at/got/err" || status=$?
   echo $status > "$at/got/status"
   for part in out err; do cat "$case.$part" > "$at/want/$part" 2> "$at/missing" || true; done

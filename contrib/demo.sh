@@ -6,8 +6,8 @@
 set -eu
 if [ "${BNC:-}" ]; then BNC=$(realpath -e "$BNC"); fi
 cd "$(dirname "$0")"
-for bnc in "${BNC:-}" ../crates/bnc/out/bnc ~/.local/bin/bnc /usr/local/bin/bnc; do
+for bnc in "${BNC:-}" ../crates/bnc/out/bnc ~/.local/bin/bnc /usr/local/bin/bnc /usr/bin/bnc; do
   if [ -x "$bnc" ]; then exec python3 demo.py "$bnc"; fi
 done
-echo 'demo: there is no bnc; contrib/prove.sh builds it' >&2
+echo 'demo: there is no bnc: contrib/install.sh installs it' >&2
 exit 1

@@ -4,10 +4,12 @@
 #   contrib/dist.sh           puts crates/bnc/out/bnc there, which contrib/prove.sh or the gate has
 #                             just proved and built, with its sum and what it was made of
 #   contrib/dist.sh --check   compares the program that was built here with the one in dist/
+#   contrib/dist.sh --crates  prints the crates that the program is made of
 #
 # With the same text and the same kit the proofs make the same program, byte for byte. --check ends
-# with status 1 if they made another one, if dist/ is not there, or if its files do not belong
-# together. If the text or the kit is another one, it says so, compares nothing, and ends with status 0.
+# with status 1 if they made another one, if dist/ is not there, if its files do not belong together,
+# or if README.md names another kit. If the text or the kit is another one, it says so, compares
+# nothing, and ends with status 0.
 set -eu
 cd "$(dirname "$0")/.."
 name=bnc-x86_64-linux-gnu
@@ -78,6 +80,9 @@ check() {
   if [ "$(gzip -dc "dist/$name.gz" | sha256sum | cut -d ' ' -f 1)" != "$handed" ]; then
     echo "dist: $name.gz does not hold the program that SHA256SUMS names" >&2 && exit 1
   fi
+  if ! grep -qF "$(row kit)" README.md; then
+    echo "dist: README.md does not name the kit of dist, $(row kit)" >&2 && exit 1
+  fi
   if [ "$(row text)" != "$(text_sum)" ]; then echo 'dist is of an earlier text: not compared' && return; fi
   if [ "$(row "kit's sum")" != "$(kit_sum)" ]; then
     echo "dist was made with kit $(row kit), this is $(rt version): not compared" && return
@@ -90,5 +95,6 @@ check() {
 case "${1-}" in
   '') make ;;
   --check) check ;;
-  *) echo 'usage: contrib/dist.sh [--check]' >&2 && exit 2 ;;
+  --crates) crates ;;
+  *) echo 'usage: contrib/dist.sh [--check | --crates]' >&2 && exit 2 ;;
 esac

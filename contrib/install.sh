@@ -6,8 +6,9 @@
 # PREFIX is where bin/bnc and the manual page go: ~/.local, or /usr/local for root. The settings are
 # ~/.config/bnc/bnc.toml; for root they are /etc/bnc/bnc.toml, and there is a systemd unit too if the
 # machine has systemd. If there are no settings yet, they are written with a random password, which
-# is printed once. Settings that are there stay as they are. contrib/uninstall.sh takes all of it
-# back, except the settings and the messages that were kept.
+# is printed once; messages are then kept in a folder beside them, for root in /var/lib/bnc. Settings
+# that are there stay as they are. contrib/uninstall.sh takes all of it back, except the settings and
+# the messages that were kept.
 set -eu
 here=$(cd "$(dirname "$0")/.." && pwd)
 name=bnc-x86_64-linux-gnu
@@ -16,9 +17,9 @@ umask 077
 refuse() { echo "install: $1" >&2; exit 1; }
 
 if [ "$(id -u)" = 0 ]; then
-  prefix=${1:-/usr/local} folder=/etc/bnc
+  prefix=${1:-/usr/local} folder=/etc/bnc kept=/var/lib/bnc
 else
-  prefix=${1:-$HOME/.local} folder=${XDG_CONFIG_HOME:-$HOME/.config}/bnc
+  prefix=${1:-$HOME/.local} folder=${XDG_CONFIG_HOME:-$HOME/.config}/bnc kept=kept
 fi
 settings=$folder/bnc.toml
 at=$(mktemp -d)
@@ -27,6 +28,7 @@ trap 'rm -rf "$at"' EXIT
 # what the machine has to be
 [ "$(uname -s)" = Linux ] || refuse 'the program is for Linux'
 [ "$(uname -m)" = x86_64 ] || refuse "the program is for x86-64, and this is $(uname -m)"
+[ -r /proc/cpuinfo ] || refuse '/proc is not mounted'
 for flag in cx16 lahf_lm popcnt sse4_1 sse4_2 ssse3; do
   grep -qw "$flag" /proc/cpuinfo || refuse "the processor lacks $flag, a part of x86-64-v2"
 done
@@ -59,17 +61,19 @@ if [ ! -e "$settings" ]; then
   bytes=$(printf '%s' "$salt" | od -An -tx1 | tr -d ' \n')
   digest=$(printf '%s%s' "$salt" "$password" | sha256sum | cut -c 1-64)
   mkdir -p "$folder"
-  sed "/^# 16 random/d; s/^salt = .*/salt = \"$bytes\"/; s/^password = .*/password = \"$digest\"/" \
-    "$here/contrib/bnc.toml" > "$settings"
+  sed "/^# 16 random/d; s/^salt = .*/salt = \"$bytes\"/; s/^password = .*/password = \"$digest\"/
+    s|^#kept = .*|kept = \"$kept\"|" "$here/contrib/bnc.toml" > "$settings"
   echo "wrote $settings; the password for your clients, shown this once: $password"
 fi
 [ -e "$settings.control" ] || mkfifo -m 600 "$settings.control"
 
+start=
 if [ "$(id -u)" = 0 ] && [ -d /run/systemd/system ]; then
   sed "s#/usr/local/bin/bnc#$prefix/bin/bnc#" "$here/contrib/bnc.service" > "$at/bnc.service"
   install -D -m 644 "$at/bnc.service" /etc/systemd/system/bnc.service
   systemctl daemon-reload
   echo 'installed the unit bnc.service'
+  start='systemctl enable --now bnc'
 fi
 
 # what to type next
@@ -82,4 +86,4 @@ esac
 echo 'next:'
 echo "  \${EDITOR:-vi} $settings        # your network and your nick"
 echo "  $bnc check $settings"
-echo "  $bnc serve $settings"
+echo "  ${start:-$bnc serve $settings}"

@@ -1,67 +1,33 @@
 #!/usr/bin/env bash
-# Proves the crates that bnc needs, several at a time, each after those that it stands on, and then
-# builds bnc, at crates/bnc/out/bnc.
+# Proves bnc and the crates that it stands on, leaves the program at crates/bnc/out/bnc, and compares
+# it with the one that dist/ hands out, if dist/ is there.
 #
-#   contrib/prove.sh [AT_ONCE]
-#
-# AT_ONCE: how many crates may be proved at once, 3 if it is not given. Each crate gets a line
-# when it ends. What was proved is kept, so a run that was broken off goes on where it was.
-set -eu
+# `rt ci` does it, in a folder with a copy of these crates alone, without their planted bugs: as many
+# at once as there are processors and memory, each after those below it. RT_JOBS sets another number.
+# A crate gets a line with the seconds so far. What was proved is kept, by the sums of all that it was
+# made from: a run that was broken off goes on where it was, and the gate takes it over.
+set -euo pipefail
 cd "$(dirname "$0")/.."
-at_once=${1:-3}
-logs=$(mktemp -d)
-trap 'kill $(jobs -p) 2> /dev/null || true; rm -rf "$logs"' EXIT
-
-# what each crate of the repository stands on, as crates.txt has it
-declare -A below=()
-while read -r line; do
-  below[${line%%[: ]*}]=${line#*:}
-done < <(grep '^[^#]*:' crates.txt)
-
-# bnc and all crates below it, the lower ones first
-needed=()
-declare -A seen=()
-gather() {
-  local crate
-  [[ -v below[$1] && ! -v seen[$1] ]] || return 0
-  seen[$1]=yes
-  for crate in ${below[$1]}; do gather "$crate"; done
-  needed+=("$1")
-}
-gather bnc
-
-declare -A started=() proved=() crate_of=()
-running=0
-
-# whether all that a crate stands on is proved
-is_ready() {
-  local crate
-  for crate in ${below[$1]}; do
-    [[ ! -v below[$crate] || -v proved[$crate] ]] || return 1
-  done
-}
-
-start() {
-  (cd "crates/$1" && exec rt check --jobs 4) > "$logs/$1" 2>&1 &
-  crate_of[$!]=$1
-  started[$1]=$SECONDS
-  running=$((running + 1))
-}
-
-while ((${#proved[@]} < ${#needed[@]})); do
-  for crate in "${needed[@]}"; do
-    if [[ ! -v started[$crate] ]] && ((running < at_once)) && is_ready "$crate"; then
-      start "$crate"
-    fi
-  done
-  if ! wait -n -p ended; then
-    cat "$logs/${crate_of[$ended]}"
-    exit 1
-  fi
-  crate=${crate_of[$ended]}
-  echo "proved $crate in $((SECONDS - started[$crate])) s"
-  proved[$crate]=yes
-  running=$((running - 1))
+at=$(mktemp -d)
+trap 'rm -rf "$at"' EXIT
+mkdir "$at/crates"
+cp HANDLES "$at"
+for crate in $(contrib/dist.sh --crates); do
+  grep "^$crate\b" crates.txt >> "$at/crates.txt"
+  mkdir "$at/crates/$crate"
+  find "crates/$crate" -mindepth 1 -maxdepth 1 ! -name out ! -name must-fail \
+    -exec cp -r -t "$at/crates/$crate" {} +
 done
-cd crates/bnc
-rt run -- --version
+
+# prints rt's own lines, with the seconds so far
+with_times() {
+  local line
+  while IFS= read -r line; do printf '%6d s %s\n' "$SECONDS" "${line#rt: }"; done
+}
+if ! (cd "$at" && rt ci 2>&1) | tee "$at/log" | grep --line-buffered '^rt: ' | with_times; then
+  grep -v ': proved$' "$at/log"
+  exit 1
+fi
+install -D "$at/crates/bnc/out/bnc" crates/bnc/out/bnc
+echo "proved bnc, $SECONDS s in all"
+if [ -f dist/README.md ]; then contrib/dist.sh --check; fi

@@ -15,6 +15,7 @@ bnc=${BNC:-crates/bnc/out/bnc}
 tests=${TESTS:-
   crates/tests_hub/out/tests_hub_tests
   crates/tests_handshakes/out/tests_handshakes_tests
+  crates/tests_journals/out/tests_journals_tests
   crates/tests_threads/out/tests_threads_tests}
 most=20000
 

@@ -5,9 +5,14 @@
 #
 # FILE is ~/.config/bnc/bnc.toml, or /etc/bnc/bnc.toml for root. `bnc setup FILE` asks and writes; this
 # script turns the terminal's echo off while a password is typed, and on again at the end and at
-# signals. It makes the FIFO too. BNC names another program than the one that is installed.
+# signals. It makes the FIFO too, and has messages kept in a folder beside FILE, for root in
+# /var/lib/bnc. BNC names another program than the one that is installed.
 set -eu
-if [ "$(id -u)" = 0 ]; then folder=/etc/bnc; else folder=${XDG_CONFIG_HOME:-$HOME/.config}/bnc; fi
+if [ "$(id -u)" = 0 ]; then
+  folder=/etc/bnc kept=/var/lib/bnc
+else
+  folder=${XDG_CONFIG_HOME:-$HOME/.config}/bnc kept=kept
+fi
 file=${1:-$folder/bnc.toml}
 bnc=${BNC:-}
 for place in bnc ~/.local/bin/bnc /usr/local/bin/bnc /usr/bin/bnc; do
@@ -43,10 +48,15 @@ while IFS= read -r question <&4; do
     *\?)
       printf '%s ' "$question"
       answer ;;
+    # that is done below
+    'to control it:'*) ;;
     *) printf '%s\n' "$question" ;;
   esac
 done
 status=0
 wait "$asks" || status=$?
-if [ "$status" = 0 ] && [ ! -e "$file.control" ]; then mkfifo -m 600 "$file.control"; fi
+if [ "$status" = 0 ]; then
+  sed -i "s|^retry = .*|&\nkept = \"$kept\"|" "$file"
+  [ -e "$file.control" ] || mkfifo -m 600 "$file.control"
+fi
 exit "$status"

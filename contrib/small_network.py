@@ -1,6 +1,6 @@
 """A small IRC network on the loopback range, bnc at it, and clients.
 
-For random_network.py, try_random.py, try_sasl.py, try_networks.py and demo.py.
+For random_network.py, try_random.py, try_sasl.py, try_services.py, try_networks.py, try_metrics.py and demo.py.
 """
 
 import base64
@@ -211,6 +211,7 @@ class Network:
         self.channels, self.nick = {name: Channel() for name in channels}, "ann"
         self.account, self.mechanism, self.response = account, None, ""
         self.logged_in = None  # the account's name
+        self.tokens = "PREFIX=(ov)@+ CHANTYPES=# CHANMODES=b,k,l,imnpst CASEMAPPING=ascii"
         self.joined, self.said = set(), []
         self.pings, self.pongs = 0, set()
         self.waiting, self.held, self.socket = b"", b"", None
@@ -232,14 +233,18 @@ class Network:
         self.socket.setsockopt(socket.IPPROTO_TCP, socket.TCP_NODELAY, 1)
         self.held, self.waiting, self.joined, self.nick = b"", b"", set(), "ann"
         self.is_open, self.logged_in, self.mechanism = False, None, None
-        wait_for("registration", lambda: self.is_open, lambda: self.hear(0.05))
+        wait_for("registration", self.is_registered, lambda: self.hear(0.05))
         for line in (
-            ":s 001 ann :hi",
-            ":s 005 ann PREFIX=(ov)@+ CHANTYPES=# CHANMODES=b,k,l,imnpst CASEMAPPING=ascii :are here",
-            ":s 376 ann :end",
+            "001 {} :hi",
+            f"005 {{}} {self.tokens} :are here",
+            "376 {} :end",
         ):
-            self.put(line)
+            self.put(":s " + line.format(self.nick))
+        self.greeted = time.monotonic()
         self.flush()
+
+    def is_registered(self):
+        return self.is_open
 
     def hear(self, seconds=0.0005):
         """Takes what bnc sent."""

@@ -1,30 +1,34 @@
 #!/bin/sh
 # Writes a configuration of stunnel for a settings file: TLS for clients, and TLS to networks.
 #
-#   contrib/tls.sh FILE.toml [-c CERTIFICATE -k KEY] [PORT=HOST:PORT]..
+#   contrib/tls.sh FILE.toml [-a ADDRESS] [-c CERTIFICATE -k KEY] [PORT=HOST:PORT]..
 #
-# Clients connect with TLS to port 6697. Without a certificate one is made beside FILE.toml, which
-# clients must be set to trust. PORT=HOST:PORT says where a network is whose `address` in the
-# settings is 127.0.0.1:PORT; its certificate is checked. The result is FILE.stunnel.conf, and the
-# last line says how to start it. docs/TLS.md has what to know.
+# Clients connect with TLS to ADDRESS, which is port 6697 of all addresses if it is not given. Without
+# a certificate one is made beside FILE.toml, for this host's name and localhost, which clients must be
+# set to trust. PORT=HOST:PORT says where a network is whose `address` in the settings is
+# 127.0.0.1:PORT; its certificate is checked by those that the system trusts, or those in the file
+# CAFILE. The result is FILE.stunnel.conf, and the last line says how to start it. docs/TLS.md has what
+# to know.
 set -eu
 usage() { sed -n '4p' "$0" | sed 's/^# */usage: /' >&2; exit 2; }
 [ $# -ge 1 ] || usage
 file=$(realpath -e "$1")
 shift
-certificate='' key=''
-while getopts c:k: option; do
+accept=6697 certificate='' key=''
+while getopts a:c:k: option; do
   case $option in
+    a) accept=$OPTARG ;;
     c) certificate=$(realpath -e "$OPTARG") ;;
     k) key=$(realpath -e "$OPTARG") ;;
     *) usage ;;
   esac
 done
 shift $((OPTIND - 1))
+key=${key:-$certificate}
 base=${file%.toml}
 
-# the text at a key of the top of the settings
-text_at() { sed -n "/^\[/q; s/^$1 *= *\"\(.*\)\".*/\1/p" "$file"; }
+# the text at a key of the top of the settings, or the first of a list of them
+text_at() { sed -n "/^\[/q; s/^$1 *= *\[\{0,1\} *\"\([^\"]*\)\".*/\1/p" "$file"; }
 
 clients=$(text_at listen_proxy) protocol='protocol = proxy'
 if [ -z "$clients" ]; then clients=$(text_at listen) protocol=''; fi
@@ -35,10 +39,10 @@ if [ -z "$certificate" ]; then
   if [ ! -e "$certificate" ]; then
     name=$(hostname -f 2> /dev/null || hostname)
     (umask 077 && openssl req -x509 -newkey rsa:2048 -nodes -days 3650 -subj "/CN=$name" \
-      -addext "subjectAltName=DNS:$name" -keyout "$key" -out "$certificate" 2> "$base.openssl") ||
+      -addext "subjectAltName=DNS:$name,DNS:localhost" -keyout "$key" -out "$certificate" 2> "$base.openssl") ||
       { cat "$base.openssl" >&2; exit 1; }
     rm -f "$base.openssl"
-    echo "made $certificate for $name"
+    echo "made $certificate for $name and localhost"
   fi
 fi
 {
@@ -46,9 +50,9 @@ fi
 foreground = yes
 pid =
 
-; for clients: TLS on port 6697, plain to bnc
+; for clients: TLS, and plain to bnc
 [clients]
-accept = 6697
+accept = $accept
 connect = $clients
 $protocol
 cert = $certificate

@@ -4,12 +4,15 @@
     try_journal.py BNC SEED KILLS
 
 It plays an IRC network that talks without a pause, and two clients that read all of it; a third client
-comes once and is away from then on. At a random moment it kills bnc (SIGKILL), has `bnc log` print what
-the file holds, and starts bnc again. What is missing in the file must be an end of what was sent; each
-client name must get exactly what the file holds beyond its mark, in order, each message once, and then
-what is said anew. Then the file is cut at 100 random places and has 100 random bytes changed, one at a
-time: `bnc log` must print a beginning of its messages, and say so if something is damaged; ten of these
-files are served. Last it tries two programs on one folder, and a folder that can't be made.
+reads some of it, and is away from then on until the end. At a random moment it kills bnc (SIGKILL), has
+`bnc log` print what the file holds, and starts bnc again. What is missing in the file must be an end of what
+was sent; each client name must get exactly what the file holds beyond its mark, in order, each message once,
+and then what is said anew. Then a small file is cut at 100 random places and has 100 random bytes changed,
+one at a time: `bnc log` must print the messages of the frames before that place, and say how many bytes are
+damaged; ten of these files are served, and bnc must go on with the same messages. Then its file may grow no
+more for a while: the log says so, and half a minute later all is written. Then the disk hangs: a reload and
+`stop` wait for nothing, and the log says that a journal is not written. Last it tries two programs on one
+folder, of which one must write nothing, and a folder that can't be made.
 
 The same seed gives the same moments. It uses free ports of the loopback range, and a folder that it makes
 and removes. It prints `ok` and counts, or what was wrong, with status 1; also if something has not come
@@ -21,6 +24,7 @@ import os
 import pathlib
 import random
 import re
+import resource
 import subprocess
 import sys
 import tempfile
@@ -30,11 +34,33 @@ from small_network import PATIENCE, SETTINGS, Client, Network, Wrong, reserve_po
 
 NAMES = ["desk", "phone"]
 AWAY = "tablet"
+ANOTHER = """[[user.network]]
+name = "net2"
+address = "127.0.0.1:1"
+nick = "ann"
+user = "ann"
+realname = "Ann"
+"""
 
 
 def numbers_in(text):
     """The numbers of the messages of a text, in order."""
     return [int(number) for number in re.findall(r"\bmessage(\d+)$", text, re.MULTILINE)]
+
+
+def sound_frames(data):
+    """Of each beginning of a file that is whole frames: its length, and how many messages it has.
+
+    A frame is the length of its text in four bytes, the text's SHA-256, and the text.
+    """
+    frames = [(0, 0)]
+    while True:
+        at, count = frames[-1]
+        size = int.from_bytes(data[at : at + 4], "big")
+        text = data[at + 36 : at + 36 + size]
+        if len(text) < size or hashlib.sha256(text).digest() != data[at + 4 : at + 36]:
+            return frames
+        frames.append((at + 36 + len(text), count + text.count(b" PRIVMSG ")))
 
 
 class TalkingNetwork(Network):
@@ -64,14 +90,14 @@ class Program:
         self.write_settings(self.settings, self.port, "kept")
         self.log, self.process = self.folder / "log", None
 
-    def write_settings(self, path, port, kept):
+    def write_settings(self, path, port, kept, more=""):
         text = SETTINGS.format(
             listen=f'"127.0.0.1:{port}"',
             top="",
             address=f"127.0.0.1:{self.network.listener.getsockname()[1]}",
             digest=hashlib.sha256(b"abc").hexdigest(),
             join='"#c0"',
-            more="",
+            more=more,
         )
         path.write_text(text.replace("retry = 1\n", f'retry = 1\nkept = "{kept}"\n'))
         path.chmod(0o600)
@@ -83,7 +109,10 @@ class Program:
     def start(self, settings=None):
         with self.log.open("w") as log:
             command = [self.program, "serve", settings or self.settings]
-            self.process = subprocess.Popen(command, stdout=log, stderr=log)
+            # SIGXFSZ stays ignored, so that a file that may not grow is a fault of a write
+            self.process = subprocess.Popen(
+                command, stdout=log, stderr=log, restore_signals=False
+            )
 
     def is_up(self):
         return "listening" in self.log.read_text()
@@ -91,6 +120,12 @@ class Program:
     def kill(self):
         self.process.kill()
         self.process.wait(PATIENCE)
+
+    def order(self, word):
+        """Has bnc take a control word; it may read the FIFO only some time after it listens."""
+        words = [self.program, "control", self.settings, word]
+        given = lambda: subprocess.run(words, capture_output=True, timeout=PATIENCE).returncode == 0
+        wait_for(f"reader of the word {word}", given)
 
     def kept(self, path=None):
         """The numbers of the messages in a file, as `bnc log` prints them, and its status."""
@@ -137,6 +172,14 @@ class Trial:
                 raise Wrong(f"{name}: {client.wrong}")
             return [int(message.removeprefix("message")) for message in client.messages]
 
+    def leave_one_away(self):
+        """The third client reads what is said, and goes."""
+        self.network.talk(self.rng)
+        self.settle()
+        self.go(AWAY)
+        self.last[AWAY] = self.network.count
+        time.sleep(1)  # until that stands on the disk
+
     def settle(self):
         """Waits until each client has all that was said."""
         self.network.ask()
@@ -164,7 +207,7 @@ class Trial:
 
     def round(self):
         """Talks for a while, kills bnc, looks at its file, and starts it again."""
-        until = time.monotonic() + self.rng.uniform(0.05, 1.2)
+        until = time.monotonic() + self.rng.uniform(0.02, 0.6)
         while time.monotonic() < until:
             self.network.talk(self.rng)
             self.network.hear(self.rng.uniform(0.0005, 0.02))
@@ -193,39 +236,67 @@ class Trial:
         self.held, self.said = kept, self.network.count
 
     def finish(self):
-        """The client that was away gets all that it missed."""
+        """The client that was away gets exactly what it missed."""
         for name in list(self.clients):
             self.go(name)
         self.come(AWAY)
         self.network.talk(self.rng)
         self.settle()
-        self.last[AWAY] = 0
         got = sorted(self.got(AWAY))
         whole = self.held + list(range(self.said + 1, self.network.count + 1))
-        if got != whole:
-            raise Wrong(f"{AWAY} got {len(got)} messages, and not {len(whole)}")
+        missed = [number for number in whole if number > self.last[AWAY]]
+        if got != missed:
+            raise Wrong(f"{AWAY} got {len(got)} messages, and not the {len(missed)} that it missed")
         time.sleep(1)  # what is left is written after a rest
         self.bnc.kill()
 
-    def damage(self):
-        """Files that were cut or changed: a beginning is read, and damage is reported."""
-        whole, _, _ = self.bnc.kept()
-        data, path = self.bnc.file.read_bytes(), self.bnc.folder / "damaged"
-        for turn in range(200):
-            place = self.rng.randrange(len(data))
-            if turn < 100:
-                path.write_bytes(data[:place])
-            else:
-                byte = bytes([data[place] ^ self.rng.randint(1, 255)])
-                path.write_bytes(data[:place] + byte + data[place + 1 :])
-            kept, status, error = self.bnc.kept(path)
-            if kept != whole[: len(kept)] or status not in (0, 1) or (turn >= 100 and status == 0):
-                raise Wrong(f"of {path}, byte {place}, turn {turn}: {len(kept)}, {status}, {error}")
-            if turn % 20 == 0:
-                self.serve_damaged(path.read_bytes(), kept)
+    def begin_afresh(self):
+        """Starts bnc, which finds no file, at a network where it is in no channel."""
+        self.bnc.file.unlink(missing_ok=True)
+        self.network.channels["#c0"].members.clear()
+        self.begin()
 
-    def serve_damaged(self, data, kept):
-        """bnc goes on with the good part of a file, if it has a header."""
+    def damage(self):
+        """Files that were cut or changed: the messages before that place are read, and no others.
+
+        The file has a snapshot and some batches, and is small, since it is read 200 times.
+        """
+        before = self.network.count
+        self.begin_afresh()
+        for _ in range(6):
+            self.network.talk(self.rng)
+            self.network.ask()
+            time.sleep(0.3)
+        time.sleep(1)  # what is left is written after a rest
+        self.bnc.kill()
+        self.network.socket.close()
+        data, path = self.bnc.file.read_bytes(), self.bnc.folder / "damaged"
+        whole, frames = list(range(before + 1, self.network.count + 1)), sound_frames(data)
+        if frames[-1] != (len(data), len(whole)) or self.bnc.kept() != (whole, 0, ""):
+            raise Wrong(f"the file holds {self.bnc.kept()}, and not {whole}")
+        for turn in range(200):
+            place, is_cut = self.rng.randrange(len(data)), turn < 100
+            byte = bytes([data[place] ^ self.rng.randint(1, 255)])
+            path.write_bytes(data[:place] + (b"" if is_cut else byte + data[place + 1 :]))
+            end, count = max(frame for frame in frames if frame[0] <= place)
+            self.tell_damage(path, end, whole[:count], is_foreign=end == 0 and not is_cut)
+            if turn % 20 == 0:
+                self.serve_damaged(path.read_bytes(), end, whole[:count], end == 0 and not is_cut)
+
+    def tell_damage(self, path, end, messages, is_foreign):
+        """`bnc log` prints the messages of the sound bytes, and says how many others there are."""
+        kept, status, error = self.bnc.kept(path)
+        left = path.stat().st_size - end
+        told = "not a journal" if is_foreign else f"{left} bytes at the end are damaged"
+        wanted = f"bnc: {told}\n" if left else ""
+        if (kept, status, error) != (messages, 1 if left else 0, wanted):
+            raise Wrong(f"of {path}, sound up to {end}: {len(kept)} messages, {status}, {error}")
+
+    def serve_damaged(self, data, end, messages, is_foreign):
+        """bnc goes on with the sound bytes of a file, and sets the others aside if it has a header.
+
+        A file that is no journal stays as it is.
+        """
         self.bnc.file.write_bytes(data)
         self.network.joined.clear()
         self.begin()
@@ -236,25 +307,99 @@ class Trial:
         self.settle()
         (name,) = self.clients
         got, new = sorted(self.got(name)), list(range(before + 1, self.network.count + 1))
-        if got not in (kept + new, new):
-            raise Wrong(f"of {len(kept)} messages of a damaged file {len(got)} were sent")
+        if got != messages + new:
+            raise Wrong(f"of {len(messages)} messages of a damaged file {len(got)} were sent")
         self.bnc.kill()
         self.network.socket.close()
         self.network.channels["#c0"].members.clear()
+        log, left = self.bnc.log.read_text(), len(data) - end
+        if is_foreign and ("not a journal" not in log or self.bnc.file.read_bytes() != data):
+            raise Wrong("a file that is no journal was changed, or the log does not name it")
+        if end and left:
+            aside = pathlib.Path(f"{self.bnc.file}:damaged").read_bytes()
+            told = f"the last {left} bytes are damaged, and were set aside"
+            if told not in log or not aside.endswith(data[end:]):
+                raise Wrong(f"a damaged end of {left} bytes was not set aside")
+
+    def full_disk(self):
+        """A file that may not grow for a while is written later, with all that came since."""
+        before = self.network.count
+        self.begin_afresh()
+        self.network.talk(self.rng)
+        self.network.ask()
+        time.sleep(1)
+        limits, process = resource.RLIMIT_FSIZE, self.bnc.process.pid
+        _, most = resource.prlimit(process, limits)
+        resource.prlimit(process, limits, (self.bnc.file.stat().st_size + 2, most))
+        began = time.monotonic()
+        for _ in range(3):
+            self.network.talk(self.rng)
+            self.network.ask()
+            time.sleep(1)
+        log = self.bnc.log.read_text()
+        if "journal not written, tries again: not written" not in log or "written again" in log:
+            raise Wrong("of a file that may not grow the log does not say so")
+        resource.prlimit(process, limits, (most, most))
+        wait_for(
+            "journal that is written again",
+            lambda: "journal written again" in self.bnc.log.read_text(),
+            lambda: self.network.hear(0.05),
+        )
+        self.full = time.monotonic() - began
+        kept, status, error = self.bnc.kept()
+        if status != 0 or kept != list(range(before + 1, self.network.count + 1)):
+            raise Wrong(f"after {self.full:.0f} s the file holds {kept[-9:]}, status {status}: {error}")
+        self.bnc.kill()
+        self.network.socket.close()
+
+    def hung_disk(self):
+        """A file that can be neither written nor read for good holds up no control word.
+
+        A FIFO stands in the place of a new file, and one in that of a network that a reload adds.
+        """
+        fifos = [f"{self.bnc.file}:new", f"{self.bnc.file}2", f"{self.bnc.settings}.control"]
+        for fifo in fifos:
+            os.mkfifo(fifo, 0o600)
+        self.begin_afresh()
+        self.network.talk(self.rng)
+        self.network.ask()
+        time.sleep(1)  # its journal is begun meanwhile
+        self.bnc.write_settings(self.bnc.settings, self.bnc.port, "kept", ANOTHER)
+        self.bnc.order("reload")
+        self.bnc.order("stop")
+        began = time.monotonic()
+        self.bnc.process.wait(PATIENCE)
+        self.hung = time.monotonic() - began
+        log = self.bnc.log.read_text()
+        if "networks new 1" not in log or "ann/net: journal not written to its end" not in log:
+            raise Wrong("of a disk that hangs the log does not say so")
+        self.network.socket.close()
+        self.bnc.write_settings(self.bnc.settings, self.bnc.port, "kept")
+        for fifo in fifos:
+            os.unlink(fifo)
 
     def two_programs(self):
         """The second program on a folder writes nothing there, and says so."""
-        self.bnc.file.unlink()
-        self.begin()
+        before = self.network.count
+        self.begin_afresh()
         other = TalkingNetwork()
         second = Program(self.bnc.program, self.bnc.folder / "second", other)
         second.write_settings(second.settings, second.port, str(self.bnc.folder / "kept"))
         second.start()
-        wait_for("a second program", second.is_up)
-        other.let_in()
-        wait_for("word of the other program", lambda: "another program" in second.log.read_text())
-        second.kill()
+        try:
+            wait_for("a second program", second.is_up)
+            other.let_in()
+            wait_for("word of the other program", lambda: "another program" in second.log.read_text())
+            for network in (self.network, other):
+                network.talk(self.rng)
+                network.ask()
+            time.sleep(1)  # until that stands on the disk
+        finally:
+            second.kill()
         self.bnc.kill()
+        kept, whole = self.bnc.kept(), list(range(before + 1, self.network.count + 1))
+        if kept != (whole, 0, ""):
+            raise Wrong(f"beside a second program the file holds {kept}, and not {whole}")
 
     def no_folder(self):
         """A folder below a plain file can't be made, and the network is served without it."""
@@ -264,6 +409,8 @@ class Trial:
         self.network.channels["#c0"].members.clear()
         self.begin()
         self.come("late")
+        told = "served without a journal"
+        wait_for("word of the missing folder", lambda: told in self.bnc.log.read_text())
         self.bnc.kill()
 
 
@@ -279,12 +426,13 @@ def main(program, seed, kills):
             trial.begin()
             for name in [*NAMES, AWAY]:
                 trial.come(name)
-            trial.go(AWAY)
-            time.sleep(1)  # until that stands on the disk
+            trial.leave_one_away()
             for _ in range(kills):
                 trial.round()
             trial.finish()
             trial.damage()
+            trial.full_disk()
+            trial.hung_disk()
             trial.two_programs()
             trial.no_folder()
         except (Wrong, OSError, subprocess.TimeoutExpired) as wrong:
@@ -297,6 +445,8 @@ def main(program, seed, kills):
     print(told("messages missing in the file:", trial.lost))
     print(told("messages sent again to a client that had read them:", trial.repeated))
     print(told("seconds until a client could log in:", [round(wait, 2) for wait in trial.waits]))
+    print(f"seconds until a file that could not grow was written again: {trial.full:.0f}")
+    print(f"seconds from `stop` to the end while the disk hangs: {trial.hung:.1f}")
     return 0
 
 

@@ -4,9 +4,12 @@
     try_networks.py BNC
 
 Lines at connect come before the channels, and no log shows them; a channel with a key is joined again
-when its server has restarted; a proxy names its clients; refusals are logged, one that repeats once;
-clients come in at two addresses; and, where the machine has IPv6, bnc listens and dials at [::1]. The
-status is 1 if anything else happens.
+when its server has restarted; a client that was away is away again after a reconnect; a nick that
+another one has is asked for again once that one leaves, unless a client chose one; further nicks, and
+one with digits, are asked for if the network takes no other, and 437 counts as 433 with them alone; 16
+lines at connect go at the network's pace, and none is kept; a proxy names its clients; refusals are
+logged, one that repeats once; clients come in at two addresses; and, where the machine has IPv6, bnc
+listens and dials at [::1]. The status is 1 if anything else happens.
 """
 
 import socket
@@ -28,6 +31,8 @@ class Asked(Network):
     def take(self, line):
         self.lines.append((time.monotonic(), line))
         command, _, rest = line.partition(" ")
+        if command == "AWAY":
+            return self.put(f":s {306 if rest else 305} {self.nick} :so it is")
         if command != "JOIN":
             return super().take(line)
         names, _, keys = rest.partition(" ")
@@ -60,6 +65,165 @@ class Asked(Network):
         self.let_in()
 
 
+class Haunted(Asked):
+    """A network where another one has bnc's nick, until it leaves."""
+
+    def __init__(self):
+        super().__init__()
+        self.ghosts, self.asked, self.is_in = {"ann"}, [], False
+
+    def is_registered(self):
+        return self.is_open and self.nick not in self.ghosts
+
+    def let_in(self):
+        self.is_in = False
+        super().let_in()
+        self.is_in = True
+
+    def take(self, line):
+        command, _, nick = line.partition(" ")
+        if command != "NICK":
+            return super().take(line)
+        self.asked.append(nick)
+        if nick in self.ghosts:
+            return self.put(f":s 433 {self.nick} {nick} :Nickname is already in use")
+        if self.is_in:
+            self.put(f":{self.nick}!a@h NICK :{nick}")
+            for name in self.joined:
+                members = self.channels[name].members
+                members[nick] = members.pop(self.nick)
+        self.nick = nick
+        return None
+
+    def ghost_leaves(self):
+        self.ghosts.clear()
+        self.put(":ann!a@old QUIT :Ping timeout")
+        self.flush()
+
+
+class Choosy(Asked):
+    """A network that answers a nick with a number, or takes it."""
+
+    def __init__(self, number_for):
+        super().__init__()
+        self.number_for, self.asked, self.is_taken = number_for, [], False
+        self.tokens += " NICKLEN=9"
+
+    def is_registered(self):
+        return self.is_open and self.is_taken
+
+    def take(self, line):
+        command, _, nick = line.partition(" ")
+        if command != "NICK":
+            return super().take(line)
+        self.asked.append(nick)
+        number = self.number_for(nick)
+        self.is_taken = number is None
+        if number:
+            return self.put(f":s {number} * {nick} :not that one")
+        self.nick = nick
+        return None
+
+    def accept(self):
+        """Takes bnc's next connection."""
+        self.socket, _ = self.listener.accept()
+        self.held, self.waiting = b"", b""
+        self.is_open, self.is_taken = False, False
+
+    def refuse(self):
+        """Takes a connection that bnc closes before it is let in."""
+        self.accept()
+        is_closed = False
+
+        def hear():
+            nonlocal is_closed
+            try:
+                self.hear(0.05)
+            except (Wrong, OSError):
+                is_closed = True
+
+        wait_for("end of a registration", lambda: is_closed or self.is_registered(), hear)
+        if not is_closed:
+            raise Wrong(f"bnc was taken as {self.nick}")
+
+
+def marked(*nicks):
+    """These nicks as a registration asks for them."""
+    return [nick + "_" * marks for nick in nicks for marks in range(4)]
+
+
+def further_nicks(program):
+    network, log = Choosy(lambda nick: None if nick == "cid" else 433), []
+    with serving(program, network, ["#c"], 'nicks = ["bob", "cid"]\n', log):
+        network.refuse()
+        network.refuse()
+        network.come_in()
+    if network.asked != [*marked("ann", "bob"), "cid"]:
+        raise Wrong(f"asked for {network.asked}")
+    for nick in ("ann", "bob"):
+        words = f"not registered as {nick}: nick in use; it said: not that one"
+        if log[0].count(words) != 1:
+            raise Wrong(f"the log does not have {words}: {log[0]}")
+
+
+def a_nick_of_full_length(program):
+    network = Choosy({"ann": 433, "ann_": 432}.get)
+    with serving(program, network, ["#c"], 'nicks = ["bob"]\n'):
+        network.refuse()
+        network.come_in()
+    if network.asked != ["ann", "ann_", "bob"]:
+        raise Wrong(f"asked for {network.asked}")
+
+
+def a_nick_with_digits(program):
+    network = Choosy(lambda nick: None if nick[-2:].isdigit() else 433)
+    with serving(program, network, ["#c"], "nicks = []\n"):
+        for length in (1, 3):  # NICKLEN is not known at first
+            network.refuse()
+            network.come_in()
+            if network.asked[:4] != marked("ann") or network.asked[4][:-2] != "ann"[:length]:
+                raise Wrong(f"asked for {network.asked}")
+            network.socket.close()
+            network.leave("#c")
+            network.asked = []
+
+
+def a_nick_that_is_not_available(program):
+    for more, asked in (("nicks = []\n", ["ann", "ann_"]), ("", ["ann"])):
+        network = Choosy({"ann": 437}.get)
+        with serving(program, network, ["#c"], more):
+            if more:
+                network.come_in()
+            else:
+                network.accept()
+                for _ in range(20):
+                    network.hear(0.05)
+        if network.asked != asked:
+            raise Wrong(f"asked for {network.asked} with {more}")
+
+
+def lines_at_a_pace(program):
+    network = Asked()
+    lines = [f"PRIVMSG NickServ :{place:02} ".ljust(128, "x") for place in range(16)]
+    more = f"on_connect = {lines}\njoin_after = 1\n"
+    with serving(program, network, ["#c"], more) as port:
+        network.let_in()
+        wait_for("JOIN", lambda: network.joined, network.hear)
+        sent = [(at, line) for at, line in network.lines if line.startswith("PRIVMSG")]
+        if [line for _, line in sent] != lines:
+            raise Wrong(f"other lines: {sent}")
+        # 1,500 bytes at once, and then 100 a second; what comes may be seen late, and never early
+        if sent[-1][0] - network.greeted < 5 or network.time_of("JOIN") - network.greeted < 6:
+            raise Wrong(f"lines or channels came too soon: {network.lines}")
+        network.ask()
+        client = Client(port, "pc", [])
+        wait_for("channel", lambda: "#c" in client.channels, network.hear)
+        client.say("PING :played")
+        wait_for("PONG", lambda: "played" in client.last[-1], network.hear)
+        if client.messages:
+            raise Wrong(f"lines at connect are kept: {client.messages}")
+
+
 def lines_at_connect(program):
     network, log = Asked(), []
     more = 'on_connect = ["PRIVMSG NickServ :identify hunter2", "MODE ann +x"]\njoin_after = 1\n'
@@ -68,7 +232,7 @@ def lines_at_connect(program):
             network.let_in()
             wait_for("JOIN", lambda: network.joined, network.hear)
             lines = [network.time_of(start) for start in ("PRIVMSG", "MODE ann +x", "JOIN")]
-            if None in lines or lines != sorted(lines) or lines[2] - lines[1] < 0.9:
+            if None in lines or lines != sorted(lines) or lines[2] - network.greeted < 0.99:
                 raise Wrong(f"lines and channels in another order: {network.lines}")
             network.socket.close()
             network.leave("#c")
@@ -88,6 +252,47 @@ def a_key_over_a_restart(program):
         network.ask()
         network.restart()
         wait_for("both channels", lambda: network.joined == {"#c", "#d"}, network.hear)
+
+
+def away_again(program):
+    network = Asked()
+    with serving(program, network, ["#c"], "away = true\n") as port:
+        network.come_in()
+        client = Client(port, "pc", [])
+        wait_for("channel", lambda: "#c" in client.channels, network.hear)
+        for said, again in (("AWAY :gone fishing", "AWAY :gone fishing"), ("AWAY", None)):
+            network.lines = []
+            client.say(said)
+            wait_for(said, lambda: network.time_of(said), network.hear)  # noqa: B023
+            network.ask()
+            network.restart()
+            wait_for("JOIN", lambda: network.joined, network.hear)
+            network.ask()
+            if again:
+                wait_for("AWAY", lambda: network.time_of(again), network.hear)  # noqa: B023
+            elif network.time_of("AWAY"):
+                raise Wrong(f"away again, though the client is back: {network.lines}")
+
+
+def a_nick_regained(program):
+    for chosen in (None, "bob"):
+        network = Haunted()
+        with serving(program, network, ["#c"], "nicks = []\n") as port:
+            network.come_in()
+            client = Client(port, "pc", [])
+            wait_for("channel", lambda: "#c" in client.channels, network.hear)  # noqa: B023
+            if chosen:
+                client.say(f"NICK {chosen}")
+                wait_for("NICK", lambda: network.nick == chosen, network.hear)  # noqa: B023
+            network.ask()
+            count = len(network.asked)
+            network.ghost_leaves()
+            network.ask()
+            if not chosen:
+                wait_for("the nick", lambda: network.nick == "ann", network.hear)  # noqa: B023
+            network.ask()
+            if network.asked[count:] != ([] if chosen else ["ann"]):
+                raise Wrong(f"asked for {network.asked} though {chosen} was chosen")
 
 
 def says(port, first):
@@ -183,7 +388,9 @@ def main():
     if len(sys.argv) != 2:
         sys.exit(__doc__)
     tries = [
-        lines_at_connect, a_key_over_a_restart, a_proxy, refusals_told, two_addresses,
+        lines_at_connect, lines_at_a_pace, a_key_over_a_restart, away_again, a_nick_regained,
+        further_nicks, a_nick_of_full_length, a_nick_with_digits, a_nick_that_is_not_available,
+        a_proxy, refusals_told, two_addresses,
     ]
     if has_ipv6():
         tries.append(over_ipv6)

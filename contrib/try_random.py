@@ -30,7 +30,7 @@ from random_network import Past, PastNetwork, RandomNetwork
 from small_network import CAPABILITIES, PATIENCE, Client, Wrong, wait_for
 
 JOIN = {"#c0", "#c1"}
-LATE = ["464 ", "ERROR :settings changed, log in again"]  # what one may be told that logs in at a reload
+LATE = ["464 "]  # what one may be told that logs in at a reload
 
 
 class Trial:

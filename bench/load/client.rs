@@ -62,6 +62,11 @@ impl Client {
         Client { stream, took: began.elapsed() }
     }
 
+    /// By which its connection can be shut while it reads on.
+    pub fn door(&self) -> TcpStream {
+        self.stream.try_clone().unwrap()
+    }
+
     /// Reads all that comes, and tells when each timed line came, and how many lines came up to it;
     /// `None` where the bouncer ends the connection.
     pub fn read_on(mut self, timed: Sender<Option<(Instant, u64)>>) {

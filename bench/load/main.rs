@@ -4,6 +4,7 @@
 //! load NETWORK_PORT CLIENT_PORT PID PASSWORD SESSIONS    lines to so many sessions
 //! load NETWORK_PORT CLIENT_PORT PID PASSWORD attach SET  attaches to 200 channels of 100 members
 //! load NETWORK_PORT CLIENT_PORT PID PASSWORD many        1,000 networks with 2,000 sessions
+//! load NETWORK_PORT CLIENT_PORT PID PASSWORD floods N M  N floods to 8 sessions beside M busy processes
 //! load settings LISTEN_PORT NETWORK_PORT USERS           a settings file of bnc with so many users
 //! load listening BNC FILE                                the time until bnc listens
 //! load cost FIGURE PROGRAM WORD..                        what a program takes that ends by itself
@@ -15,6 +16,7 @@
 
 mod attaching;
 mod client;
+mod floods;
 mod lines;
 mod many;
 mod network;
@@ -67,6 +69,9 @@ fn main() {
             match what {
                 ["attach", set] => attaching::run(&bouncer, set),
                 ["many"] => many::run(&bouncer),
+                ["floods", floods, busy] => {
+                    floods::run(&bouncer, floods.parse().unwrap(), busy.parse().unwrap());
+                }
                 [sessions] => lines::run(&bouncer, sessions.parse().unwrap()),
                 _ => panic!("no such step"),
             }
