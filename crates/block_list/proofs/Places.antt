@@ -1,4 +1,4 @@
--- Where an item of a list in blocks stands, and what a change of one block makes of the list.
+-- Where an item of a list in blocks is, and what a change of one block makes of the list.
 use Rattle.block_list.proofs.Words
 use Words.{◌%◌, ◌*◌, ◌++◌, ◌+◌, ◌-◌, ◌/◌, ◌<◌, ◌∙◌, ◌∷◌, ◌≡◌, ◌≤◌, IsTiled, List, Shelf, VecDeque}
 use Words.{[], ap, arith, deque_len, drop, get_or, insert, items_of, length, length-append, refl}
@@ -19,7 +19,7 @@ module _ {X Z : Type 0} where
       let rest = long bs (len - 128) (λ i d l. omega (arith, filled (suc i) d (omega arith))) in
       omega (arith, length-append b.items (items_of bs), filled 0 b (omega arith), b.ok.0, rest)
 
-  -- the block at a place, behind blocks that are full
+  -- the block at a place, after blocks that are full
   pub record IsBlock (bs : List (VecDeque X Z)) (i : ℕ) (b : VecDeque X Z) : Type 0 where
     pub inside : i < length bs
     pub is : b ≡ get_or bs i b

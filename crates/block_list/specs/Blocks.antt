@@ -16,7 +16,7 @@ shelf_code {X} x =
     code_by (List X × ℕ) (coded× (coded_list x) coded_ℕ) (λ s. (s.items, s.spare))
     (λ p. record { items = p.0; spare = p.1 }) (λ _. refl)
 
--- how many of so many items stand in the block at a place
+-- how many of this many items are in the block at a place
 abbrev pub share : ℕ → ℕ → ℕ
 share len i = min 128 (len - i * 128)
 
@@ -33,7 +33,7 @@ module _ {X Z : Type 0} where
   AreRoomy blocks =
       (i : ℕ) (d : VecDeque X Z) → i < length blocks → 128 ≤ deque_capacity (get_or blocks i d)
 
-  -- blocks of so many items, each full before the next one begins
+  -- blocks of this many items, each full before the next one begins
   pub record IsTiled (blocks : List (VecDeque X Z)) (len : ℕ) : Type 0 where
     pub roomy : AreRoomy blocks
     pub filled : (i : ℕ) (d : VecDeque X Z) → i < length blocks →
@@ -41,7 +41,7 @@ module _ {X Z : Type 0} where
     pub within : len ≤ length blocks * 128
     pub few : length blocks ≤ 2 ^ 56
 
-  -- the same, but for one item that is missing in the block at a place
+  -- the same, except for one item that is missing in the block at a place
   pub record IsShort (blocks : List (VecDeque X Z)) (len hole : ℕ) : Type 0 where
     pub roomy : AreRoomy blocks
     pub inside : hole < length blocks

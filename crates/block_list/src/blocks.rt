@@ -14,7 +14,7 @@ use std::marker::Model;
 const MOST_BLOCKS: usize = 1 << 56;
 
 /// A list in blocks of 128 items. Each block is full before the next one begins, so the place of an
-/// item tells its block.
+/// item determines its block.
 #[derive(Drop)]
 pub struct Blocks<T, A: Allocator> {
     pub(crate) blocks: Vec<VecDeque<T, A>, A>,

@@ -1,4 +1,4 @@
-//! Where an item stands in a list in order.
+//! Where an item is in a list in order.
 
 ghost use Rattle.std.specs.Prelude.{◌≡◌, length};
 ghost use Rattle.std.specs.Fn.{FnReturnsAt};
@@ -10,7 +10,7 @@ use std::alloc::Allocator;
 use std::cmp::Ordering;
 
 impl<T, A: Allocator> Blocks<T, A> {
-    /// Where an item stands that is equal by `order`, or where one would stand: first its block,
+    /// Where an item is that is equal by `order`, or where one would be: first its block,
     /// then its place there.
     pub fn binary_search_by<F: Fn(&T) -> Ordering>(&self, order: F) -> Result<usize, usize>
         requires { F.IsAlwaysCallable order }

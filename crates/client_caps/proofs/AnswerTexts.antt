@@ -1,4 +1,4 @@
--- What an answer holds can stand in a line.
+-- What an answer holds can be in a line.
 use Rattle.client_caps.proofs.{ImageMade.IsFromLines, ImageWritten.nick_written}
 use Rattle.client_caps.proofs.{PartsWritten.{param_clean, same_words, split_written}, Words.IfSome}
 use Rattle.client_caps.proofs.Words.{List, None, Option, Parts, Some, Text, View, [], arith, codes}
@@ -11,7 +11,7 @@ pub param_is_clean : (line : Parts) (i : ℕ) (p : Text) → is_writable line �
     → slice_get line.params i ≡ Some p → is_clean p ≡ true
 param_is_clean line i p h is = grind (arith, is, param_clean line.params i (split_written line h).2)
 
--- a parameter, or nothing where there is none
+-- a parameter, or nothing if there is none
 pub param_or_nothing : (line : Parts) (i : ℕ) → is_writable line ≡ true
     → is_clean (unwrap_or (slice_get line.params i) []) ≡ true
 param_or_nothing line i h = grind (arith, param_clean line.params i (split_written line h).2)

@@ -4,7 +4,7 @@ use Rattle.client_caps.proofs.Words.{append_assoc, arith, cond, drop, false, joi
 use Rattle.{client_caps.proofs.Words.{map, true, ℕ}, std.proofs.Common.{drop-cons, get_or}}
 use Rattle.std.proofs.lemmas.List.{drop_all}
 
--- a text so far, and the texts behind it; the first is joined with no byte before it
+-- a text so far, and the texts after it; the first is joined with no byte before it
 abbrev pub joined_on : ℕ → Bool → Text → List Text → Text
 joined_on b true so_far texts = so_far ++ join_with_byte b texts
 joined_on b false so_far [] = so_far
@@ -20,7 +20,7 @@ joined_more b first so_far t ts = grind (arith, append_assoc)
 pub joined_whole : (b : ℕ) (first : Bool) (so_far : Text) → joined_on b first so_far [] ≡ so_far
 joined_whole b first so_far = grind (arith, append-nil)
 
--- those that are left at a place are the one there and those left behind it
+-- those that are left at a place are the one there and those left after it
 pub next_left : {X Y : Type 0} (f : X → Y) (xs : List X) (i : ℕ) (d : X) → i < length xs
     → map f (drop i xs) ≡ f (get_or xs i d) ∷ map f (drop (i + 1) xs)
 next_left f xs i d within = grind (arith, drop-cons xs i d within)

@@ -1,4 +1,4 @@
--- What the words of a name list tell: members; with the highest symbols alone, their highest ranks.
+-- What the words of a name list say: members; with the highest symbols alone, their highest ranks.
 use Rattle.client_caps.proofs.{Telling.{IsRanked, highest_listing}, Words.{◌∷◌, ◌≡◌, IsPlain, List}}
 use Rattle.client_caps.proofs.Words.{Listing, Text, Token, [], arith, highest_plain, join_with_byte}
 use Rattle.client_caps.proofs.Words.{listings_of, map, names_with_highest, refl, symbols_before}

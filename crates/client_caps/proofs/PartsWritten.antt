@@ -78,7 +78,7 @@ unfolding is_channel
 channel_word settings [] h = cc
 channel_word settings (b ∷ name) h = grind (arith, no_space (b ∷ name))
 
--- an account that is told or known is a clean word
+-- an account that is given or known is a clean word
 pub account_word : (first known : Option Text) → IfSome first (λ p. is_clean p ≡ true)
     → IfSome known (λ a. (is_word a ≡ true) × (is_clean a ≡ true)) →
     let acc =

@@ -39,7 +39,7 @@ formed_length (f ∷ form) (b ∷ text) h = grind (arith, formed_length form tex
 pub time_found : (line : Parts) (time : Text) → time_of line ≡ Some time → length time ≡ 24
 time_found line time e = grind (arith, e, time_has_form line, formed_length time_form time)
 
--- what a line is shown to have come at can stand in a tag
+-- what a line is shown to have come at can be in a tag
 pub shown_tagged : (line : Parts) (moment : ℕ)
     → IsTagText (unwrap_or (time_of line) (time_text_of moment))
 shown_tagged line moment = grind (arith, time_tagged moment, time_fits line)

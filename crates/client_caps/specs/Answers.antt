@@ -1,4 +1,4 @@
--- What a client is answered to what it asks of us, and not of its network: CAP (IRCv3 capability
+-- What we answer to what a client asks of us, and not of its network: CAP (IRCv3 capability
 -- negotiation) and PING (RFC 2812, section 3.7.2). Commands and subcommands are compared without
 -- regard to the case of ASCII letters. Our name, the text of 410 and that a PONG has the first
 -- parameter of the PING alone are our own choice.
@@ -46,7 +46,7 @@ asked_text line = unwrap_or (slice_get line.params 1) []
 abbrev pub from_bouncer : Text → List Text → Parts
 from_bouncer command params = untagged_line (Some (codes "bnc")) command params
 
--- what a client is called: by its nick, where it has one yet
+-- what a client is called: by its nick, if it has one yet
 abbrev pub name_shown : Option Text → Text
 name_shown nick = unwrap_or nick (codes "*")
 
@@ -58,7 +58,7 @@ cap_line nick word text = from_bouncer (codes "CAP") (name_shown nick ∷ word �
 abbrev pub names_held : Caps → List Text
 names_held caps = map cap_name (filter (holds caps) offered_caps)
 
--- the subcommand that was not known, where it is a word
+-- the subcommand that was not known, if it is a word
 abbrev pub subcommand_shown : Parts → Text
 subcommand_shown line = unwrap_or (word_at line.params 0) (codes "*")
 
@@ -86,6 +86,6 @@ answer_for nick held granted line Unknown = Some (unknown_line nick line)
 answer_for nick held granted line Ping = Some (pong_line line)
 answer_for nick held granted line Nothing = None
 
--- the answer to a line; none where it asks for none
+-- the answer to a line; none if it asks for none
 abbrev pub answer_to : Option Text → Caps → Bool → Parts → Option Parts
 answer_to nick held granted line = answer_for nick held granted line (asked line)

@@ -21,14 +21,14 @@ day_after date =
     if nat_lt date.month 12 then record { year = date.year; month = date.month + 1; day = 1 } else
     record { year = date.year + 1; month = 1; day = 1 }
 
--- the day that comes so many days after 1970-01-01
+-- the day that comes this many days after 1970-01-01
 unfoldable pub date_of : ℕ → Date
 date_of zero = record { year = 1970; month = 1; day = 1 }
 date_of (suc days) = day_after (date_of days)
 
 -- ---- the text
 
--- the last so many decimal digits of a number
+-- the last decimal digits of a number, this many of them
 abbrev pub last_digits : ℕ → ℕ → Text
 last_digits zero n = []
 last_digits (suc k) n = last_digits k (n / 10) ++ (48 + n % 10) ∷ []

@@ -1,5 +1,5 @@
 -- What a client asks for by CAP REQ (IRCv3 capability negotiation): words with spaces between, each
--- the name of a capability, with a minus before it where the client gives it up. Names are
+-- the name of a capability, with a minus before it if the client gives it up. Names are
 -- compared byte for byte.
 use Rattle.std.specs.Prelude.{Bool, true, false, ◌==◌, List, [], ◌∷◌, is_some}
 use Rattle.std.specs.Prelude.{if◌then◌else◌}
@@ -19,7 +19,7 @@ wish_of (b ∷ name) =
     if b == 45 then option_map (λ cap. (cap, false)) (cap_named name) else option_map
     (λ cap. (cap, true)) (cap_named (b ∷ name))
 
--- what a wish says of a capability: something where it names that one
+-- what a wish says of a capability: something if it names that one
 abbrev pub says_held : Cap → Cap × Bool → Option Bool
 says_held cap wish = if bytes_eq (cap_name wish.0) (cap_name cap) then Some wish.1 else None
 
@@ -28,7 +28,7 @@ abbrev pub caps_after : Caps → List (Cap × Bool) → Caps
 caps_after caps wishes =
     caps_that (λ cap. unwrap_or (last_in (says_held cap) wishes) (holds caps cap))
 
--- the capabilities after a request, which is taken whole; none where a word asks for nothing that
+-- the capabilities after a request, which is taken whole; none if a word asks for nothing that
 -- is known
 unfoldable pub request_of : Caps → Text → Option Caps
 request_of caps text =

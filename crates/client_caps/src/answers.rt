@@ -85,7 +85,7 @@ impl Asked {
     }
 }
 
-/// The capabilities that a `CAP REQ` names, its parameter 1, for [`read_request`]; empty where
+/// The capabilities that a `CAP REQ` names, its parameter 1, for [`read_request`]; empty if
 /// there is none.
 ///
 /// [`read_request`]: crate::read_request
@@ -111,7 +111,7 @@ fn from_bouncer<B: Allocator + Drop>(
     Line::from_parts(alloc, None, Some(b"bnc"), command, params)
 }
 
-/// What a client is called: by its nick, where it has one yet, else `*`.
+/// What a client is called: by its nick, if it has one yet, else `*`.
 #[tactic(auto, using(crate::proofs::AnswerTexts::name_can_stand))]
 fn name_shown(nick: Option<&[u8]>) -> &[u8]
     requires { IfSome nick (λ n. IsTrue (is_nameable n.now)) }
@@ -198,7 +198,7 @@ fn held_line<B: Allocator + Copy + Drop>(
     cap_line(alloc, name, b"LIST", &text)
 }
 
-/// The subcommand of a CAP, as it can stand in an answer: `*` where it is missing or no word.
+/// The subcommand of a CAP, as it can be in an answer: `*` if it is missing or no word.
 #[tactic(auto, using(crate::proofs::AnswerTexts::param_steps))]
 fn subcommand_shown<A: Allocator>(line: &Line<A>) -> &[u8]
     ensures shown { result.now ≡ subcommand_shown line.now }
@@ -242,9 +242,9 @@ fn pong_line<A: Allocator, B: Allocator + Drop>(
     }
 }
 
-/// What a client is answered to a line by us, and not by its network; `None` where the line asks
+/// What we, and not its network, answer a client's line; `None` if the line asks
 /// nothing of us, or ends the negotiation of capabilities. The client has this nick, or none yet,
-/// and holds these capabilities; whether a request is granted is for the caller to say, who reads
+/// and holds these capabilities; the caller says whether a request is granted, reading
 /// it by [`asked_text`] and [`read_request`](crate::read_request).
 ///
 /// | line | answer |
@@ -253,7 +253,7 @@ fn pong_line<A: Allocator, B: Allocator + Drop>(
 /// | `CAP LIST` | `:bnc CAP ann LIST :` and the names that are held, in the same order |
 /// | `CAP REQ text` | `:bnc CAP ann ACK text`, or `NAK`; a missing text is empty |
 /// | `CAP END` | nothing |
-/// | other `CAP` | `:bnc 410 ann SUB :Invalid CAP command`; `*` where SUB is missing or no word |
+/// | other `CAP` | `:bnc 410 ann SUB :Invalid CAP command`; `*` if SUB is missing or no word |
 /// | `PING x` | `:bnc PONG bnc x`; `:bnc PONG bnc` without a parameter |
 /// | any other | nothing |
 ///

@@ -131,7 +131,7 @@ fn all_params<A: Allocator, B: Allocator>(
     Ok(params)
 }
 
-/// Puts these words in the place of a `353`'s own, parameter 3, where it has any.
+/// Puts these words in the place of a `353`'s own, parameter 3, if it has any.
 #[tactic(auto, using(crate::proofs::ImageMade::put_fourth))]
 fn put_names<'a>(params: &mut [&'a [u8]], names: &'a [u8])
     ensures { map (λ p. p.now) params.new
@@ -252,7 +252,7 @@ fn sent_as<V: NetworkView, A: Allocator, B: Allocator + Copy + Drop>(
     line.copy_tagged_in(alloc, tags)
 }
 
-/// What a client with these capabilities is sent in place of a line; `None` where it is sent
+/// What a client with these capabilities is sent in place of a line; `None` if it is sent
 /// nothing. The view is the one before the line; the moment is when the line came.
 ///
 /// | line | what is sent |
@@ -266,7 +266,7 @@ fn sent_as<V: NetworkView, A: Allocator, B: Allocator + Copy + Drop>(
 ///
 /// The account of such a JOIN is the one that the line names, else the one known, else `*`. Tags of
 /// the network go; with server-time the tag `time` comes, as
-/// `@time=2020-01-02T03:04:05.678Z :bob!b@h PRIVMSG #c hi`: the line's own time, where it has one
+/// `@time=2020-01-02T03:04:05.678Z :bob!b@h PRIVMSG #c hi`: the line's own time, if it has one
 /// of that form, else the moment (IRCv3 multi-prefix, extended-join, account-notify, away-notify,
 /// server-time). A line that is sent as it is takes one allocation. `OutOfMemory` if an
 /// allocation was refused, and for no other cause.
@@ -292,7 +292,7 @@ pub fn image<V: NetworkView, A: Allocator, B: Allocator + Copy + Drop>(
     Ok(Some(sent_as(alloc, view, caps, line, None)?))
 }
 
-/// Adds that we leave the channel at a place, where there is one.
+/// Adds that we leave the channel at a place, if there is one.
 #[tactic(auto, using(crate::proofs::ImageMade::one_part))]
 fn push_part<V: NetworkView, A: Allocator + Copy + Drop>(
     alloc: A,

@@ -17,9 +17,9 @@ fn wish_of(word: &[u8]) -> Option<(Cap, bool)>
 }
 
 /// The capabilities that a client holds after a request, the text of `CAP REQ :multi-prefix
-/// -batch`: words with spaces between, each the name of a capability, with `-` before it where the
+/// -batch`: words with spaces between, each the name of a capability, with `-` before it if the
 /// client gives it up. A later word overrides an earlier one, and an empty request changes nothing.
-/// `None` where a word is no name of the six: a request is taken whole or not at all (IRCv3
+/// `None` if a word is no name of the six: a request is taken whole or not at all (IRCv3
 /// capability negotiation).
 #[tactic(auto, using(crate::proofs::Requests::request_steps))]
 pub fn read_request(caps: Caps, text: &[u8]) -> Option<Caps>

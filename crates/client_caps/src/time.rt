@@ -48,7 +48,7 @@ fn four_digits(number: u16) -> [u8; 4]
     [thousands, hundreds, tens, ones]
 }
 
-/// The date of the day that comes so many days after 1970-01-01, as `2000-02-29`.
+/// The date of the day that comes this many days after 1970-01-01, as `2000-02-29`.
 #[tactic(auto, using(crate::proofs::Days::date_is))]
 fn day_text(number: u32) -> [u8; 10]
     requires { number ≤ 2932896 }
@@ -62,7 +62,7 @@ fn day_text(number: u32) -> [u8; 10]
     [y1, y2, y3, y4, b'-', m1, m2, b'-', d1, d2]
 }
 
-/// The time of day so many milliseconds after midnight, as `03:04:05.678Z`.
+/// The time of day this many milliseconds after midnight, as `03:04:05.678Z`.
 fn hour_text(ms: u32) -> [u8; 13]
     requires { ms ≤ 86399999 }
     ensures { result ≡ hour_text ms }
@@ -80,7 +80,7 @@ fn hour_text(ms: u32) -> [u8; 13]
 #[tactic(auto, using(crate::proofs::TimeText::time_formed, crate::proofs::TimeText::time_tagged), unfolding(crate::specs::Moment::time_text_of))]
 pub fn time_text(moment: Moment) -> [u8; 24]
     ensures text { result ≡ time_text_of moment.0 }
-    // It has the form of a time, and can stand in a tag.
+    // It has the form of a time, and can be in a tag.
     ensures formed { has_form time_form (time_text_of moment.0) ≡ true }
     ensures tag { IsTrue (list_all is_tag_byte (time_text_of moment.0)) }
 {
@@ -92,7 +92,7 @@ pub fn time_text(moment: Moment) -> [u8; 24]
     ]
 }
 
-/// The tag that says when a line came: its own time, where it has one, else the moment's.
+/// The tag that says when a line came: its own time, if it has one, else the moment's.
 #[tactic(auto, using(crate::proofs::TimeText::time_found))]
 pub fn time_tag<A: Allocator>(line: &Line<A>, moment: Moment) -> [u8; 29]
     ensures { result ≡ codes "time=" ++ unwrap_or (time_of line.now) (time_text_of moment.0) }
@@ -105,7 +105,7 @@ pub fn time_tag<A: Allocator>(line: &Line<A>, moment: Moment) -> [u8; 29]
     tag
 }
 
-/// When a line came, as tags tell it: its own time, where it has one, else the moment's; 24 bytes.
+/// When a line came, as tags say it: its own time, if it has one, else the moment's; 24 bytes.
 #[tactic(auto, using(crate::proofs::TimeText::shown_tagged, crate::proofs::TimeText::time_found))]
 pub fn shown_time<A: Allocator>(line: &Line<A>, moment: Moment) -> [u8; 24]
     ensures time { result ≡ unwrap_or (time_of line.now) (time_text_of moment.0) }

@@ -7,11 +7,12 @@ use Rattle.commands.specs.Attach.{last_messages_by, message_by, message_in, room
 use Rattle.commands.specs.{Attach.stream_burst_by, Stream.transcript_of}
 use Rattle.commands.specs.declared.fault.Fault.{Fault}
 use Rattle.commands.specs.declared.fault.Fault.TheVariants.{OutOfMemory, Settings as OfSettings}
-use Rattle.history.{proofs.{KeptLines.whole_heard, LastMessages.one_more, Retained.nothing_passes}}
-use Rattle.history.specs.{Entry.EntryParts, Keeping.{Kept, if_kept, whole}}
-use Rattle.history.specs.Messages.{Messages, history_of, missed_by, missed_of, target_key}
-use Rattle.history.specs.Messages.{target_limit, with_message}
-use Rattle.history.specs.Retained.{is_held, is_retained, is_to, retained, was_held}
+use Rattle.history.{proofs.{KeptLines.whole_heard, LastMessages.one_more}}
+use Rattle.history.specs.{Entry.{EntryParts, in_ring}, Keeping.{Kept, if_kept, whole}}
+use Rattle.history.specs.Keeping.{in_ring_heard, is_kept_heard, ring_heard}
+use Rattle.history.specs.Messages.{Messages, history_of, is_with_person, missed_by, missed_of}
+use Rattle.history.specs.Messages.{retained_of, target_key, target_limit, with_message}
+use Rattle.history.specs.Retained.{is_held, is_retained, is_to, of_kind, was_held}
 use Rattle.irc_line.specs.{Line.Parts, Tags.is_tag_byte, Writing.written}
 use Rattle.irc_line.specs.Tags.{time_form, time_of, time_value, value_behind}
 use Rattle.net_view.specs.{Arrival.{Arrival, Lost, Received}, View.view_of}
@@ -19,8 +20,8 @@ use Rattle.std.proofs.Common.{◌++◌, ◌∷◌, ◌≡◌, List, None, Option
 use Rattle.std.proofs.Common.{Some, [], ap, append-nil, arith, codes, false, refl, sym, true, ℕ}
 use Rattle.std.proofs.lemmas.{Bool.le-ltb, List.Elements.filter_map-append}
 use Rattle.std.specs.{Io.KnownBytes.Consumes, List.{enumerate_from, filter_map, list_all}}
-use Rattle.std.specs.{List.flat_map, Option.{option_and_then, option_map_or, unwrap_or}}
-use Rattle.std.specs.Prelude.{◌&&◌, Bool, filter, length}
+use Rattle.std.specs.{List.flat_map, Option.{option_and_then, option_map, option_map_or, unwrap_or}}
+use Rattle.std.specs.Prelude.{◌&&◌, Bool, filter, if◌then◌else◌, length, reverse}
 use Rattle.welcome.{proofs.PlaybackWhole.whole_played, specs.Burst.state_part_of}
 use Rattle.welcome.specs.{Playing.playing_whole, declared.playing.Playing.Playing}
 
@@ -45,17 +46,18 @@ time_tagged line time e = in_tags line.tags e where
 
 -- ---- the messages that are kept
 
--- what a test lets stay, if it lets it stay, is the same
-pub tested : (test : EntryParts → Bool) (o : Option EntryParts)
-    → true ≡ is_some (option_and_then (if_kept test) o) → o ≡ option_and_then (if_kept test) o
-tested test None is = refl
-tested test (Some e) is = grind arith
-
--- what it does not let stay is nothing
-pub left_out : (test : EntryParts → Bool) (o : Option EntryParts)
-    → false ≡ is_some (option_and_then (if_kept test) o) → None ≡ option_and_then (if_kept test) o
-left_out test None is = refl
-left_out test (Some e) is = grind arith
+-- what is kept, if it is, is the message in its ring
+pub kept_in : (k : Kept) (o : Option EntryParts) (ring : Option (List ℕ)) → true
+    ≡ is_some (option_map (in_ring_heard k) (option_and_then (if_kept (is_kept_heard k)) o))
+    → ring ≡ option_and_then (ring_heard k) o → option_map (in_ring ring) o
+    ≡ option_map (in_ring_heard k) (option_and_then (if_kept (is_kept_heard k)) o)
+kept_in k None ring is r = refl
+kept_in k (Some e) ring is r = rw r (by (is_kept_heard k e) is) where
+  by : (b : Bool)
+      → true ≡ is_some (option_map (in_ring_heard k) (if b then Some e else None))
+      → Some (in_ring_heard k e) ≡ option_map (in_ring_heard k) (if b then Some e else None)
+  by true is = refl
+  by false is = cc
 
 -- ---- the messages that are retained, of those that a function makes of the items
 
@@ -75,13 +77,19 @@ pub no_message : (f : Arrival → Option EntryParts) (n : ℕ) (items : List Arr
 no_message f n items x held is e =
     rw (is, filter_map-append f items (x ∷ []), e, append-nil)
 
--- where none is to be kept, none is
-none_passes : (ms : List (ℕ × EntryParts)) → retained target_key target_limit 0 ms ≡ []
-none_passes ms =
-    nothing_passes target_key (is_retained target_key target_limit 0)
-    (λ k back. ap (λ b. b && (is_held target_key target_limit 0 k back
+-- if none is to be kept, none is
+none_stands : (k : List ℕ) (back : List (ℕ × EntryParts))
+    → is_retained target_key target_limit 0 k back ≡ false
+none_stands k back =
+    ap (λ b. b && (is_held target_key target_limit 0 k back
     && was_held target_key target_limit 0 k back))
-    (le-ltb (length (filter (is_to target_key k) back)) 0 (omega arith))) ms
+    (le-ltb (length (filter (is_to target_key k) back)) 0 (omega arith))
+
+none_passes : (ms : List (ℕ × EntryParts)) → retained_of 0 ms ≡ []
+none_passes [] = refl
+none_passes (m ∷ later) =
+    rw (none_stands (target_key m)
+    (filter (of_kind is_with_person (is_with_person m)) (reverse later))) (none_passes later)
 
 -- what is handed to the burst
 pub retained_then : (k : Kept) (recent : Option Messages) (items : List Arrival)
@@ -93,7 +101,7 @@ retained_then k (Some h) items kept = ap (missed_by None) kept.0
 
 -- ---- the whole profile
 
--- where each message is kept, what is kept is each message
+-- if each message is kept, what is kept is each message
 whole_message : (x : Arrival) → message_by whole x ≡ message_in x
 whole_message (Received line) = whole_heard (unwrap_or (time_of line) (time_text_of 0)) line
 whole_message Lost = refl

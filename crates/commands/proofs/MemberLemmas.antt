@@ -7,7 +7,7 @@ use Rattle.std.proofs.lemmas.List.Elements.{filter_map-append}
 use Rattle.std.proofs.lemmas.List.FromFn.{filter_of_map_range_with_len_more}
 use Rattle.std.specs.{List.range_with_len, Prelude.option_to_list}
 
--- the ranks of a set that stand before a place
+-- the ranks of a set that come before a place
 abbrev pub ranks_before : List ℕ → ℕ → List ℕ
 ranks_before ranks r = filter (has_rank ranks) (range_with_len 0 r)
 
@@ -17,7 +17,7 @@ ranks_more ranks rank =
     simp map-id at (filter_of_map_range_with_len_more (has_rank ranks) (λ r. r) 0 rank rank
     (omega arith))
 
--- what one rank adds: its symbol, where it is held and has one
+-- what one rank adds: its symbol, if it is held and has one
 abbrev symbol_text : List Token → Bool → ℕ → Text
 symbol_text settings has rank = cond has (option_to_list (symbol_of settings rank)) []
 

@@ -16,7 +16,7 @@ pub members_are : (v : View) (i : ℕ) → members_text v (member_parts_at v i)
     ≡ option_map_or (λ (ch : Channel). text_of (member_lines v ch)) (channel_shown v i) []
 members_are v i = grind (arith, map-map (member_line v.settings) (member_parts v))
 
--- the channels that stand before a place
+-- the channels that come before a place
 abbrev pub channels_before : View → ℕ → List ℕ
 channels_before v i =
     text_of (flat_map (λ (e : Text × Channel). channel_lines v e.1) (take i (entries v.channels)))

@@ -31,7 +31,7 @@ both f g s = (f s, g s)
 memory_is_not_asked : (k : ErrorKind) → k ≡ kind.OutOfMemory → IsAsked k → ⊥
 memory_is_not_asked k memory asked = grind arith
 
--- an error of `clap` is the cause of what it is told as
+-- an error of `clap` is the cause of what it is reported as
 pub cause_at : (app : App) (words : List Text) (k : ErrorKind) (fault : WordsFault) → app ≡ bnc_app
     → (k ≡ kind.OutOfMemory) ⊎ IsAmong k (fault_of app words) → IsOfKind k fault
     → IsCauseOf words fault
@@ -130,7 +130,7 @@ words_cause words name rows (Err Bad) asked h = inr (asks_nothing words name row
 words_cause words name rows (Err OutOfMemory) asked h = tt
 words_cause words name rows (Err (Help text)) asked h = absurd h
 
--- what is told of such an error explains the words
+-- the report of such an error explains the words
 pub explained_at : {T E : Type 0} (app : App) (words : List Text) (k : ErrorKind)
     (told : Result (Option T) E) → app ≡ bnc_app → (k ≡ kind.OutOfMemory)
     ⊎ IsAmong k (fault_of app words) → IfOk told (λ text. IfNone text (IsAsked k))

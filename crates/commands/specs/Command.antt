@@ -80,7 +80,7 @@ attach_app =
 abbrev pub view_app : App
 view_app = new_app (codes "view")
 
--- bnc COMMAND, where the words come without the program's name
+-- bnc COMMAND; the words come without the program's name
 abbrev pub bare_app : App
 bare_app = let app = new_app (codes "bnc") in
     record app {
@@ -180,7 +180,7 @@ AsksFor words command = (name : Text) × (rows : List Row)
 abbrev pub IsAsked : ErrorKind → Type 0
 IsAsked k = (k ≡ kind.DisplayHelp) ⊎ (k ≡ kind.DisplayVersion)
 
--- an error of this kind is told so; running out of memory may be told of any
+-- an error of this kind is reported as such; running out of memory may be reported for any
 abbrev pub IsOfKind : ErrorKind → WordsFault → Type 0
 IsOfKind k (Help text) = IsAsked k
 IsOfKind k Bad = (k ≢ kind.OutOfMemory) × (IsAsked k → ⊥)
@@ -201,7 +201,7 @@ IsCauseOf words (Help text) = AsksForText words
 IsCauseOf words Bad = IsAtFault words ⊎ ((command : Command) → AsksFor words command → ⊥)
 IsCauseOf words OutOfMemory = Unit {0}
 
--- why something, or nothing, is told of what is wrong with the words: the grammar finds a fault
+-- why there is a text about what is wrong with the words, or none: the grammar finds a fault
 -- other than that they ask for help or the version, or it finds no such fault
 abbrev pub IsExplained : {T : Type 0} → List Text → Option T → Type 0
 IsExplained words (Some text) = IsAtFault words

@@ -1,4 +1,4 @@
--- What a fault is told as, and which fault an error is. The texts are our own choice.
+-- How a fault is reported, and which fault an error is. The texts are our own choice.
 use Rattle.std.specs.Prelude.{◌≡◌, ◌≢◌, ◌++◌, ℕ, List, codes, string_bytes}
 use Rattle.std.specs.Fmt.{decimal}
 use Rattle.std.specs.declared.io.ErrorKind.{ErrorKind}
@@ -12,7 +12,7 @@ use Rattle.commands.specs.declared.fault.Fault.TheVariants.{NoAnswer, NobodyRead
 use Rattle.commands.specs.declared.fault.Fault.TheVariants.{NotReady, OutOfMemory, Settings}
 use Rattle.commands.specs.declared.fault.Fault.TheVariants.{SettingsAt}
 
--- the text that a fault is told as
+-- the text that reports a fault
 abbrev pub text_of : Fault → List ℕ
 text_of CannotListen = codes "cannot listen"
 text_of (CannotListenAt why) = codes "cannot listen\nbnc: " ++ string_bytes why
@@ -37,7 +37,7 @@ abbrev pub reading_fault : ErrorKind → Fault
 reading_fault kind.OutOfMemory = OutOfMemory
 reading_fault _ = CannotRead
 
--- the fault of a settings file of which the read failed so; the reason may be left out
+-- the fault of a settings file whose read failed so; the reason may be left out
 abbrev pub IsFileFault : ErrorKind → Fault → Type 0
 IsFileFault k OutOfMemory = k ≡ kind.OutOfMemory
 IsFileFault k CannotRead = k ≢ kind.OutOfMemory

@@ -14,7 +14,7 @@ use Rattle.commands.specs.declared.fault.Fault.TheVariants.{NotAJournal, OutOfMe
 -- what is recalled of these bytes, with all messages that a history can hold
 abbrev pub IsRecalledOf : List ℕ → Recalled → Type 0
 IsRecalledOf bytes r =
-    RecallsFile (nothing 10000 0) bytes r.batches r.used r.damage (kept_parts r.kept)
+    RecallsFile (nothing 10000 0) bytes r.rings r.batches r.used r.damage (kept_parts r.kept)
 
 -- the messages that are recalled, as text, and how many bytes at the end count for nothing
 pub record IsLogOf (bytes : List ℕ) (text : List ℕ) (damaged : ℕ) : Type 0 where

@@ -12,13 +12,13 @@ use Rattle.net_view.specs.Tokens.{Token}
 use Rattle.net_view.specs.View.{Channel, View}
 use Rattle.net_view.specs.Readers.{MemberParts, member_parts}
 
--- a text behind its label, where there is one
+-- a text after its label, if there is one
 abbrev pub labelled : Text → Option Text → Text
 labelled label None = []
 labelled label (Some text) = label ++ text
 
 -- a member of a channel: the symbols of all ranks that are held, the highest first, and the nick;
--- then the account and the away text, where they are known
+-- then the account and the away text, if they are known
 abbrev pub member_line : List Token → MemberParts → Text
 member_line settings member =
     codes "member " ++ symbols_of settings member.ranks ++ member.nick
@@ -34,17 +34,17 @@ member_lines v channel =
 abbrev pub letters_of : List (ℕ × Option Text) → Text
 letters_of modes = map (λ mode. mode.0) modes
 
--- the parameters of modes, each behind a space
+-- the parameters of modes, each after a space
 abbrev pub params_of : List (ℕ × Option Text) → Text
 params_of modes = flat_map (λ mode. labelled (codes " ") mode.1) modes
 
--- the modes of a channel, where there are any: the letters, and behind them the parameters in the
+-- the modes of a channel, if there are any: the letters, and after them the parameters in the
 -- same order
 abbrev pub mode_lines : List (ℕ × Option Text) → List Text
 mode_lines [] = []
 mode_lines modes = (codes "modes +" ++ letters_of modes ++ params_of modes) ∷ []
 
--- the topic of a channel, where there is one
+-- the topic of a channel, if there is one
 abbrev pub topic_lines : Option Text → List Text
 topic_lines None = []
 topic_lines (Some topic) = (codes "topic " ++ topic) ∷ []
@@ -60,18 +60,18 @@ channel_lines v channel =
 abbrev pub channels_lines : View → List Text
 channels_lines v = flat_map (λ entry. channel_lines v entry.1) (entries v.channels)
 
--- our nick and our channels, where a network took us in
+-- our nick and our channels, if a network took us in
 abbrev pub view_lines : View → List Text
 view_lines v = elim v.own [
   | None ↦ codes "no welcome" ∷ []
   | Some nick ↦ (codes "nick " ++ nick) ∷ channels_lines v
 ]
 
--- how many lines were skipped, where there were any
+-- how many lines were skipped, if there were any
 abbrev pub skipped_lines : ℕ → List Text
 skipped_lines skipped = if skipped == 0 then [] else (codes "skipped " ++ decimal skipped) ∷ []
 
--- lines, each with LF behind it
+-- lines, each with LF after it
 abbrev pub text_of : List Text → Text
 text_of lines = flat_map with_lf lines
 

@@ -13,19 +13,19 @@ use Rattle.commands.specs.declared.fault.Fault.TheVariants.{OutOfMemory}
 abbrev pub transcript_of : List ℕ → List Arrival
 transcript_of bytes = map Received (lines_of bytes)
 
--- the report of the view of that transcript; bytes behind the last LF are no line
+-- the report of the view of that transcript; bytes after the last LF are no line
 abbrev pub stream_report : List ℕ → List ℕ
 stream_report bytes = report_of (view_of (transcript_of bytes)) (counted (skipped_of bytes))
 
--- why an input of which these bytes were read is refused: a line that is too long is told where
--- there is one, and there no other fault is told
+-- why an input of which these bytes were read is refused: a line that is too long is reported if
+-- there is one, and then no other fault is reported
 abbrev pub IsRefusal : List ℕ → Fault → Type 0
 IsRefusal bytes CannotRead = is_too_long bytes ≡ false
 IsRefusal bytes LineTooLong = IsTrue (is_too_long bytes)
 IsRefusal bytes OutOfMemory = is_too_long bytes ≡ false
 IsRefusal bytes _ = ⊥
 
--- the same once the report may have been begun, where that is left to read: all was read before
+-- the same once the report may have been begun, if that is left to read: all was read before
 abbrev pub IsCauseOf : List ℕ → Option (List ℕ) → Fault → Type 0
 IsCauseOf bytes left CannotWrite = (is_too_long bytes ≡ false) × IsAtEnd left
 IsCauseOf bytes left fault = IsRefusal bytes fault

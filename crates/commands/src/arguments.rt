@@ -131,7 +131,9 @@ fn word_argument<'a>(alloc: Global) -> Arg<'a>
         .required(true)
         .action(ArgAction::Set)
         .value_name("WORD")
-        .help("What it is to do: reload, status or stop")
+        .help(
+            "What it is to do: reload, reload empty, status, metrics, forget USER/NETWORK NAME, or stop",
+        )
 }
 
 /// NETWORK, which a word may be about.

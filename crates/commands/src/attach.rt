@@ -1,10 +1,10 @@
-//! `bnc attach`: reads what a network sent, and writes what a client is sent that comes then.
+//! `bnc attach`: reads what a network sent, and writes what a client that attaches then receives.
 
 ghost use Rattle.std.specs.Prelude.{◌≡◌, ◌≢◌, ◌++◌, ◌∷◌, [], ℕ, List, false, true};
-ghost use Rattle.std.specs.Prelude.{IfErr, IfOk, IfSome, OnOk, map};
+ghost use Rattle.std.specs.Prelude.{IfErr, IfOk, IfSome, OnOk, map, option_map};
 ghost use Rattle.std.specs.Io.KnownBytes.{Appends, Consumes, IsAtEnd};
 ghost use Rattle.std.specs.List.{AllByRecursion};
-ghost use Rattle.history.specs.Entry.{IsWrittenEntry};
+ghost use Rattle.history.specs.Entry.{IsWrittenEntry, in_ring};
 ghost use Rattle.history.specs.Messages.{no_messages};
 ghost use Rattle.irc_line.specs.Lines.{is_too_long};
 ghost use Rattle.net_view.specs.Arrival.{Arrival, Received};
@@ -26,20 +26,22 @@ use std::io::{Read, Write};
 use std::num::NonZeroUsize;
 use welcome::{Playing, burst_by};
 
-/// The message that a line is; `None` where it is none. A line without a time of its own came at
-/// 1970-01-01T00:00:00Z.
-fn message_of(alloc: Global, line: &Line) -> Result<Option<Entry>, OutOfMemory>
-    ensures made { IfOk result (λ entry. entry ≡ message_in (Received line.now)) }
+/// The message that a line is, in the ring of a person of this name, or in that of its target; `None`
+/// if it is none. A line without a time of its own came at 1970-01-01T00:00:00Z.
+fn message_of(alloc: Global, ring: Option<&[u8]>, line: &Line) -> Result<Option<Entry>, OutOfMemory>
+    ensures made { IfOk result (λ entry. entry
+        ≡ option_map (in_ring (option_map (λ name. name.now) ring.entry))
+        (message_in (Received line.now))) }
     ensures written { IfOk result (λ entry. IfSome entry IsWrittenEntry) }
 {
     let _command = line.command();
     match line.time_tag() {
-        Some(time) => Entry::of_message(alloc, time, line),
-        None => Entry::of_message(alloc, &time_text(Moment(0)), line),
+        Some(time) => Entry::of_message_in(alloc, ring, time, line),
+        None => Entry::of_message_in(alloc, ring, &time_text(Moment(0)), line),
     }
 }
 
-/// The message that a line is, where it is one that is kept.
+/// The message that a line is, if it is one that is kept, in its ring.
 fn kept_message(alloc: Global, keeping: &Keeping, line: &Line) -> Result<Option<Entry>, OutOfMemory>
     ensures made { IfOk result (λ entry.
         entry ≡ message_by (kept_by keeping.now) (Received line.now)) }
@@ -48,10 +50,10 @@ fn kept_message(alloc: Global, keeping: &Keeping, line: &Line) -> Result<Option<
     if !keeping.is_kept_heard(line) {
         return Ok(None);
     }
-    message_of(alloc, line)
+    message_of(alloc, keeping.ring_heard(line), line)
 }
 
-/// Keeps a message, where there is one and any are retained. No input has so many messages that
+/// Keeps a message, if there is one and any are retained. No input has so many messages that
 /// their numbers are spent.
 fn keep_in(recent: &mut Option<History>, entry: Option<Entry>) -> Result<(), OutOfMemory>
     requires { IfSome entry IsWrittenEntry }
@@ -72,7 +74,7 @@ fn keep_in(recent: &mut Option<History>, entry: Option<Entry>) -> Result<(), Out
 }
 
 /// A view that takes the lines of an input, with the messages of them that are kept and retained,
-/// where any are.
+/// if any are.
 #[derive(Drop)]
 pub struct Attaching<V> {
     pub view: V,
@@ -114,13 +116,13 @@ fn retained(alloc: Global, recent: &Option<History>) -> Result<Vec<&Entry>, OutO
     }
 }
 
-/// Reads what a network sent to its end, and writes what a client with these capabilities is sent
-/// that comes then: the burst, with the messages that are retained, played back so, each line with
-/// CR LF.
+/// Reads what a network sent to its end, and writes what a client that attaches then with these
+/// capabilities receives: the burst, with the messages that are retained, played back so, each line
+/// with CR LF.
 ///
-/// Except when out of memory, a fault comes if over 16,384 bytes stand without LF, where a read
-/// fails or 1,000,000,000 reads did not reach the end, where the network is not ready, and where
-/// the burst is not taken. After a fault other than `CannotWrite` nothing is written. Bytes behind
+/// Except when out of memory, a fault comes if over 16,384 bytes come without LF, if a read
+/// fails or 1,000,000,000 reads did not reach the end, if the network is not ready, and if
+/// the burst is not taken. After a fault other than `CannotWrite` nothing is written. Bytes after
 /// the last LF are no line.
 pub fn attach_input<V: NetworkView, R: Read, W: Write>(
     alloc: Global,
@@ -158,9 +160,9 @@ pub fn attach_input<V: NetworkView, R: Read, W: Write>(
     }
 }
 
-/// Reads what a network sent to its end, and writes what a client with these capabilities is sent
-/// that comes then, with the last `history` messages to each target, as `attach_input` has it of a
-/// new view:
+/// Reads what a network sent to its end, and writes what a client that attaches then with these
+/// capabilities receives, with the last `history` messages to each target, as `attach_input` has it
+/// of a new view:
 ///
 /// ```text
 /// :s 001 Me :hi               :bnc 001 Me :Welcome to the bouncer

@@ -8,6 +8,9 @@ use std::io::Write;
 use std::os::unix::fs::{FileTypeExt, MetadataExt};
 use std::rt::Files;
 
+/// How many bytes a FIFO takes at once, if it takes any (PIPE_BUF).
+const AT_ONCE: usize = 4_096;
+
 /// The line that the words make, with LF.
 fn line_of(alloc: Global, control: &Control) -> Result<String, AllocError> {
     let mut line = String::from_str(alloc, control.word.as_str())?;
@@ -40,17 +43,24 @@ fn read_fifo<R: AllocGlobal + Files<File = File>>(rt: &R, path: &str) -> Option<
     }
 }
 
-/// Sends the program that serves a settings file a line: the words, with spaces between them. If no
-/// program reads the FIFO beside the file, nothing is sent.
+/// Sends the program that serves a settings file a line: the words, with spaces between them. It does
+/// not wait. If no program reads the FIFO beside the file, also because one that has it open is
+/// stopped and the FIFO full, nothing is sent, nor is a line of more than 4,096 bytes.
 pub fn send_control<R: AllocGlobal + Files<File = File>>(
     rt: &R,
     control: &Control,
 ) -> Result<(), Fault> {
     let path = format!(in rt.alloc(); "{}.control", control.file)?;
     let line = line_of(rt.alloc(), control)?;
+    if line.len() > AT_ONCE {
+        return Err(Fault::LineTooLong);
+    }
     let Some(mut fifo) = read_fifo(rt, path.as_str()) else {
         return Err(Fault::NobodyReads(path));
     };
+    if !keep::has_room(&fifo) {
+        return Err(Fault::NobodyReads(path));
+    }
     match fifo.write_all(line.as_bytes()) {
         Ok(()) => Ok(()),
         Err(_) => Err(Fault::CannotWrite),

@@ -1,4 +1,4 @@
-//! What the program tells of a fault.
+//! What the program reports about a fault.
 
 ghost use Rattle.std.specs.Prelude.{◌≡◌};
 ghost use Rattle.std.specs.IoError.{error_kind};
@@ -23,13 +23,13 @@ pub enum Fault {
     CannotWrite,
     /// The settings file can't be read: its path, and why.
     CannotReadFile(String),
-    /// So many bytes at the end of a journal count for nothing.
+    /// This many bytes at the end of a journal count for nothing.
     Damaged(usize),
     /// A file is there that was to be new: its path.
     Exists(String),
     /// A journal is of a later version than this program reads.
     LaterVersion,
-    /// More than 16,384 bytes of the input stand without LF.
+    /// More than 16,384 bytes of the input come without LF.
     LineTooLong,
     /// The input ended before a good answer to each question, or an answer was bad four times.
     NoAnswer,
@@ -37,18 +37,18 @@ pub enum Fault {
     NobodyReads(String),
     /// A file does not begin as a journal does.
     NotAJournal,
-    /// The network that the input tells of is not ready: no 376, 422 or JOIN came after its
+    /// The network that the input describes is not ready: no 376, 422 or JOIN came after its
     /// welcome.
     NotReady,
     /// An allocation was refused.
     OutOfMemory,
     /// The settings file has a fault, or memory for it was refused.
     Settings(ConfigFault),
-    /// The settings file has a fault: the file, and where it stands there.
+    /// The settings file has a fault: the file, and where it is there.
     SettingsAt(ConfigFault, String),
 }
 
-/// Where a fault stands in the settings file with this path and this text, in words that count from 1.
+/// Where a fault is in the settings file with this path and this text, in words that count from 1.
 fn place_text(alloc: Global, path: &str, text: &[u8], fault: &ConfigFault) -> Option<String> {
     let written = match place_of_fault(alloc, text, fault)? {
         FaultPlace::Line(line) => format!(in alloc; "{path}: line {line}"),
@@ -76,7 +76,7 @@ impl Fault {
     }
 
     /// The fault of a settings file with this path and this text; if that can be said, with a second
-    /// line that says where in the file it stands.
+    /// line that says where in the file it is.
     pub fn of_settings(alloc: Global, path: &str, text: &[u8], fault: ConfigFault) -> Fault {
         match place_text(alloc, path, text, &fault) {
             Some(place) => Fault::SettingsAt(fault, place),

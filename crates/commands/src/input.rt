@@ -43,7 +43,7 @@ fn take_all<T: Taker>(taker: &mut T, lines: Vec<Line>) -> Result<(), OutOfMemory
     Ok(())
 }
 
-/// Takes the lines of an input one by one, until memory is refused.
+/// Takes the lines of an input one by one, until an allocation is refused.
 #[derive(Drop)]
 struct OneByOne<'a, T> {
     taker: &'a mut T,

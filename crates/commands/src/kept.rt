@@ -68,7 +68,7 @@ fn kept_folder(alloc: Global, settings: &str, kept: &str) -> Result<String, Allo
     }
 }
 
-/// What stands in the journal at a path, as `messages 120 names 2 damaged 0`, or why it is not read.
+/// What is in the journal at a path, as `messages 120 names 2 damaged 0`, or why it is not read.
 fn found_at<R: AllocGlobal + Files>(rt: &R, path: &str) -> Result<String, Fault> {
     let alloc = rt.alloc();
     let bytes = match fs::read(rt, path) {
@@ -87,7 +87,7 @@ fn found_at<R: AllocGlobal + Files>(rt: &R, path: &str) -> Result<String, Fault>
     }
 }
 
-/// Prints a line for each network, `journal USER/NETWORK` and what stands in its file, if the
+/// Prints a line for each network, `journal USER/NETWORK` and what is in its file, if the
 /// settings have a folder for them. Nothing is locked, and nothing is changed.
 pub fn report_kept<R: AllocGlobal + Files + Print>(
     rt: &R,

@@ -4,6 +4,7 @@
 
 mod arguments;
 mod attach;
+mod caps_list;
 mod check;
 mod control;
 mod fault;
@@ -18,6 +19,7 @@ mod warning;
 mod words;
 
 pub use attach::{Attaching, attach_input, run_attach, run_attach_by};
+pub use caps_list::explain_caps;
 pub use check::{check_file, run_check, settings_text};
 pub use control::send_control;
 pub use fault::Fault;

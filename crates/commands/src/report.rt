@@ -24,7 +24,7 @@ fn push_line(report: &mut Vec<u8>, label: &[u8], text: &[u8]) -> Result<(), OutO
     Ok(())
 }
 
-/// Adds a text after its label, where there is one.
+/// Adds a text after its label, if there is one.
 fn push_labelled(report: &mut Vec<u8>, label: &[u8], text: Option<&[u8]>) -> Result<(), OutOfMemory>
     ensures { OnOk result (report.new.items
         ≡ report.old.items ++ labelled label.now (option_map (λ text. text.now) text.entry)) }
@@ -60,7 +60,7 @@ fn push_params<V: NetworkView>(report: &mut Vec<u8>, view: &V, i: usize) -> Resu
     Ok(())
 }
 
-/// Adds the modes of the channel at place `i`, where it has any.
+/// Adds the modes of the channel at place `i`, if it has any.
 fn push_modes<V: NetworkView>(report: &mut Vec<u8>, view: &V, i: usize) -> Result<(), OutOfMemory>
     ensures { OnOk result (report.new.items
         ≡ report.old.items ++ text_of (mode_lines (modes_at (V.view view.now) i))) }
@@ -75,7 +75,7 @@ fn push_modes<V: NetworkView>(report: &mut Vec<u8>, view: &V, i: usize) -> Resul
     Ok(())
 }
 
-/// Adds a topic, where there is one.
+/// Adds a topic, if there is one.
 fn push_topic(report: &mut Vec<u8>, topic: Option<&[u8]>) -> Result<(), OutOfMemory>
     ensures { OnOk result (report.new.items
         ≡ report.old.items ++ text_of (topic_lines (option_map (λ text. text.now) topic.entry))) }
@@ -163,7 +163,7 @@ fn push_channels<V: NetworkView>(report: &mut Vec<u8>, view: &V) -> Result<(), O
     Ok(())
 }
 
-/// Adds how many lines were skipped, where there were any.
+/// Adds how many lines were skipped, if any were.
 fn push_skipped(alloc: Global, report: &mut Vec<u8>, skipped: u64) -> Result<(), OutOfMemory>
     ensures { OnOk result (report.new.items ≡ report.old.items ++ text_of (skipped_lines skipped)) }
 {
@@ -181,11 +181,11 @@ fn push_skipped(alloc: Global, report: &mut Vec<u8>, skipped: u64) -> Result<(),
 /// member Me skipped 3
 /// ```
 ///
-/// Channels and members stand in the order of their keys, and each line ends with LF. Modes stand
+/// Channels and members come in the order of their keys, and each line ends with LF. Modes come
 /// in the order of their letters' bytes, and after them their parameters in the same order. Before
-/// a nick stand the symbols of all ranks held on the channel, the highest first; after it the
-/// account and the away text of the person. Modes, topic, account and away text stand only where
-/// there are any, and the last line only where something was skipped. Before a welcome the first
+/// a nick come the symbols of all ranks held on the channel, the highest first; after it the
+/// account and the away text of the person. Modes, topic, account and away text come only if
+/// there are any, and the last line only if something was skipped. Before a welcome the first
 /// line is `no welcome`.
 pub fn report_text<V: NetworkView>(
     alloc: Global,

@@ -1,6 +1,7 @@
 //! `bnc setup FILE` and `bnc password`: settings that are made of answers on standard input.
 
 use crate::fault::Fault;
+use crate::warning::warn_of_echo;
 use bnc_config::Config;
 use first_settings::{Interview, Question, Step, password_lines, settings_text};
 use std::fs::{File, OpenOptions};
@@ -100,13 +101,18 @@ HexChat:        the server 127.0.0.1/6667, and the server password {user}@hexcha
 /// Asks for a network's address, a nick, channels and a password, writes the settings file at a path
 /// of them, which only its owner may read, and prints what to type next. A bad answer is asked for
 /// again, three times in succession. If a file is there, if the input ends, or after the fourth bad
-/// answer, nothing is written.
+/// answer, nothing is written. If the answers are typed at a terminal, standard error first warns that
+/// the password can be seen.
 pub fn setup_file<R: AllocGlobal + Files<File = File> + Input + Print + Eprint + RandomSource>(
     rt: &R,
     path: &str,
+    is_typed: bool,
 ) -> Result<(), Fault> {
     if fs::metadata(rt, path).is_ok() {
         return Err(Fault::Exists(String::from_str(rt.alloc(), path)?));
+    }
+    if is_typed {
+        warn_of_echo(rt);
     }
     let interview = answered(rt)?;
     let salt = new_salt(rt)?;

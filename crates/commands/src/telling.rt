@@ -8,7 +8,7 @@ use crate::fault::Fault;
 use crate::words::WordsFault;
 use std::process::ExitCode;
 
-/// Tells a fault of what the program was given, as `bnc: TEXT`. The status is 1.
+/// Reports a fault of what the program was given, as `bnc: TEXT`. The status is 1.
 pub fn tell_fault(rt: &impl Eprint, fault: &Fault) -> ExitCode
     ensures { exit_status result ≡ 1 }
 {
@@ -16,8 +16,8 @@ pub fn tell_fault(rt: &impl Eprint, fault: &Fault) -> ExitCode
     ExitCode::from(1)
 }
 
-/// Tells that the words after the program's name ask for nothing, as `bnc: bad command line`, then
-/// what is wrong with them, where that is known, and the way to help. The status is 2.
+/// Reports that the words after the program's name ask for nothing, as `bnc: bad command line`,
+/// then what is wrong with them, if that is known, and the way to help. The status is 2.
 pub fn tell_bad_words(rt: &impl Eprint, what: Option<&str>) -> ExitCode
     ensures { exit_status result ≡ 2 }
 {

@@ -37,8 +37,8 @@ impl<V: NetworkView> Taker for Viewing<V> {
 
 /// Reads what a network sent to its end, and writes the report of its lines. The view is a new one.
 ///
-/// Except when out of memory, a fault comes if over 16,384 bytes stand without LF, where a read
-/// fails or 1,000,000,000 reads did not reach the end, and where the report is not taken. After a
+/// Except when out of memory, a fault comes if over 16,384 bytes come without LF, if a read
+/// fails or 1,000,000,000 reads did not reach the end, and if the report is not taken. After a
 /// fault other than `CannotWrite` nothing is written. Bytes after the last LF are no line. The
 /// input is not kept: memory grows with what the view keeps alone.
 pub fn report_input<V: NetworkView, R: Read, W: Write>(

@@ -23,6 +23,13 @@ pub fn warn_of_readers<R: Files + Eprint>(rt: &R, path: &str) {
     }
 }
 
+/// Warns on standard error that the terminal shows a password while it is typed.
+pub(crate) fn warn_of_echo(rt: &impl Eprint) {
+    let _ = eprintln!(rt;
+        "bnc: warning: the password can be seen while it is typed; contrib/setup.sh hides it"
+    );
+}
+
 /// Warns on standard error of each user whose salt has fewer than 8 bytes.
 pub fn warn_of_salts(rt: &impl Eprint, config: &Config) {
     for user in config.users() {

@@ -116,7 +116,7 @@ fn space_for_comma(byte: u8) -> u8
     }
 }
 
-/// The capabilities of a list of names with commas between; `None` where a name is of none.
+/// The capabilities of a list of names with commas between; `None` if a name is of none.
 fn caps_in(alloc: Global, list: &str) -> Result<Option<Caps>, AllocError>
     ensures { IfOk result (λ caps. caps ≡ request_of no_caps (spaced list.now)) }
 {
@@ -252,7 +252,7 @@ pub fn read_words<'a>(alloc: Global, words: &'a [&'a str]) -> Result<Command, Wo
     }
 }
 
-/// What stands before the first empty line.
+/// The text before the first empty line.
 fn first_paragraph(text: &str) -> &str {
     match text.split_once("\n\n") {
         Some((first, _)) => first,
@@ -260,7 +260,7 @@ fn first_paragraph(text: &str) -> &str {
     }
 }
 
-/// What is wrong with words of which `clap` tells this error; `None` where they ask for help or the
+/// What is wrong with words for which `clap` gives this error; `None` if they ask for help or the
 /// version.
 fn explained(alloc: Global, error: &clap::Error) -> Result<Option<String>, AllocError>
     ensures text { IfOk result (λ text. IfNone text (IsAsked (kind_of error.now))) }
@@ -278,7 +278,7 @@ fn explained(alloc: Global, error: &clap::Error) -> Result<Option<String>, Alloc
 }
 
 /// What is wrong with words that are not of the command line's grammar: the first paragraph of what
-/// `clap` has to say of them, as `error: unrecognized subcommand 'chek'`. `None` where they ask for
+/// `clap` has to say of them, as `error: unrecognized subcommand 'chek'`. `None` if they ask for
 /// a command, for help or for the version.
 pub fn explain_words<'a>(alloc: Global, words: &'a [&'a str]) -> Result<Option<String>, AllocError>
     ensures { IfOk result (IsExplained (map (λ word. word.now) words.now)) }

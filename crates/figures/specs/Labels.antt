@@ -18,14 +18,14 @@ labels_of user network =
 
 -- ---- how a value is read
 
--- the byte that stands behind a backslash
+-- the byte that comes after a backslash
 abbrev pub unescaped : ℕ → ℕ
 unescaped b = if b == 110 then 10 else b
 
 abbrev pub with_byte : ℕ → Option (List ℕ × List ℕ) → Option (List ℕ × List ℕ)
 with_byte b found = option_map (λ (r : List ℕ × List ℕ). (b ∷ r.0, r.1)) found
 
--- what stands up to the quotation mark that ends a value, and what stands behind that; whether a
+-- the text up to the quotation mark that ends a value, and the text after that; whether a
 -- backslash came just before
 abbrev pub value_behind : Bool → List ℕ → Option (List ℕ × List ℕ)
 value_behind is_behind [] = None

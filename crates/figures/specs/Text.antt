@@ -15,7 +15,7 @@ use Rattle.figures.specs.declared.text.Totals.{Totals}
 unfoldable pub comment_of : List ℕ → List ℕ → List ℕ → List ℕ
 comment_of kind name text = kind ++ (name ++ (32 ∷ (text ++ 10 ∷ [])))
 
--- what stands before the samples of a figure: what it is, and of which type
+-- the text before the samples of a figure: what it is, and of which type
 abbrev pub head_of : List ℕ → List ℕ → List ℕ → List ℕ
 head_of name help kind = comment_of (codes "# HELP ") name help ++ comment_of (codes "# TYPE ") name kind
 

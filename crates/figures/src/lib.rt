@@ -11,8 +11,8 @@ mod text;
 
 pub use text::{NetworkFigures, Totals, figures_text};
 
-/// What a label's value is written as is read back as that value, and the reader goes on right behind
-/// the quotation mark that ends it, whatever bytes the value has.
+/// What a label's value is written as is read back as that value, and the reader goes on right
+/// after the quotation mark that ends it, whatever bytes the value has.
 #[tactic(auto, using(crate::proofs::LabelLemmas::read_back))]
 pub fn a_value_stays_in_its_quotes()
     ensures { (value rest : List ℕ) →

@@ -59,7 +59,7 @@ fn push_comment(out: &mut Vec<u8>, kind: &[u8], name: &[u8], text: &[u8]) -> Res
     Ok(())
 }
 
-/// Adds what stands before the samples of a figure: what it is, and of which type.
+/// Adds the text before the samples of a figure: what it is, and of which type.
 fn push_head(out: &mut Vec<u8>, name: &[u8], help: &[u8], kind: &[u8]) -> Result<(), AllocError>
     ensures { OnOk result (out.new.items ≡ out.old.items ++ head_of name.now help.now kind.now) }
 {

@@ -4,7 +4,7 @@ use Rattle.std.proofs.Common.{nat_le, true, ℕ}
 use Rattle.{first_settings.specs.Questions.is_channel, std.specs.List.list_all}
 use Rattle.irc_support.specs.NamesReply.{words_between}
 
--- the rest are channels, and with so many before them not too many
+-- the rest are channels, and with this many before them not too many
 abbrev pub channels_after : ℕ → List ℕ → Bool
 channels_after count text =
     list_all is_channel (words_between text) && nat_le (count + length (words_between text)) 64

@@ -1,4 +1,4 @@
--- Where `bnc setup` stands, and what an answer does. Our own choice.
+-- The state of `bnc setup`, and what an answer does. Our own choice.
 use Rattle.std.specs.Prelude.{◌≡◌, ◌+◌, ◌≤◌, ◌<◌, ℕ, List, [], Some, None, true, false}
 use Rattle.first_settings.specs.Questions.{after, again, is_good}
 use Rattle.first_settings.specs.declared.question.Question.{Question}

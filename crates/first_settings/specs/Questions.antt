@@ -19,7 +19,7 @@ after Channels = Some Password
 after Password = Some Again
 after Again = None
 
--- what is asked after a bad answer: the password anew if it was not the same twice
+-- what is asked after a bad answer: the password again if it was not the same twice
 abbrev pub again : Question → Question
 again Again = Password
 again question = question
@@ -29,12 +29,12 @@ abbrev pub is_channel : List ℕ → Bool
 is_channel [] = false
 is_channel (b ∷ name) = list_any (λ c. b == c) (codes "#&+!") && is_word (b ∷ name)
 
--- channels, with spaces between them: as many as the settings take
+-- channels, with spaces between them: no more than the settings take
 abbrev pub are_channels : List ℕ → Bool
 are_channels line =
     list_all is_channel (words_between line) && nat_le (length (words_between line)) 64
 
--- a good answer to a question, where this is the password that was given
+-- a good answer to a question, if this is the password that was given
 abbrev pub is_good : Question → List ℕ → List ℕ → Bool
 is_good Address password line = is_address line
 is_good Nick password line = is_nameable line && is_name line

@@ -35,13 +35,13 @@ password_lines salt password =
     line_of (codes "salt") (encode_lower salt)
     ++ line_of (codes "password") (encode_lower (sha256 (salt ++ password)))
 
--- what stands before the user
+-- the text before the user
 abbrev pub top : List ℕ
-top = codes "# Settings of bnc: docs/SETTINGS.md has each key.\nlisten = \"127.0.0.1:6667\"\nhistory = 500\nretry = 30\n\n[[user]]\n"
+top = codes "# Settings of bnc: docs/SETTINGS.md has each key.\nlisten = \"127.0.0.1:6667\"\nhistory = 500\nretry = 30\n# what is kept over a restart, in a folder beside this file\n#kept = \"kept\"\n\n[[user]]\n"
 
 -- the tables of what is kept and how it is played back
 unfoldable pub tables : List ℕ
-tables = codes "\n# not kept: requests by CTCP, notices of servers, what you say to yourself, and what is said to or by services\n[messages]\nctcp = false\nserver_notices = false\nto_self = false\nnever = [\"NickServ\", \"ChanServ\"]\n\n# private messages come person by person, for clients that know batches\n[playback]\nprivate_batches = true\n"
+tables = codes "\n# not kept: requests by CTCP, notices of servers, what you say to yourself, and what is said to or by services\n[messages]\nctcp = false\nserver_notices = false\nto_self = false\nnever = [\"NickServ\", \"ChanServ\"]\n# who talks much pushes out nobody else\nby_person = true\n\n# private messages come person by person to clients that know batches, and with their times in the text to clients\n# that know none; a client that attaches just after a reconnect waits for the channels, at most 10 seconds\n[playback]\nprivate_batches = true\ntimes = \"UTC\"\nwait = 10\n"
 
 -- what a network calls us: the nick in all three
 unfoldable pub name_lines : List ℕ → List ℕ

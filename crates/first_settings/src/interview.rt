@@ -30,7 +30,7 @@ pub enum Step {
     Complete,
 }
 
-/// Where the questions stand.
+/// The state of the questions.
 #[derive(Debug, Drop)]
 pub struct Interview {
     question: Question,

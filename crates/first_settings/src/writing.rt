@@ -106,7 +106,7 @@ fn push_tables(out: &mut Vec<u8>) -> Result<(), AllocError>
     ensures { OnOk result (out.new.items ≡ out.old.items ++ tables) }
 {
     out.extend_from_slice(
-        b"\n# not kept: requests by CTCP, notices of servers, what you say to yourself, and what is said to or by services\n[messages]\nctcp = false\nserver_notices = false\nto_self = false\nnever = [\"NickServ\", \"ChanServ\"]\n\n# private messages come person by person, for clients that know batches\n[playback]\nprivate_batches = true\n",
+        b"\n# not kept: requests by CTCP, notices of servers, what you say to yourself, and what is said to or by services\n[messages]\nctcp = false\nserver_notices = false\nto_self = false\nnever = [\"NickServ\", \"ChanServ\"]\n# who talks much pushes out nobody else\nby_person = true\n\n# private messages come person by person to clients that know batches, and with their times in the text to clients\n# that know none; a client that attaches just after a reconnect waits for the channels, at most 10 seconds\n[playback]\nprivate_batches = true\ntimes = \"UTC\"\nwait = 10\n",
     )?;
     Ok(())
 }
@@ -118,7 +118,7 @@ pub fn settings_text(alloc: Global, answers: &Answers, salt: &[u8]) -> Result<Ve
 {
     let mut out = Vec::new(alloc);
     out.extend_from_slice(
-        b"# Settings of bnc: docs/SETTINGS.md has each key.\nlisten = \"127.0.0.1:6667\"\nhistory = 500\nretry = 30\n\n[[user]]\n",
+        b"# Settings of bnc: docs/SETTINGS.md has each key.\nlisten = \"127.0.0.1:6667\"\nhistory = 500\nretry = 30\n# what is kept over a restart, in a folder beside this file\n#kept = \"kept\"\n\n[[user]]\n",
     )?;
     push_line(&mut out, b"name", answers.nick())?;
     push_password(alloc, &mut out, salt, answers.password())?;

@@ -18,7 +18,7 @@ front_is p rest (q ∷ qs) r fits s =
     let both = some_pair (p, rest) (q, flat_map frame qs ++ r) same in
     (qs, ap (λ (x : List ℕ). x ∷ qs) (sym both.0), record { parts = both.1; fits = s.fits.1; end = s.end })
 
--- so it is where the frame stands in front of any bytes
+-- so it is if the frame comes in front of any bytes
 pub front_frame : (p rest : List ℕ) (qs : List (List ℕ)) (r : List ℕ) → length p < 2 ^ 32
     → Splits (frame p ++ rest) qs r → (more : List (List ℕ)) × (qs ≡ p ∷ more) × Splits rest more r
 front_frame = front_is

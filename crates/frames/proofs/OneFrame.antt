@@ -84,7 +84,7 @@ not_false : (b : Bool) → not b ≡ false → b ≡ true
 not_false true e = refl
 not_false false e = absurd cc
 
--- the texts of a head and what stands behind it
+-- the texts of a head and what comes after it
 joined : (head_now body p rest : List ℕ) → to_be_bytes w32 (length p) ≡ take 4 head_now → drop 4 head_now ≡ sha256 p → body ≡ p ++ rest → head_now ++ body ≡ frame p ++ rest
 joined head_now body p rest number digest parts =
     let halves : head_now ≡ head p = sym (take-append-drop 4 head_now) ∙ ap (λ (t : List ℕ). t ++ drop 4 head_now) (sym number) ∙ ap (λ (t : List ℕ). to_be_bytes w32 (length p) ++ t) digest in

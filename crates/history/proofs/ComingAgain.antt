@@ -1,16 +1,12 @@
 -- The messages that are kept would all be kept if they came again.
 use Rattle.history.proofs.Words
-use Words.{◌++◌, ◌+◌, ◌<◌, ◌∷◌, ◌≡◌, ◌≤◌, AllByRecursion, EntryParts, List, Option, []}
-use Words.{after_one_more}
-use Words.{ap, append-nil, arith, bytes_eq, filter, filter-append, is_to, keys_of, length}
-use Words.{length-append, length-filter_both, length-map, nat_cmp, nat_lt, nat_tests, not, refl}
-use Words.{reverse, rings_of, sym, target_key, targets, true, ℕ, ◌∙◌}
-use Rattle.history.proofs.Keys.{once, same_key, without}
-use Rattle.history.proofs.OneMore.{Rises, all_stay, trimmed}
-use Rattle.history.proofs.Retained.{turned_last}
-use Rattle.history.proofs.Rings.{few_each, rises_from}
-use Rattle.history.specs.Messages.{AllStay, CanComeAgain, IsTied, RiseFrom, target_limit}
-use Rattle.history.specs.Rings.{Rings}
+use Words.{◌++◌, ◌+◌, ◌<◌, ◌∷◌, ◌≡◌, ◌≤◌, AllByRecursion, Bool, EntryParts, List, Option, [], ap}
+use Words.{arith, false, filter-append, keys_of, length, length-map, nat_cmp, nat_lt, rings_of, sym}
+use Words.{target_key, true, ℕ}
+use Rattle.history.proofs.Apart.{AreEach, AreFew, each_before, few_before, staying}
+use Rattle.history.proofs.{OneMore.Rises, Rings.{few_each, rises_from}}
+use Rattle.history.specs.Messages.{AllStay, CanComeAgain, IsTied, RiseFrom, is_with_person, kept_with}
+use Rattle.history.specs.{Messages.rings_with, Retained.of_kind, Rings.Rings}
 use Rattle.std.proofs.Common.{append_assoc, lt-ltb, subst}
 use Rattle.std.specs.List.Sorted.{IsStrictlySortedBy}
 
@@ -33,81 +29,77 @@ from_none : (ms : Kept) → AllByRecursion (λ m. 0 ≤ m.0) ms
 from_none [] = tt
 from_none (m ∷ ms) = (omega arith, from_none ms)
 
--- ---- targets
-
-one_target_more : (l : Kept) (m : ℕ × EntryParts) → length (targets target_key (reverse l))
-    ≤ length (targets target_key (reverse (l ++ m ∷ [])))
-one_target_more l m =
-    let y = target_key m in
-    let ts = targets target_key (reverse l) in
-    let both = length-filter_both (bytes_eq y) (λ x. not (bytes_eq y x)) (λ _. refl) ts in
-    let one = once target_key y (reverse l) in
-    rw (turned_last m l) (omega (arith, both, one))
-
-few_before : (most : ℕ) (l ms : Kept)
-    → length (targets target_key (reverse (l ++ ms))) ≤ most
-    → length (targets target_key (reverse l)) ≤ most
-few_before most l [] few = rw (append-nil l) at few
-few_before most l (m ∷ ms) few =
-    let grouped : length (targets target_key (reverse ((l ++ m ∷ []) ++ ms))) ≤ most =
-    rw (append_assoc l (m ∷ []) ms) few in
-    let later = few_before most (l ++ m ∷ []) ms grouped in
-    let step = one_target_more l m in
-    omega (arith, later, step)
-
-each_before : (n : ℕ) (l ms : Kept)
-    → ((k : List ℕ) → length (filter (is_to target_key k) (l ++ ms)) ≤ n) → (k : List ℕ)
-    → length (filter (is_to target_key k) l) ≤ n
-each_before n l ms each k =
-    grind (arith, each k, filter-append (is_to target_key k) l ms, length-append)
-
 -- ---- one message, and all
 
-one_stays : (n : ℕ) (l : Kept) (m : ℕ × EntryParts) → nat_lt 0 n ≡ true
-    → length (targets target_key (reverse (l ++ m ∷ []))) ≤ 128
-    → ((k : List ℕ) → length (filter (is_to target_key k) (l ++ m ∷ [])) ≤ n)
-    → after_one_more target_key target_limit n (l ++ m ∷ []) ≡ l ++ m ∷ []
-one_stays n l m some few each =
-    let y = target_key m in
-    let others : length (without y (targets target_key (reverse l))) < 128 =
-    let turned = rw (turned_last m l) at few in omega (arith, turned) in
-    let count : length (filter (is_to target_key y) (l ++ m ∷ []))
-    ≡ length (filter (is_to target_key y) l) + 1 =
-    grind (arith, filter-append (is_to target_key y) l (m ∷ []), length-append, same_key y) in
-    let room : nat_lt (length (filter (is_to target_key y) l)) n ≡ true =
-    grind (arith, nat_tests, each y, count) in
-    let whole : trimmed target_key n y l ≡ l = rw room refl in
-    all_stay target_key 128 n m some refl l others (each_before n l (m ∷ []) each)
-    ∙ rw whole refl
+all_front : (P : ℕ × EntryParts → Type 0) (l ms : Kept) → AllByRecursion P (l ++ ms)
+    → AllByRecursion P l
+all_front P [] ms all = tt
+all_front P (m ∷ l) ms all = (all.0, all_front P l ms all.1)
 
-stay_on : (n : ℕ) (l ms : Kept) → nat_lt 0 n ≡ true
-    → length (targets target_key (reverse (l ++ ms))) ≤ 128
-    → ((k : List ℕ) → length (filter (is_to target_key k) (l ++ ms)) ≤ n) → AllStay n l ms
-stay_on n l [] some few each = tt
-stay_on n l (m ∷ ms) some few each =
-    let grouped : (l ++ m ∷ []) ++ ms ≡ l ++ (m ∷ ms) = append_assoc l (m ∷ []) ms in
-    let few_now = subst (λ (k : Kept). length (targets target_key (reverse k)) ≤ 128)
-    (sym grouped) few in
-    let each_now = subst (λ (k : Kept). (j : List ℕ) → length (filter (is_to target_key j) k) ≤ n)
-    (sym grouped) each in (
-      one_stays n l m some (few_before 128 (l ++ m ∷ []) ms few_now)
-          (each_before n (l ++ m ∷ []) ms each_now),
-      stay_on n (l ++ m ∷ []) ms some few_now each_now,
+rises_front : (l ms : Kept) → Rises (l ++ ms) → Rises l
+rises_front [] ms r = tt
+rises_front (m ∷ l) ms r = (all_front (λ b. m.0 < b.0) l ms r.0, rises_front l ms r.1)
+
+few_front : (b : Bool) (l ms : Kept) → AreFew (kept_with b (l ++ ms)) → AreFew (kept_with b l)
+few_front b l ms few =
+    few_before (kept_with b l) (kept_with b ms)
+    (rw (← filter-append (of_kind is_with_person b) l ms) few)
+
+each_front : (n : ℕ) (b : Bool) (l ms : Kept) → AreEach n (kept_with b (l ++ ms))
+    → AreEach n (kept_with b l)
+each_front n b l ms each =
+    each_before n (kept_with b l) (kept_with b ms)
+    (rw (← filter-append (of_kind is_with_person b) l ms) each)
+
+stay_on : (n : ℕ) (l ms : Kept) → nat_lt 0 n ≡ true → Rises (l ++ ms)
+    → ((b : Bool) → AreFew (kept_with b (l ++ ms)))
+    → ((b : Bool) → AreEach n (kept_with b (l ++ ms))) → AllStay n l ms
+stay_on n l [] some rise few each = tt
+stay_on n l (m ∷ ms) some rise few each =
+    let now = l ++ m ∷ [] in
+    let grouped : now ++ ms ≡ l ++ (m ∷ ms) = append_assoc l (m ∷ []) ms in
+    let rise_now = subst Rises (sym grouped) rise in
+    let few_now = subst (λ (k : Kept). (b : Bool) → AreFew (kept_with b k)) (sym grouped) few in
+    let each_now = subst (λ (k : Kept). (b : Bool) → AreEach n (kept_with b k)) (sym grouped) each in (
+      staying n now some (rises_front now ms rise_now) (λ b. few_front b now ms (few_now b))
+          (λ b. each_front n b now ms (each_now b)),
+      stay_on n now ms some rise_now few_now each_now,
     )
 
-pub can_again : (capacity : ℕ) (kept : Kept) (next : Option ℕ) (t : Rings)
-    → IsTied capacity kept next t → IsStrictlySortedBy nat_cmp (keys_of kept)
+-- the rings of one kind
+module _ (b : Bool) (capacity : ℕ) (kept : Kept) (t : Rings) (is : t ≡ rings_with b capacity kept)
+  where
+    rings_are : t.rings ≡ rings_of target_key (kept_with b kept)
+    rings_are = ap (λ (r : Rings). r.rings) is
+
+    few_are : length t.rings ≤ 128 → AreFew (kept_with b kept)
+    few_are few = grind (arith, few, rings_are, length-map)
+
+    each_are : AllByRecursion (λ (r : List ℕ × List ℕ). length r.1 ≤ t.capacity) t.rings
+        → AreEach capacity (kept_with b kept)
+    each_are each =
+        let size : t.capacity ≡ capacity = ap (λ (r : Rings). r.capacity) is in
+        few_each target_key capacity (kept_with b kept) (rw (← rings_are, ← size) each)
+
+both : (P : Bool → Type 0) → P false → P true → (b : Bool) → P b
+both P one other false = one
+both P one other true = other
+
+pub can_again : (capacity : ℕ) (kept : Kept) (next : Option ℕ) (t persons : Rings)
+    → IsTied capacity kept next t persons → IsStrictlySortedBy nat_cmp (keys_of kept)
     → length t.rings ≤ 128
     → AllByRecursion (λ (r : List ℕ × List ℕ). length r.1 ≤ t.capacity) t.rings
+    → length persons.rings ≤ 128
+    → AllByRecursion (λ (r : List ℕ × List ℕ). length r.1 ≤ persons.capacity) persons.rings
     → CanComeAgain (record { capacity = capacity; kept = kept; next = next })
-can_again capacity kept next t tied sorted few each =
-    let rings : t.rings ≡ rings_of target_key kept = ap (λ (r : Rings). r.rings) tied.same in
-    let size : t.capacity ≡ capacity = ap (λ (r : Rings). r.capacity) tied.same in
-    let long : length (targets target_key (reverse kept)) ≤ 128 =
-    grind (arith, few, rings, length-map) in
-    let each_now = few_each target_key t.capacity kept (rw (← rings) each) in
+can_again capacity kept next t persons tied sorted few each few_persons each_persons =
+    let rise = rises_from kept sorted in
     record {
-      rise = rise_on 0 kept (from_none kept) (rises_from kept sorted);
+      rise = rise_on 0 kept (from_none kept) rise;
       below = tied.below;
-      stay = stay_on capacity [] kept (lt-ltb 0 capacity tied.some) long (rw (← size) each_now);
+      stay = stay_on capacity [] kept (lt-ltb 0 capacity tied.some) rise
+          (both (λ b. AreFew (kept_with b kept)) (few_are false capacity kept t tied.others few)
+          (few_are true capacity kept persons tied.persons few_persons))
+          (both (λ b. AreEach capacity (kept_with b kept)) (each_are false capacity kept t tied.others each)
+          (each_are true capacity kept persons tied.persons each_persons));
     }

@@ -6,7 +6,7 @@ use Rattle.std.proofs.Common.{◌∷◌, ◌≡◌, List, [], codes, refl, ℕ}
 abbrev Said : Type 0
 Said = String × String
 
--- so many targets, and so many messages of each
+-- this many targets, and this many messages of each
 abbrev kept : ℕ → ℕ → List Said → List Said
 kept most n ms = retained (λ (m : Said). codes m.0) most n ms
 

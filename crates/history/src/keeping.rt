@@ -1,21 +1,24 @@
 //! Which messages are kept.
 
-ghost use Rattle.std.specs.Prelude.{ℕ, ◌≡◌, List, [], is_some, option_map};
+ghost use Rattle.std.specs.Prelude.{ℕ, ◌≡◌, ◌&&◌, List, None, Some, [], is_some, option_map};
+ghost use Rattle.std.specs.Prelude.{if◌then◌else◌};
+ghost use Rattle.std.specs.Option.{option_and_then};
 ghost use Rattle.std.specs.List.{list_any};
 ghost use Rattle.irc_line.specs.Line.{nick_of};
 ghost use Rattle.irc_names.specs.declared.case_mapping.CaseMapping.TheVariants.{Ascii};
-ghost use Rattle.history.specs.Entry.{entry_parts};
+ghost use Rattle.history.specs.Entry.{entry_parts, message_of};
 ghost use Rattle.history.specs.Keeping.{before_at, ends_word, heard_message, is_action, is_among};
 ghost use Rattle.history.specs.Keeping.{is_ctcp, is_kept_heard, is_kept_line, is_kept_said, kept_by};
 ghost use Rattle.history.specs.Keeping.{is_left_out, is_one_name, is_one_of, is_server_notice};
-ghost use Rattle.history.specs.Keeping.{is_to_one_of, whole};
+ghost use Rattle.history.specs.Keeping.{is_person, is_to_one_of, ring_heard, said_ring, whole};
 
 use crate::entry::is_message;
 use irc_line::{Line, place_of, split_byte};
 use irc_names::CaseMapping;
 use std::alloc::{Allocator, Global};
 
-/// Which messages of a network are kept: all, except those that these four choices leave out.
+/// Which messages of a network are kept: all, except those that four of these choices leave out; and
+/// in whose rings.
 #[derive(Drop)]
 pub struct Keeping {
     /// Whether CTCP messages are kept, which are texts that begin with byte 1. ACTION always is.
@@ -24,6 +27,8 @@ pub struct Keeping {
     pub server_notices: bool,
     /// Whether it is kept what a client says to our own nick. The network sends it back to us.
     pub to_self: bool,
+    /// Whether what a person says to us, or we to a person, is kept in a ring of that person.
+    pub by_person: bool,
     /// The names to which and from which nothing is kept, compared by the `ascii` mapping.
     pub never: Vec<Vec<u8>>,
 }
@@ -87,6 +92,16 @@ fn is_server_notice(source: &[u8], command: &[u8]) -> bool
     command.eq_ignore_ascii_case(b"NOTICE") && place_of(b'!', source).is_none()
 }
 
+/// Whether a target is a person: no channel, mask or list.
+fn is_person(target: &[u8]) -> bool
+    ensures { result ≡ is_person target.now }
+{
+    match target.first() {
+        Some(b'#' | b'&' | b'+' | b'!' | b'$' | b'@' | b'%' | b'~' | b'*') | None => false,
+        Some(_) => place_of(b',', target).is_none(),
+    }
+}
+
 /// Whether one of these names is among those of a list of targets.
 fn is_to_some(names: &Vec<Vec<u8>>, target: &[u8]) -> bool
     ensures { result ≡ list_any (λ name. is_among target.now name.items) names.now.items }
@@ -112,6 +127,7 @@ impl Keeping {
             ctcp: true,
             server_notices: true,
             to_self: true,
+            by_person: false,
             never: Vec::new(alloc),
         }
     }
@@ -216,6 +232,54 @@ impl Keeping {
         match (params.next(), params.next()) {
             (Some(target), Some(text)) => self.keeps_said(own, mapping, target, text),
             _ => false,
+        }
+    }
+
+    /// This name, if each person has a ring and the target is one.
+    fn ring_of<'l>(&self, name: &'l [u8], target: &[u8]) -> Option<&'l [u8]>
+        ensures { option_map (λ name. name.now) result
+            ≡ (if (kept_by self.now).by_person && is_person target.now then Some name.now else None) }
+    {
+        if self.by_person && is_person(target) {
+            Some(name)
+        } else {
+            None
+        }
+    }
+
+    /// The name of the person in whose ring a line of the network is kept, if it is a message;
+    /// `None` if that is the ring of its target. It takes no memory.
+    pub fn ring_heard<'l, A: Allocator>(&self, line: &'l Line<A>) -> Option<&'l [u8]>
+        ensures { (time : List ℕ) → option_map (λ name. name.now) result ≡ option_and_then
+            (ring_heard (kept_by self.now)) (message_of time line.now.source line.now) }
+    {
+        if !is_message(line) {
+            return None;
+        }
+        let mut params = line.params();
+        match (
+            line.source(),
+            line.source_nick(),
+            params.next(),
+            params.next(),
+        ) {
+            (Some(_), Some(nick), Some(target), Some(_)) => self.ring_of(nick, target),
+            _ => None,
+        }
+    }
+
+    /// The name of the person in whose ring a line is kept, if it is a message and a client says it;
+    /// `None` if that is the ring of its target. It takes no memory.
+    pub fn ring_said<'l, A: Allocator>(&self, line: &'l Line<A>) -> Option<&'l [u8]>
+        ensures { option_map (λ name. name.now) result ≡ said_ring (kept_by self.now) line.now }
+    {
+        if !is_message(line) {
+            return None;
+        }
+        let mut params = line.params();
+        match (params.next(), params.next()) {
+            (Some(target), Some(_)) => self.ring_of(target, target),
+            _ => None,
         }
     }
 }

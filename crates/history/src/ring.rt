@@ -2,16 +2,16 @@
 
 ghost use Rattle.std.specs.Prelude.{ℕ, ◌≡◌, ◌↔◌, ◌<◌, ◌≤◌, ◌&&◌, IfOk, IsErrOf, IsTrue, None, OnErr, Some};
 ghost use Rattle.std.specs.Prelude.{◌++◌, ◌∷◌, [], OnOk, filter, length, map, nat_eq, option_map};
-ghost use Rattle.std.specs.Prelude.{slice_get, false};
+ghost use Rattle.std.specs.Prelude.{not, slice_get, false, true};
 ghost use Rattle.std.specs.List.{AllByRecursion};
 ghost use Rattle.std.specs.NonZero.{non_zero_usize_get};
 ghost use Rattle.std.specs.Option.{option_map_or, unwrap_or};
 ghost use Rattle.circular_buffer.specs.Buffer.{last_item};
 ghost use Rattle.history.specs.Entry.{IsWrittenEntry, entry_parts};
 ghost use Rattle.history.specs.Messages.{AreWrittenMessages, CanComeAgain, is_capacity, is_missed, missed_by, no_messages};
-ghost use Rattle.history.specs.Messages.{number_after, target_key, targets_held, with_message};
-ghost use Rattle.history.specs.Retained.{after_one_more};
-ghost use Rattle.history.specs.Rings.{all_taken, rings_of, taken};
+ghost use Rattle.history.specs.Messages.{is_with_person, number_after, persons_held, rings_with};
+ghost use Rattle.history.specs.Messages.{staying_of, target_key, targets_held, with_message};
+ghost use Rattle.history.specs.Rings.{all_taken, taken};
 
 use crate::OutOfMemory;
 use crate::entry::Entry;
@@ -70,18 +70,19 @@ impl From<OutOfMemory> for PushError {
     }
 }
 
-/// The last messages to each target of a network, of the 128 targets that were written last. Two
-/// targets are the same where their keys under the `ascii` mapping are equal. Numbers rise by one
-/// from message to message; a number is given once.
+/// The last messages of each ring of a network: of the 128 persons that were written last, and of the
+/// 128 other targets. Two of them are the same if their keys under the `ascii` mapping are equal.
+/// Numbers rise by one from message to message; a number is given once.
 ///
-/// Messages are kept by their numbers, and each target has a ring of the numbers of its own.
+/// Messages are kept by their numbers, and each person or target has a ring of the numbers of its own.
 #[derive(Drop)]
 pub struct History<A: Allocator = Global> {
     kept: BTreeMap<u64, Entry<A>, A>,
     targets: Targets<A>,
-    // how many messages to one target there may be
+    persons: Targets<A>,
+    // how many messages of one ring there may be
     capacity: usize,
-    // the number of the next message; `None` where the last number was given
+    // the number of the next message; `None` if the last number was given
     next: Option<u64>,
     alloc: A,
 }
@@ -97,7 +98,7 @@ impl<A: Allocator> Model for History<A> {
       next = h.next;
     } };
 
-    ghost invariant = { λ h. IsTied h.capacity h.kept.entries h.next h.targets };
+    ghost invariant = { λ h. IsTied h.capacity h.kept.entries h.next h.targets h.persons };
 }
 
 /// The number after this one; `None` after the last one.
@@ -142,28 +143,33 @@ fn forget<A: Allocator + Drop>(
     }
 }
 
-/// Keeps one message more, to the target of this key, and takes out what goes for it. After an
-/// error all is as it was.
+/// Keeps one message more in the ring of this key, beside the rings of the other kind, and takes out
+/// what goes for it. After an error all is as it was.
 fn keep<A: Allocator + Copy + Drop>(
     kept: &mut BTreeMap<u64, Entry<A>, A>,
     targets: &mut Targets<A>,
+    others: &Targets<A>,
     key: Vec<u8, A>,
     number: u64,
     entry: Entry<A>,
 ) -> Result<(), OutOfMemory>
     requires below { AllByRecursion (λ m. m.0 < number) kept.old.entries }
-    requires tied { targets.old.rings ≡ rings_of target_key kept.old.entries }
+    requires tied { targets.old ≡ rings_with (is_with_person (number, entry))
+        targets.old.capacity kept.old.entries }
+    requires others { others.now ≡ rings_with (not (is_with_person (number, entry)))
+        targets.old.capacity kept.old.entries }
     requires key { key.items ≡ target_key (number, entry) }
-    ensures ok { OnOk result (kept.new.entries ≡ after_one_more target_key 128
-        targets.old.capacity (kept.old.entries ++ (number, entry) ∷ [])) }
-    ensures tied { OnOk result (targets.new ≡ record {
-      capacity = targets.old.capacity;
-      rings = rings_of target_key kept.new.entries;
-    }) }
+    ensures ok { OnOk result (kept.new.entries
+        ≡ staying_of targets.old.capacity (kept.old.entries ++ (number, entry) ∷ [])) }
+    ensures tied { OnOk result (targets.new ≡ rings_with (is_with_person (number, entry))
+        targets.old.capacity kept.new.entries) }
+    ensures others { OnOk result (others.now ≡ rings_with (not (is_with_person (number, entry)))
+        targets.old.capacity kept.new.entries) }
     ensures err { OnErr result (kept.new.entries ≡ kept.old.entries) }
     ensures same { OnErr result (targets.new ≡ targets.old) }
 {
     let _count = targets.count();
+    let _others = others.count();
     kept.insert(number, entry)?;
     match targets.note(key, number) {
         Ok((oldest, forgotten)) => {
@@ -174,6 +180,41 @@ fn keep<A: Allocator + Copy + Drop>(
         Err(e) => {
             let _message = kept.remove(&number);
             Err(e)
+        }
+    }
+}
+
+/// Keeps one message more in its ring, and takes out what goes for it. After an error all is as it
+/// was.
+fn keep_in_ring<A: Allocator + Copy + Drop>(
+    alloc: A,
+    kept: &mut BTreeMap<u64, Entry<A>, A>,
+    targets: &mut Targets<A>,
+    persons: &mut Targets<A>,
+    number: u64,
+    entry: Entry<A>,
+) -> Result<(), OutOfMemory>
+    requires below { AllByRecursion (λ m. m.0 < number) kept.old.entries }
+    requires targets { targets.old ≡ rings_with false targets.old.capacity kept.old.entries }
+    requires persons { persons.old ≡ rings_with true targets.old.capacity kept.old.entries }
+    ensures ok { OnOk result (kept.new.entries
+        ≡ staying_of targets.old.capacity (kept.old.entries ++ (number, entry) ∷ [])) }
+    ensures targets { OnOk result (targets.new
+        ≡ rings_with false targets.old.capacity kept.new.entries) }
+    ensures persons { OnOk result (persons.new
+        ≡ rings_with true targets.old.capacity kept.new.entries) }
+    ensures err { OnErr result (kept.new.entries ≡ kept.old.entries) }
+    ensures same_targets { OnErr result (targets.new ≡ targets.old) }
+    ensures same_persons { OnErr result (persons.new ≡ persons.old) }
+{
+    match entry.ring() {
+        Some(name) => {
+            let key = CaseMapping::Ascii.key(alloc, name)?;
+            keep(kept, persons, targets, key, number, entry)
+        }
+        None => {
+            let key = CaseMapping::Ascii.key(alloc, entry.target())?;
+            keep(kept, targets, persons, key, number, entry)
         }
     }
 }
@@ -200,20 +241,22 @@ impl<A: Allocator + Copy + Drop> History<A> {
     {
         let capacity = capacity.get();
         let targets = Targets::new(alloc, capacity)?;
+        let persons = Targets::new(alloc, capacity)?;
         Ok(History {
             kept: BTreeMap::new(alloc),
             targets,
+            persons,
             capacity,
             next: Some(first),
             alloc,
         })
     }
 
-    /// Keeps a message that was made before, and answers its number. Where its target has as many
-    /// messages as it may, the oldest of them goes; where it is a new target and there are 128, the
-    /// one that was written least recently goes with all its messages. `Spent` comes exactly where
-    /// there is no number left, and before memory is asked for. After an error the history is
-    /// unchanged.
+    /// Keeps a message that was made before, and answers its number. If its ring is full,
+    /// its oldest message goes; if its ring is new and there are 128 of its kind, which are
+    /// persons' and those of other targets, the one that was written least recently goes with all its
+    /// messages. `Spent` comes exactly if there is no number left, and before memory is asked for.
+    /// After an error the history is unchanged.
     pub fn add(&mut self, entry: Entry<A>) -> Result<u64, PushError>
         ensures ok { IfOk result (λ number. (self.old.next ≡ Some number)
             × (self.new ≡ with_message number entry self.old)) }
@@ -225,8 +268,8 @@ impl<A: Allocator + Copy + Drop> History<A> {
         let Some(number) = self.next else {
             return Err(PushError::Spent);
         };
-        let key = CaseMapping::Ascii.key(self.alloc, entry.target())?;
-        keep(&mut self.kept, &mut self.targets, key, number, entry)?;
+        let (kept, targets, persons) = (&mut self.kept, &mut self.targets, &mut self.persons);
+        keep_in_ring(self.alloc, kept, targets, persons, number, entry)?;
         self.next = number_after(number);
         Ok(number)
     }
@@ -257,7 +300,7 @@ impl<A: Allocator + Copy + Drop> History<A> {
 }
 
 impl<A: Allocator> History<A> {
-    /// Has the next message get this number, where that is no lower than its own: for messages that
+    /// Has the next message get this number, if that is no lower than its own: for messages that
     /// were numbered before.
     pub fn skip_to(&mut self, number: u64)
         requires { (next : ℕ) × (self.old.next ≡ Some next) × (next ≤ number) }
@@ -266,7 +309,7 @@ impl<A: Allocator> History<A> {
         self.next = Some(number);
     }
 
-    /// The number of the next message; `None` where the last number was given.
+    /// The number of the next message; `None` if the last number was given.
     pub fn next_number(&self) -> Option<u64>
         ensures { result ≡ self.now.next }
     {
@@ -287,12 +330,20 @@ impl<A: Allocator> History<A> {
         self.kept.is_empty()
     }
 
-    /// Of how many targets messages are kept; at most 128.
+    /// Of how many targets messages are kept, persons that have a ring aside; at most 128.
     pub fn target_count(&self) -> usize
         ensures count { result ≡ targets_held self.now }
         ensures few { targets_held self.now ≤ 128 }
     {
         self.targets.count()
+    }
+
+    /// Of how many persons messages are kept in rings of theirs; at most 128.
+    pub fn person_count(&self) -> usize
+        ensures count { result ≡ persons_held self.now }
+        ensures few { persons_held self.now ≤ 128 }
+    {
+        self.persons.count()
     }
 
     /// The message at place `i`, counted from 0, the oldest first; `None` from `len` on.
@@ -312,9 +363,9 @@ impl<A: Allocator> History<A> {
         Some(*number)
     }
 
-    /// The messages numbered above the mark, or all where there is none, oldest first: those that a
+    /// The messages numbered above the mark, or all if there is none, oldest first: those that a
     /// client missed that has seen all up to the mark. The first of them is looked up, and only
-    /// they are gone over. One growing allocation.
+    /// these are visited. One growing allocation.
     pub fn missed<B: Allocator>(
         &self,
         alloc: B,
@@ -336,11 +387,12 @@ impl<A: Allocator> History<A> {
         Ok(missed)
     }
 
-    /// Tells its caller what holds of the messages of every history. It does nothing.
+    /// Says what holds of the messages of every history. It does nothing.
     pub fn can_come_again(&self)
         ensures { CanComeAgain self.now }
     {
         let _count = self.targets.count();
+        let _persons = self.persons.count();
         let _order = self.kept.iter();
     }
 
@@ -358,7 +410,7 @@ impl<A: Allocator> History<A> {
     }
 
     /// The messages numbered above the mark, or all if there is none, each with its number, oldest
-    /// first. The first of them is looked up, and only they are gone over. One growing allocation.
+    /// first. The first of them is looked up, and only these are visited. One growing allocation.
     pub fn numbered_above<B: Allocator>(
         &self,
         alloc: B,
@@ -378,7 +430,7 @@ impl<A: Allocator> History<A> {
         Ok(above)
     }
 
-    /// The number of the last message; `None` where none was taken yet.
+    /// The number of the last message; `None` if none was taken yet.
     pub fn last_number(&self) -> Option<u64>
         ensures { result ≡ option_map (λ m. m.0) (last_item self.now.kept) }
     {

@@ -13,7 +13,7 @@ module _ {S : Type 0} (P : S → Type 0) where
       → AllByRecursion P (ss ++ ts)
   each_without ss s ts h = grind (arith, each_append P, each_front P, each_back P)
 
-  -- another stands in its place
+  -- another is in its place
   pub each_with : (ss : List S) (s t : S) (ts : List S) → P t → AllByRecursion P (ss ++ s ∷ ts)
       → AllByRecursion P (ss ++ t ∷ ts)
   each_with ss s t ts here h = grind (arith, each_append P, each_front P, each_back P)

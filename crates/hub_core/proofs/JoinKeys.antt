@@ -10,7 +10,7 @@ use Rattle.net_view.specs.Told.{Told}
 use Rattle.net_view.specs.StateLines.{told}
 use Rattle.net_view.specs.View.{View}
 
--- what stands at a place of the list does not depend on what is given for the others
+-- what is at a place of the list does not depend on what is given for the others
 get_or-any : {X : Type 0} (xs : List X) (i : ℕ) (a b : X) → i < length xs →
     get_or xs i a ≡ get_or xs i b
 get_or-any xs i a b h = get_or_default xs i a _ h

@@ -1,15 +1,18 @@
 -- What is kept are messages, and each message has its number.
 use Rattle.hub_core.proofs.Words
-use Words.{◌++◌, ◌+◌, ◌<◌, ◌∷◌, ◌≡◌, AllByRecursion, Arrival, Bool, Came, EntryParts, IfSome}
+use Words.{◌++◌, ◌+◌, ◌<◌, ◌∙◌, ◌∷◌, ◌≡◌, AllByRecursion, Arrival, Bool, Came, EntryParts, IfSome, ap}
 use Words.{IsSome, List, Messages, None, Option, OutletState, Parts, Some, Text, [], append-nil}
 use Words.{Kept, arith, content_said, entry_for, entry_kept, false, filter_map, is_message, map, map-append}
 use Words.{is_message_command, length, length-append, nat_tests, option_map, option_map_or}
-use Words.{View, is_spread_by, option_to_list, refl, true, with_entry, ℕ}
-use Rattle.history.{proofs.LastMessages.all_kept, specs.Entry.{IsWrittenEntry, message_of}}
+use Words.{View, is_spread_by, option_and_then, option_to_list, refl, subst, true, with_entry, ℕ}
+use Rattle.history.{proofs.LastMessages.all_kept, specs.Entry.{IsWrittenEntry, entry_parts, in_ring, message_of}}
 use Rattle.history.specs.Messages.{AreKeptBefore, is_missed, missed_of, no_messages, with_message}
 use Rattle.hub_core.specs.{Pumping.{Puts, pong_for}, Running.{AreMessages, AreNumbered, content}}
-use Rattle.hub_core.specs.Running.{IsChosen, chosen_of, heard_among, is_content_kept, kept_on, said_among}
-use Rattle.history.specs.{Entry.target_and_text, Keeping.is_kept_said}
+use Rattle.hub_core.specs.Running.{IsChosen, IsInRingSaid, chosen_of, heard_among, is_content_kept}
+use Rattle.hub_core.specs.Running.{kept_on, said_among}
+use Rattle.history.specs.{Entry.target_and_text, Keeping.{if_kept, in_ring_heard, is_kept_heard, is_kept_said}}
+use Rattle.history.specs.Keeping.{ring_heard, ring_said, said_ring}
+use Rattle.hub_core.specs.Saying.{entry_said, in_ring_said}
 use Rattle.irc_names.specs.declared.case_mapping.CaseMapping.{CaseMapping}
 unfoldable use Rattle.irc_support.specs.Settings.{mapping_of}
 use Rattle.std.proofs.{Common.{if◌then◌else◌, is_some}, SliceLists.all_by_recursion_push}
@@ -26,10 +29,28 @@ pub kept_is_message : (k : Kept) (x : Came)
     → IfSome (entry_kept k x) (λ e. IsTrue (is_message_command e.command))
 kept_is_message k x = grind arith
 
--- what is kept, if it is, is the message
-pub kept_if : (k : Kept) (x : Came) (is_kept : Bool) → is_kept ≡ is_some (entry_kept k x)
-    → (if is_kept then entry_for x else None) ≡ entry_kept k x
-kept_if k x is_kept e = grind (arith, e)
+pub said_is_message : (k : Kept) (x : Option Came)
+    → IfSome (entry_said k x) (λ e. IsTrue (is_message_command e.command))
+said_is_message k x = grind (arith, entry_is_message)
+
+-- what is kept, if it is, is the message in its ring
+kept_in : (k : Kept) (m : Option EntryParts) (is_kept : Bool) (ring : Option Text) → is_kept
+    ≡ is_some (option_map (in_ring_heard k) (option_and_then (if_kept (is_kept_heard k)) m))
+    → ring ≡ option_and_then (ring_heard k) m
+    → (if is_kept then option_map (in_ring ring) m else None)
+    ≡ option_map (in_ring_heard k) (option_and_then (if_kept (is_kept_heard k)) m)
+kept_in k None is_kept ring e r = grind (arith, e)
+kept_in k (Some m) is_kept ring e r = rw (e, r) (by (is_kept_heard k m)) where
+  by : (b : Bool) → (if is_some (option_map (in_ring_heard k) (if b then Some m else None))
+      then Some (in_ring_heard k m) else None)
+      ≡ option_map (in_ring_heard k) (if b then Some m else None)
+  by true = refl
+  by false = refl
+
+pub kept_if : (k : Kept) (x : Came) (is_kept : Bool) (ring : Option Text)
+    → is_kept ≡ is_some (entry_kept k x) → ring ≡ option_and_then (ring_heard k) (entry_for x)
+    → (if is_kept then option_map (in_ring ring) (entry_for x) else None) ≡ entry_kept k x
+kept_if k x = kept_in k (entry_for x)
 
 -- what holds of each message, and of one more if it has a number
 pub all_stay : (P : ℕ × EntryParts → Type 0) (h : Messages) (e : EntryParts) (o : Option ℕ)
@@ -78,6 +99,7 @@ numbered_start choices first h small k = record {
   sent_are = refl;
   chosen = tt;
   said_are = refl;
+  rings = tt;
   are = refl;
   messages = k.messages;
   written = k.written;
@@ -97,9 +119,10 @@ module _ (choices : Kept) (heard : List EntryParts) (said : List (List Text)) (f
       → map (λ (s : Bool × List Text). s.1) sayings ≡ said'
       → AllByRecursion (IsChosen choices) sayings
       → map content (said_among (k.order ++ (side, e) ∷ [])) ≡ chosen_of sayings
+      → AllByRecursion (IsInRingSaid choices) (said_among (k.order ++ (side, e) ∷ []))
       → IsSome h.next → IsTrue (is_message_command e.command) → IsWrittenEntry e
       → AreNumbered choices heard' said' first (with_entry h (Some e))
-  one_more side e heard' said' sayings h_are all_are chosen s_are some is written =
+  one_more side e heard' said' sayings h_are all_are chosen s_are rings some is written =
       let n : first + length (k.order ++ (side, e) ∷ []) ≡ first + length k.order + 1 =
       omega (arith, length-append k.order ((side, e) ∷ [])) in
       let all = map-append (λ (m : Bool × EntryParts). m.1) k.order ((side, e) ∷ []) in
@@ -113,6 +136,7 @@ module _ (choices : Kept) (heard : List EntryParts) (said : List (List Text)) (f
         sent_are = all_are;
         chosen = chosen;
         said_are = s_are;
+        rings = rings;
         are = rw (all, more, ← k.are) refl;
         messages = messages_stay h (Some e) k.messages is;
         written = all_stay (λ (m : ℕ × EntryParts). IsWrittenEntry m.1) h e h.next k.written
@@ -126,8 +150,11 @@ module _ (choices : Kept) (heard : List EntryParts) (said : List (List Text)) (f
       → AreNumbered choices (heard ++ option_to_list e) said first (with_entry h e)
   numbered_heard None some is written = rw (append-nil heard) k
   numbered_heard (Some e) some is written =
+      let same : said_among k.order ≡ said_among (k.order ++ (true, e) ∷ []) =
+      grind (arith, filter_more, append-nil) in
       one_more true e _ _ k.sayings (grind (arith, filter_more, k.heard_are)) k.sent_are k.chosen
-      (grind (arith, filter_more, append-nil, k.said_are)) (some refl) is written
+      (grind (arith, filter_more, append-nil, k.said_are))
+      (subst (AllByRecursion (IsInRingSaid choices)) same k.rings) (some refl) is written
 
   -- one saying more
   all_sent : (s : Bool × List Text)
@@ -138,14 +165,20 @@ module _ (choices : Kept) (heard : List EntryParts) (said : List (List Text)) (f
   pub numbered_said : (e : Option EntryParts) → (IsSome e → IsSome h.next)
       → IfSome e (λ e. IsTrue (is_message_command e.command)) → IfSome e IsWrittenEntry
       → IfSome (option_map content e) (λ c. IsChosen choices (true, c))
+      → IfSome e (IsInRingSaid choices)
       → AreNumbered choices heard (said ++ option_to_list (option_map content e)) first
       (with_entry h e)
-  numbered_said None some is written chosen = rw (append-nil said) k
-  numbered_said (Some e) some is written chosen =
+  numbered_said None some is written chosen ring = rw (append-nil said) k
+  numbered_said (Some e) some is written chosen ring =
+      let more : said_among k.order ++ e ∷ [] ≡ said_among (k.order ++ (false, e) ∷ []) =
+      grind (arith, filter_more) in
       one_more false e _ _ (k.sayings ++ (true, content e) ∷ [])
       (grind (arith, filter_more, append-nil, k.heard_are)) (all_sent (true, content e))
       (all_by_recursion_push (IsChosen choices) k.sayings (true, content e) k.chosen chosen)
-      (grind (arith, filter_more, map-append, k.said_are)) (some refl) is written
+      (grind (arith, filter_more, map-append, k.said_are))
+      (subst (AllByRecursion (IsInRingSaid choices)) more
+      (all_by_recursion_push (IsInRingSaid choices) (said_among k.order) e k.rings ring))
+      (some refl) is written
 
   -- it was said, and is not kept
   pub numbered_passed : (c : Option (List Text)) → IfSome c (λ c. IsChosen choices (false, c))
@@ -160,6 +193,7 @@ module _ (choices : Kept) (heard : List EntryParts) (said : List (List Text)) (f
     sent_are = all_sent (false, c);
     chosen = all_by_recursion_push (IsChosen choices) k.sayings (false, c) k.chosen chosen;
     said_are = grind (arith, filter_more, append-nil, k.said_are);
+    rings = k.rings;
     are = k.are;
     messages = k.messages;
     written = k.written;
@@ -173,6 +207,36 @@ pub said_content : (time : Text) (source : Option Text) (line : Parts) → is_me
     → IsSome source → content_said (untagged_line None line.command line.params ∷ [])
     ≡ option_map content (message_of time source line)
 said_content time source line e some = grind (arith, nat_tests, e)
+
+-- in the ring of the person that it is for
+pub said_in : (k : Kept) (time : Text) (source : Option Text) (line : Parts) (ring : Option Text)
+    → is_message line ≡ true → ring ≡ said_ring k line
+    → option_map (in_ring ring) (message_of time source line)
+    ≡ option_map (in_ring_said k) (message_of time source line)
+said_in k time source line ring m r =
+    let is = ap (λ b. if b then option_and_then (λ (p : Text × Text). ring_said k p.0)
+    (target_and_text line.params) else None) m in
+    by (is_message_command line.command) source (target_and_text line.params) (r ∙ is) where
+      by : (b : Bool) (s : Option Text) (o : Option (Text × Text))
+          → ring ≡ option_and_then (λ (p : Text × Text). ring_said k p.0) o
+          → option_map (in_ring ring) (if b then option_and_then (λ s. option_map
+          (λ p. entry_parts time s line.command p.0 p.1) o) s else None)
+          ≡ option_map (in_ring_said k) (if b then option_and_then (λ s. option_map
+          (λ p. entry_parts time s line.command p.0 p.1) o) s else None)
+      by false s o r = refl
+      by true None o r = refl
+      by true (Some s) None r = refl
+      by true (Some s) (Some p) r = rw r refl
+
+pub content_in : (k : Kept) (m : Option EntryParts)
+    → option_map content (option_map (in_ring_said k) m) ≡ option_map content m
+content_in k None = refl
+content_in k (Some e) = refl
+
+pub ring_is_said : (k : Kept) (m : Option EntryParts)
+    → IfSome (option_map (in_ring_said k) m) (IsInRingSaid k)
+ring_is_said k None = tt
+ring_is_said k (Some e) = refl
 
 -- a message that is kept is one
 pub spread_is_message : (k : Kept) (v : View) (line : Parts) → is_spread_by k v line ≡ true

@@ -32,24 +32,24 @@ module _ (v : View) (i : ℕ) where
   pub key_at : option_and_then key_of_channel (channel_shown v i) ≡ key_in (modes_at v i)
   key_at = grind (arith, λ (ch : Channel). fin.get-entries ch.modes 107)
 
-  -- what is left from a place on, where a letter stands there
+  -- what is left from a place on, if a letter is there
   left : (j : ℕ) (o : Option Mode) → mode_shown v i j ≡ o → YieldsFirstBy (λ (m : Mode). m)
       (λ left. left) (drop j (modes_at v i)) o (drop (j + 1) (modes_at v i))
   left j o e = first_left (λ (m : Mode). m) (modes_at v i) j o (grind (arith, e, mode_here v i j))
 
-  -- what is found from a place on, where another letter stands there
+  -- what is found from a place on, if another letter is there
   pub key_later : (j letter : ℕ) (param : Option Text) → mode_shown v i j ≡ Some (letter, param)
       → (letter ≡ 107 → ⊥) → key_in (drop j (modes_at v i)) ≡ key_in (drop (j + 1) (modes_at v i))
   key_later j letter param e other =
       let no : eq_by_cmp nat_cmp 107 letter ≡ false = grind (arith, nat_tests, other) in
       rw (left j (Some (letter, param)) e, no)
 
-  -- where the letter stands there, its parameter is the key
+  -- if the letter is there, its parameter is the key
   pub key_here : (j letter : ℕ) (param : Option Text) → mode_shown v i j ≡ Some (letter, param)
       → letter ≡ 107 → key_in (drop j (modes_at v i)) ≡ param
   key_here j letter param e same = rw (left j (Some (letter, param)) e, same)
 
-  -- behind the last mode there is none
+  -- after the last mode there is none
   pub key_past : (j : ℕ) → mode_shown v i j ≡ None → key_in (drop j (modes_at v i)) ≡ None
   key_past j e = ap key_in (left j None e).0
 
@@ -76,7 +76,7 @@ pub sound_view : (v : View)
     → (items : List Arrival) × AreWritten items × (v ≡ view_of items) → IsSound v
 sound_view v (items, written, is) = rw is (view_sound items)
 
--- a channel of a view stands under the key of its name
+-- a channel of a view is under the key of its name
 pub name_key : (v : View) → IsSound v → (i : ℕ) (e : Text × Channel)
     → slice_get (fin.entries v.channels) i ≡ Some e → key_by v.settings e.1.name ≡ e.0
 name_key v sound i e is =
@@ -91,7 +91,7 @@ pub added : (v : View) → IsSound v → (i : ℕ) (name folded copy : Text) (ke
 added v sound i name folded copy key e under same k =
     grind (arith, slice_get-map keyed_of (fin.entries v.channels) i, name_key v sound i)
 
--- where there is no channel, nothing is
+-- if there is no channel, nothing is
 pub none_added : (v : View) (i : ℕ) (now : List (Text × Joining))
     → None ≡ option_map (λ (ch : Channel). ch.name) (channel_shown v i)
     → now ≡ now ++ option_to_list (slice_get (channels_of_view v) i)
@@ -139,7 +139,7 @@ found_in_view v c =
     rw (← entries-shown bytes_cmp joining_of v.channels, ← fin.get-entries)
     (get-shown bytes_cmp joining_of v.channels c)
 
--- the channels that an item adds stand in the order of their keys
+-- the channels that an item adds are in the order of their keys
 pub sorted_new : (v : View) (x : Arrival) {N : Type 0} (channels : N → List (Text × Joining))
     (new : Option N) → option_map channels new ≡ lost_by v x
     → IfSome new (λ n. T (fin.is_sorted bytes_cmp (channels n)))
@@ -164,7 +164,7 @@ lost_are items x m is = same_by_keys (λ c. grind (arith, is c, lost_get, revers
 pub no_loss : lost_channels [] ≡ fin.empty
 no_loss = same_by_keys (λ c. grind (arith, lost_get, fin.get-empty))
 
--- where an item adds channels it takes none off
+-- if an item adds channels it takes none off
 pub settled_as : (v : View) (x : Arrival) (c : Text) (off : Bool) (before : Option Joining)
     → lost_then None off c before ≡ lost_then None (settles v x c) c before
     → lost_then (lost_by v x) off c before ≡ lost_then (lost_by v x) (settles v x c) c before

@@ -16,7 +16,7 @@ use Rattle.hub_core.proofs.{Kept.{pong_unsaid, puts_unsaid}, LostChannels.no_los
 use Rattle.hub_core.{proofs.Seats.{remain_sent, seated}, specs.Bounds.AreSeated}
 use Rattle.hub_core.specs.{Attaching.refusal_of, Given.with_caps, Online.{is_welcome, says_online}}
 use Rattle.hub_core.specs.{LostChannels.{Joining, Joinings}, Pumping.{Next, Takes}}
-use Rattle.hub_core.specs.Running.{EachAgrees, IsChosen, IsRunning}
+use Rattle.hub_core.specs.Running.{EachAgrees, IsChosen, IsInRingSaid, IsRunning}
 use Rattle.hub_core.specs.{Running.{content, contents_said, entries_heard}, States.{ProfileParts, less, started_by}}
 use Rattle.hub_core.specs.Wishes.{WishesState}
 use Rattle.{hub_ends.specs.Came.arrivals, irc_line.specs.Line.has_command}
@@ -221,12 +221,13 @@ pub said_on : (h : HubState) (v : View) (online : Bool) {lost : Joinings}
     → content_said p ≡ option_map content e → (IsSome e → IsSome h.history.next)
     → IfSome e (λ e. IsTrue (is_message_command e.command)) → IfSome e IsWrittenEntry
     → IfSome (option_map content e) (λ c. IsChosen h.profile.keeping (true, c))
+    → IfSome e (IsInRingSaid h.profile.keeping)
     → EachFits (heard h) ss → AreSeated h.next ss
     → IsRunning record h { sessions = ss; upstream = upstream; history = history; images = images }
     v online lost
-said_on h v online ss upstream history images e p run k u c some is written chosen fit seated =
+said_on h v online ss upstream history images e p run k u c some is written chosen ring fit seated =
     let step = numbered_said h.profile.keeping (entries_heard h) (contents_said h) h.first h.history
-    run.numbered e some is written chosen in
+    run.numbered e some is written chosen ring in
     grind (arith, filter_more content_said, step)
 
 -- a line was sent to the network that is not kept
@@ -241,7 +242,7 @@ passed_on h v online upstream p run u chosen =
 
 -- ---- our nick
 
--- a line that takes us in tells our nick
+-- a line that takes us in gives our nick
 named : (o : Option Text) (s : Standing) → option_map_or is_nameable o false ≡ true
     → IsSome (own_after (or_silent
     (option_and_then (λ n. if is_nameable n then Some (Welcomed n) else None) o)) s)
@@ -279,6 +280,6 @@ owned_back (x ∷ older) e =
     let online = online_more (reverse older) x in
     grind (arith, turned, view_step (reverse older) x, step, owned_back older, online)
 
--- we have a nick where we are online
+-- we have a nick if we are online
 pub online_owned : (items : List Arrival) → is_online items ≡ true → IsSome (view_of items).own
 online_owned items e = rw reverse-reverse at (owned_back (reverse items) (rw reverse-reverse e))

@@ -40,7 +40,7 @@ pub remain_without : (front : List SessionState) (s : SessionState) (back : List
 remain_without [] s back = inr (all_remain back)
 remain_without (f ∷ fs) s back = inl (f, fs ++ back, refl, refl, remain_without fs s back)
 
--- another stands in its place, of the same number
+-- another is in its place, of the same number
 pub remain_with : (front : List SessionState) (s t : SessionState) (back : List SessionState)
     → t.id ≡ s.id → Remain (front ++ s ∷ back) (front ++ t ∷ back)
 remain_with [] s t back same = inl (t, back, refl, same, all_remain back)

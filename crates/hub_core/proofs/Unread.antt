@@ -1,4 +1,4 @@
--- What sessions are sent of what others say, and of answers, tells them nothing of the network.
+-- What sessions are sent of what others say, and of answers, says nothing about the network.
 use Rattle.hub_core.proofs.Words
 use Words.{◌≡◌, AllByRecursion, Arrival, Bool, Came, Caps, Delivered, EachFits, EntryParts, Fits, IfSome}
 use Words.{List, Messages, None, Option, OutletState, Parts, Received, Sends, SessionState, Text}
@@ -58,7 +58,7 @@ no_entry x need = grind (arith, no_state_line)
 pub none_kept : (c : Kept) (x : Came) → may_need_memory x.0 ≡ true → entry_kept c x ≡ None
 none_kept c x need = grind (arith, no_entry x need)
 
--- so where a view may have refused an item, nothing was kept of it
+-- so if a view may have refused an item, nothing was kept of it
 pub nothing_kept : (c : Kept) (x : Came) (h k : Messages) (e : Option EntryParts)
     → may_need_memory x.0 ≡ true → k ≡ with_entry h e → e ≡ entry_kept c x → k ≡ h
 nothing_kept c x h k e need is made = grind (arith, none_kept c x need)

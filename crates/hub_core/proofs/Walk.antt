@@ -13,7 +13,7 @@ use Rattle.std.{proofs.lemmas.List.{take_more_set, Edits.remove-append_right}, s
 
 module _ {S : Type 0} (state : S → SessionState) (coming : S → Option (List Parts))
     (alone : Bool) where
-  -- those behind the first i were dealt with; the first i are left, as they were
+  -- those after the first i were dealt with; the first i are left, as they were
   pub record IsPartWay (olds now : List S) (i : ℕ) : Type 0 where
     -- the last one first
     pub left : List S
@@ -144,7 +144,7 @@ module _ {S : Type 0} (state : S → SessionState) (alone : Bool) where
       let there = sym (get_or-map state now i s (state s) less ∙ ap state (sym is)) in
       rw map-set (freed_set alone _ _ i (state s) (state t) all within there same found)
 
-  -- the number of one more, where it is nearly full
+  -- the number of one more, if it is nearly full
   pub found_more : (now : List S) (i : ℕ) (t : S) (numbers : List ℕ) (b : Bool) → i < length now
       → b ≡ is_nearly_full (state t) → numbers ≡ nearly_full (map state (take i now))
       → numbers ++ (if b then (state t).id ∷ [] else [])

@@ -1,8 +1,8 @@
--- How much a hub keeps at most, and in which order its numbers stand.
+-- How much a hub keeps at most, and in which order its numbers come.
 use Rattle.std.specs.Prelude.{◌≡◌, ◌≤◌, ◌<◌, ◌+◌, ℕ, List, [], ◌∷◌, Option, IfSome, length}
 use Rattle.std.specs.List.{AllByRecursion}
 use Rattle.std.specs.FinMap as fin
-use Rattle.history.specs.Messages.{CanComeAgain, targets_held}
+use Rattle.history.specs.Messages.{CanComeAgain, persons_held, targets_held}
 use Rattle.hub_core.specs.States.{HubState, SessionState}
 
 -- numbers of sessions rise, and from this one on
@@ -17,11 +17,12 @@ pub record AreSeated (next : Option ℕ) (ss : List SessionState) : Type 0 where
   pub rise : RiseFrom 0 ss
   pub below : IfSome next (λ number. AllByRecursion (λ s. s.id < number) ss)
 
--- The bounds of a hub (our own choice): at most 64 sessions, 64 client names, and 128 targets with
--- messages. The numbers of sessions and of messages rise; of each target no more messages are kept
--- than the history holds.
+-- The bounds of a hub (our own choice): at most 64 sessions, 64 client names, 128 targets with
+-- messages, and 128 persons with rings. The numbers of sessions and of messages rise; in each ring no
+-- more messages are kept than the history holds.
 pub record IsBounded (h : HubState) : Type 0 where
   pub sessions : AreSeated h.next h.sessions
   pub names : fin.len h.marks ≤ 64
   pub targets : targets_held h.history ≤ 128
+  pub persons : persons_held h.history ≤ 128
   pub messages : CanComeAgain h.history

@@ -98,15 +98,18 @@ session_code =
 
 abbrev entry_code : Coded EntryParts
 entry_code =
-    code_by (Text × (Text × (Text × (Text × (Text)))))
-    (coded× text_code (coded× text_code (coded× text_code (coded× text_code (text_code)))))
-    (λ e. (e.source, (e.command, (e.target, (e.text, e.time)))))
+    code_by (Text × (Text × (Text × (Text × (Text × (Option Text))))))
+    (coded× text_code (coded× text_code (coded× text_code
+    (coded× text_code (coded× text_code (coded_option text_code))))))
+    (λ e. let rest : Text × (Text × (Option Text)) = (e.text, (e.time, e.ring)) in
+    (e.source, (e.command, (e.target, rest))))
     (λ p. record {
       source = p.0;
       command = p.1.0;
       target = p.1.1.0;
       text = p.1.1.1.0;
-      time = p.1.1.1.1;
+      time = p.1.1.1.1.0;
+      ring = p.1.1.1.1.1;
     }) (λ _. refl)
 
 abbrev messages_code : Coded Messages
@@ -125,14 +128,16 @@ marks_code = map.code text_code (coded_option coded_ℕ)
 
 abbrev kept_code : Coded Kept
 kept_code =
-    code_by (Bool × (Bool × (Bool × (List Text))))
-    (coded× coded_bool (coded× coded_bool (coded× coded_bool (coded_list text_code))))
-    (λ k. (k.ctcp, (k.server_notices, (k.to_self, k.never))))
+    code_by (Bool × (Bool × (Bool × (Bool × (List Text)))))
+    (coded× coded_bool (coded× coded_bool (coded× coded_bool
+    (coded× coded_bool (coded_list text_code)))))
+    (λ k. (k.ctcp, (k.server_notices, (k.to_self, (k.by_person, k.never)))))
     (λ p. record {
       ctcp = p.0;
       server_notices = p.1.0;
       to_self = p.1.1.0;
-      never = p.1.1.1;
+      by_person = p.1.1.1.0;
+      never = p.1.1.1.1;
     }) (λ _. refl)
 
 abbrev offset_code : Coded Offset

@@ -12,8 +12,8 @@ use Rattle.hub_core.specs.Upkeep.{with_upstream}
 abbrev pub with_ahead : HubState → List Came → HubState
 with_ahead h ahead = record h { ahead = ahead }
 
--- So many packets were taken out of an outlet, of those that wait there at most so many. They stay
--- sent, and there is room for as many more, but in an outlet that is closed.
+-- `taken` packets were taken out of an outlet, of those that wait there at most `most`. They stay
+-- sent, and there is room for that many more, except in an outlet that is closed.
 pub record Drains (o : OutletState) (most taken : ℕ) (o' : OutletState) : Type 0 where
   pub sent : o'.sent ≡ o.sent
   pub closed : o'.closed ≡ o.closed
@@ -34,7 +34,7 @@ pub record DrainsSession (old : HubState) (id most taken : ℕ) (new : HubState)
   pub drained : Drains around.here.outlet most taken given
   pub is : new ≡ with_sessions old (around.front ++ with_outlet around.here given ∷ around.back)
 
--- the same, where there may be no such session: then nothing is taken out
+-- the same, but there may be no such session: then nothing is taken out
 abbrev pub DrainsAt : HubState → ℕ → ℕ → ℕ → HubState → Type 0
 DrainsAt old id most taken new =
     (Lacks id old.sessions × (taken ≡ 0) × (new ≡ old)) ⊎ DrainsSession old id most taken new

@@ -1,5 +1,5 @@
--- The keys by which clients asked to join channels, and which of them the network confirmed (RFC 2812,
--- section 3.2.1).
+-- The keys by which channels were asked to be joined, and which keys the network confirmed (RFC
+-- 2812, section 3.2.1).
 use Rattle.std.specs.Prelude.{◌==◌, Bool, false, ◌&&◌, ◌||◌, not, List, [], ◌∷◌, ◌++◌}
 use Rattle.std.specs.Prelude.{find, filter, map, length, slice_get, nat_lt, if◌then◌else◌}
 use Rattle.std.specs.List.{list_any, slice_split}
@@ -21,7 +21,7 @@ use Rattle.hub_core.specs.declared.join_keys.JoinKey.{JoinKey}
 use Rattle.hub_core.specs.declared.key_news.KeyNews.{KeyNews}
 use Rattle.hub_core.specs.declared.key_news.KeyNews.TheVariants as news
 
--- a channel with the key that a client named for it, and whether our JOIN of it came since
+-- a channel with the key that was named for it, and whether our JOIN of it came since
 pub record JoinKeyParts : Type 0 where
   pub name : Text
   pub key : Text
@@ -34,7 +34,7 @@ abbrev pub items_of : Option Text → List Text
 items_of None = []
 items_of (Some list) = slice_split (λ b. b == 44) list
 
--- the key that stands first; none if it can't stand in a list again, as an empty one (our own choice)
+-- the key that comes first; none if it can't be in a list again, as an empty one (our own choice)
 abbrev pub first_key : List Text → Option Text
 first_key [] = None
 first_key (key ∷ keys) = if is_word key then Some key else None
@@ -72,7 +72,7 @@ without_oldest (k ∷ keys) = if k.known then k ∷ without_oldest keys else key
 abbrev pub with_room : List JoinKeyParts → List JoinKeyParts
 with_room keys = if nat_lt (length (asked_among keys)) 64 then keys else without_oldest keys
 
--- what was asked for a channel before does not count any more
+-- what was asked for a channel before no longer counts
 abbrev pub unasked : (Text → Bool) → List JoinKeyParts → List JoinKeyParts
 unasked named keys = filter (λ k. not (not k.known && named k.name)) keys
 
@@ -92,7 +92,7 @@ abbrev pub ask_all : CaseMapping → List (Text × Option Text) → List JoinKey
 ask_all mapping [] keys = keys
 ask_all mapping (c ∷ channels) keys = ask_all mapping channels (ask mapping c keys)
 
--- ---- what the network says of it
+-- ---- what the network says about it
 
 -- what is known of a channel is forgotten
 abbrev pub unknown : (Text → Bool) → List JoinKeyParts → List JoinKeyParts
@@ -123,7 +123,7 @@ abbrev pub has_key_letter : Parts → Bool
 has_key_letter line =
     option_map_or (λ letters. has_byte letters 107) (slice_get line.params 1) false
 
--- After what a line tells: our JOIN confirms. Our PART, a KICK of us and our QUIT end what is known
+-- After what a line says: our JOIN confirms. Our PART, a KICK of us and our QUIT end what is known
 -- (RFC 2812, sections 3.2.1, 3.2.2, 3.2.8 and 3.1.7), and so do a MODE with k and a 324, by which the
 -- view knows the key (sections 3.2.3 and 5.1).
 abbrev pub keys_told : View → Parts → Told → List JoinKeyParts → List JoinKeyParts
@@ -144,7 +144,7 @@ abbrev pub keys_heard : View → Arrival → List JoinKeyParts → List JoinKeyP
 keys_heard v Lost keys = known_among keys
 keys_heard v (Received line) keys = keys_told v line (told v.settings (Received line)) keys
 
--- the same by the news of it
+-- the same by the news about it
 abbrev pub news_heard : KeyNews → List JoinKeyParts → List JoinKeyParts
 news_heard news.Nothing keys = keys
 news_heard (news.Joined mapping channel) keys = confirmed (is_one mapping channel.now) keys

@@ -2,6 +2,7 @@ pub mod States
 pub mod Codes
 pub mod Bounds
 pub mod Forgetting
+pub mod Expecting
 pub mod Given
 pub mod Online
 pub mod Running

@@ -23,7 +23,7 @@ use Rattle.hub_core.specs.declared.lost.LostChannel.{LostChannel}
 use Rattle.hub_core.specs.declared.lost.Settled.{Settled}
 use Rattle.hub_core.specs.declared.lost.Settled.TheVariants.{Nothing, One, All}
 
--- a channel's key, where it has one: the parameter of its mode k (RFC 2811, section 4.2.10; the
+-- a channel's key, if it has one: the parameter of its mode k (RFC 2811, section 4.2.10; the
 -- letter k is the byte 107)
 abbrev pub key_of_channel : Channel → Option Text
 key_of_channel channel = option_and_then (λ param. param) (fin.get channel.modes 107)
@@ -78,7 +78,7 @@ stays v x channel = not (settles v x (key_by v.settings channel.0))
 abbrev pub still : View → Arrival → List Joining → List Joining
 still v x channels = filter (stays v x) channels
 
--- ---- what an item changes of them, by the view before it
+-- ---- how an item changes them, by the view before it
 
 -- the channels of a view, by the keys of their names
 abbrev pub channels_of_view : View → List (Text × Joining)

@@ -12,11 +12,11 @@ abbrev pub is_welcome : Parts → Bool
 is_welcome line =
     has_command line (codes "001") && option_map_or is_nameable (slice_get line.params 0) false
 
--- what an item says of it
+-- what an item says about it
 abbrev pub says_online : Arrival → Option Bool
 says_online (Received line) = if is_welcome line then Some true else None
 says_online Lost = Some false
 
--- what the last item that says something of it says
+-- what the last item that says something about it says
 abbrev pub is_online : List Arrival → Bool
 is_online items = unwrap_or (last_in says_online items) false

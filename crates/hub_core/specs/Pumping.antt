@@ -2,14 +2,14 @@
 use Rattle.std.specs.Prelude.{◌≡◌, ◌⊎◌, ◌↔◌, ◌+◌, ℕ, List, [], ◌∷◌, ◌++◌, Option, None, Some}
 use Rattle.std.specs.Prelude.{IsSome, Bool, true, length, min, cond, is_some, codes, if◌then◌else◌}
 use Rattle.std.specs.Prelude.{Result, Ok, Err}
-use Rattle.std.specs.Option.{option_and_then, option_map_or, unwrap_or}
+use Rattle.std.specs.Option.{option_and_then, option_map, option_map_or, unwrap_or}
 use Rattle.irc_line.specs.Line.{Parts, has_command}
 use Rattle.irc_line.specs.Tags.{time_of}
 use Rattle.irc_line.specs.Writing.{untagged_line}
 use Rattle.net_view.specs.Arrival.{Arrival, Received, Lost}
 use Rattle.client_caps.specs.Moment.{time_text_of}
 use Rattle.history.specs.Entry.{EntryParts, message_of}
-use Rattle.history.specs.Keeping.{Kept, if_kept, is_kept_heard}
+use Rattle.history.specs.Keeping.{Kept, if_kept, in_ring_heard, is_kept_heard}
 use Rattle.history.specs.Messages.{Messages, with_message}
 use Rattle.hub_ends.specs.Came.{Came}
 use Rattle.hub_core.specs.declared.hub.Pumped.{Pumped}
@@ -24,15 +24,16 @@ use Rattle.hub_core.specs.Wishes.{wishes_heard}
 
 -- ---- of an item
 
--- the message that an item is, with the time that its tag tells, else when it came
+-- the message that an item is, with the time that its tag gives, else when it came
 abbrev pub entry_for : Came → Option EntryParts
 entry_for (Received line, moment) =
     message_of (unwrap_or (time_of line) (time_text_of moment)) line.source line
 entry_for (Lost, moment) = None
 
--- what is kept of an item that was heard
+-- what is kept of an item that was heard, in its ring
 abbrev pub entry_kept : Kept → Came → Option EntryParts
-entry_kept k x = option_and_then (if_kept (is_kept_heard k)) (entry_for x)
+entry_kept k x =
+    option_map (in_ring_heard k) (option_and_then (if_kept (is_kept_heard k)) (entry_for x))
 
 -- what the network is answered: PONG to a PING, with its parameters (RFC 2812, section 3.7.3)
 abbrev pub pong_for : Arrival → Option (List Parts)
@@ -41,7 +42,7 @@ pong_for (Received line) =
     then Some (untagged_line None (codes "PONG") line.params ∷ []) else None
 pong_for Lost = None
 
--- how many images are made of an item for so many sets of capabilities: none of a loss
+-- how many images are made of an item for this many sets of capabilities: none of a loss
 abbrev pub images_for : Arrival → ℕ → ℕ
 images_for (Received line) sets = sets
 images_for Lost sets = 0
@@ -50,12 +51,12 @@ images_for Lost sets = 0
 abbrev pub counted : ℕ → ℕ
 counted n = min n 18446744073709551615
 
--- one more message, where there is one and a number is left
+-- one more message, if there is one and a number is left
 abbrev pub with_entry : Messages → Option EntryParts → Messages
 with_entry h None = h
 with_entry h (Some e) = option_map_or (λ number. with_message number e h) h.next h
 
--- a packet, if there is one, was put where there was room, and left out where there was none
+-- a packet, if there is one, was put if there was room, and left out if there was none
 abbrev pub Puts : Bool → OutletState → Option (List Parts) → OutletState → Type 0
 Puts alone o None o' = o' ≡ o
 Puts alone o (Some p) o' = Took alone o p o' ⊎ ((o.free ≡ 0) × (o' ≡ o))
@@ -74,7 +75,7 @@ pub record Next (alone : Bool) (old : HubState) (x : Came) (new : HubState) : Ty
 -- ---- the step
 
 -- One more item was taken in: each session was sent its packet or is gone; a message is kept, if
--- the profile keeps it; a PING was answered where there was room; what clients asked for is granted
+-- the profile keeps it; a PING was answered if there was room; what clients asked for is granted
 -- or refused.
 pub record Takes (inlet outlet : Bool) (old : HubState) (cut : ℕ) (new : HubState) : Type 0 where
   pub item : Came

@@ -11,7 +11,7 @@ use Rattle.net_view.specs.View.{View, view_of}
 use Rattle.client_caps.specs.Caps.{held}
 use Rattle.client_caps.specs.LateAttach.{as_received}
 use Rattle.history.specs.Entry.{EntryParts, is_message, is_message_command}
-use Rattle.history.specs.Keeping.{Kept, is_kept_said}
+use Rattle.history.specs.Keeping.{Kept, is_kept_said, ring_said}
 use Rattle.irc_names.specs.declared.case_mapping.CaseMapping.{CaseMapping}
 use Rattle.history.specs.Messages.{AreKeptBefore, AreWrittenMessages, Messages, numbered}
 use Rattle.irc_support.specs.Text.{Text}
@@ -51,7 +51,7 @@ AreMessages kept = AllByRecursion (λ m. IsTrue (is_message_command m.1.command)
 
 -- ---- which messages there were
 
--- what a message says: its command, whom or what it is for, and its text
+-- what a message says: its command, its target, and its text
 abbrev pub content : EntryParts → List Text
 content e = e.command ∷ e.target ∷ e.text ∷ []
 
@@ -89,12 +89,16 @@ abbrev pub IsChosen : Kept → Bool × List Text → Type 0
 IsChosen k s =
     (own : Option Text) × (mapping : CaseMapping) × (is_content_kept k own mapping s.1 ≡ s.0)
 
+-- it is in the ring of the person that it was said to, if it was said to one
+abbrev pub IsInRingSaid : Kept → EntryParts → Type 0
+IsInRingSaid k e = e.ring ≡ ring_said k e.target
+
 abbrev pub chosen_of : List (Bool × List Text) → List (List Text)
 chosen_of sayings = filter_map (λ s. if s.0 then Some s.1 else None) sayings
 
 -- What is kept is what the hub began with, and then the messages that it heard and those that it
--- sent to the network and keeps, each with the next number: there is an order of both in which it
--- kept them. They can be written.
+-- sent to the network and keeps, each in its ring and with the next number: there is an order of both
+-- in which it kept them. They can be written.
 pub record AreNumbered (k : Kept) (heard : List EntryParts) (said : List (List Text)) (first : ℕ)
     (h : Messages) : Type 0 where
   pub began : Messages
@@ -106,6 +110,7 @@ pub record AreNumbered (k : Kept) (heard : List EntryParts) (said : List (List T
   pub sent_are : map (λ (s : Bool × List Text). s.1) sayings ≡ said
   pub chosen : AllByRecursion (IsChosen k) sayings
   pub said_are : map content (said_among order) ≡ chosen_of sayings
+  pub rings : AllByRecursion (IsInRingSaid k) (said_among order)
   pub are : h ≡ kept_on began (map (λ m. m.1) order)
   pub messages : AreMessages h.kept
   pub written : AreWrittenMessages h
@@ -116,7 +121,7 @@ pub record AreNumbered (k : Kept) (heard : List EntryParts) (said : List (List T
 pub record IsRunning (h : HubState) (v : View) (online : Bool) (lost : Joinings) : Type 0 where
   -- a held item is the last one that was taken
   pub held_last : h.taken ≡ less h.taken h.held ++ option_to_list h.held
-  -- the view is that of the items taken, but for a held one
+  -- the view is that of the items taken, except a held one
   pub view_is : v ≡ view_of (heard h)
   pub online_is : online ≡ is_online (heard h)
   pub lost_is : lost ≡ lost_channels (heard h)

@@ -56,7 +56,7 @@ pub record HubState : Type 0 where
   pub recalled : List (Text × Option Text)
   pub wishes : WishesState
 
--- the items that were taken, but for a held one
+-- the items that were taken, except a held one
 abbrev pub less : List Came → Option Came → List Came
 less taken held = take (length taken - length (option_to_list held)) taken
 

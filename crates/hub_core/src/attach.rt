@@ -79,7 +79,7 @@ fn are_names_full(marks: &Marks, name: Option<&[u8]>) -> bool
     }
 }
 
-/// Admits a client's name, where it has one; true for a new name.
+/// Admits a client's name, if it has one; true for a new name.
 fn admit(marks: &mut Marks, name: Option<&[u8]>) -> Result<bool, OutOfMemory>
     requires { names_full (option_map (λ n. n.now) name) marks.old ≡ false }
     ensures ok { IfOk result (λ is_new.
@@ -97,7 +97,7 @@ fn admit(marks: &mut Marks, name: Option<&[u8]>) -> Result<bool, OutOfMemory>
     }
 }
 
-/// Takes a client's name away again, where it has one that was admitted just now.
+/// Takes a client's name away again, if it has one that was admitted just now.
 fn withdraw(marks: &mut Marks, name: Option<&[u8]>, is_new: bool)
     ensures { marks.new ≡ (if is_new then
         without_name (option_map (λ n. n.now) name.entry) marks.old else marks.old) }
@@ -139,8 +139,8 @@ fn burst_over<V: NetworkView>(
     burst_from_by(alloc, playing, &state, view, caps, &missed)
 }
 
-/// The burst for a client with this mark. Where memory is refused, the state parts that are kept
-/// are dropped, and it is tried once more.
+/// The burst for a client with this mark. If an allocation is refused, the state parts that are
+/// kept are dropped, and it is tried once more.
 fn burst_for<V: NetworkView>(
     alloc: Global,
     view: &V,
@@ -166,7 +166,7 @@ fn burst_for<V: NetworkView>(
     }
 }
 
-/// Makes room for one more session and for its client's name, and sees to it that its outlet has
+/// Makes room for one more session and for its client's name, and ensures that its outlet has
 /// room for a packet. After a refusal all is as it was: a name that was admitted for this session
 /// is withdrawn again. Only its outlet may have found more room.
 fn make_room<O: Outlet>(
@@ -265,7 +265,7 @@ impl<V: NetworkView + Drop, I: Inlet, O: Outlet> Hub<V, I, O> {
     ///
     /// After a refusal nothing has changed, and the outlet is handed back. The reasons come in the
     /// order of [`AttachError`]; `OutOfMemory` if an allocation was refused. So the name
-    /// is admitted before the outlet is asked for room, and withdrawn again where there is none.
+    /// is admitted before the outlet is asked for room, and withdrawn again if there is none.
     pub fn attach(
         &mut self,
         caps: Caps,

@@ -52,7 +52,7 @@ impl Away {
         }
     }
 
-    /// Takes an item. What no answer came to before a loss is not asked for any more.
+    /// Takes an item. What no answer came to before a loss is no longer asked for.
     pub fn hear(&mut self, item: &Item)
         ensures { away_of self.new ≡ away_heard (arrival_of item.now) (away_of self.old) }
     {

@@ -42,9 +42,9 @@ fn is_in_use<O: Outlet>(sessions: &Vec<Session<O>>, name: &[u8]) -> bool
 }
 
 impl<V: NetworkView + Drop, I: Inlet, O: Outlet> Hub<V, I, O> {
-    /// Forgets a client name, and what it has seen: who attaches by it next gets all messages that
-    /// are kept. `InUse` exactly if a session is of a client with this name, else `Unknown` exactly
-    /// if the name is not known. After a refusal nothing has changed.
+    /// Forgets a client name, and what it has seen: the client that attaches by it next gets all
+    /// messages that are kept. `InUse` exactly if a session is of a client with this name, else
+    /// `Unknown` exactly if the name is not known. After a refusal nothing has changed.
     #[tactic(auto, using(crate::proofs::Each::any_of))]
     pub fn forget(&mut self, name: &[u8]) -> Result<(), ForgetFault>
         ensures ok { OnOk result (self.new ≡ forgotten name.now self.old) }

@@ -89,7 +89,7 @@ pub struct Hub<V: NetworkView + Drop, I: Inlet, O: Outlet> {
     // what was taken and could not be dealt with
     pub(crate) held: Option<(Item, Moment)>,
     pub(crate) sessions: Vec<Session<O>>,
-    // the number of the next session; `None` where the last one was given
+    // the number of the next session; `None` if the last one was given
     pub(crate) next: Option<SessionId>,
     pub(crate) upstream: O,
     pub(crate) online: bool,
@@ -142,7 +142,7 @@ impl<V: NetworkView + Drop, I: Inlet, O: Outlet> Hub<V, I, O> {
     ghost use Rattle.hub_core.specs.Upkeep.{LendsOutlet, TellsCaps};
 
     /// A hub of these parts, without sessions, messages or client names. `BadCapacity` comes
-    /// exactly where the setup's history is 0 or above 10,000, and before memory is asked for.
+    /// exactly if the setup's history is 0 or above 10,000, and before memory is asked for.
     /// After a refusal the parts are dropped.
     pub fn start(
         alloc: Global,
@@ -309,7 +309,7 @@ impl<V: NetworkView + Drop, I: Inlet, O: Outlet> Hub<V, I, O> {
         }
     }
 
-    /// The view of the items taken, but for a held one.
+    /// The view of the items taken, except a held one.
     pub fn view(&self) -> &V
         ensures { V.view result.now ≡ view_now self.now }
     {
@@ -323,7 +323,7 @@ impl<V: NetworkView + Drop, I: Inlet, O: Outlet> Hub<V, I, O> {
         self.online
     }
 
-    /// Tells its caller what holds of every hub between calls. It does nothing.
+    /// Says what holds of every hub between calls. It does nothing.
     pub fn is_running(&self)
         ensures running { IsRunning self.now (view_now self.now) (is_online (heard self.now))
             (lost_channels (heard self.now)) }
@@ -332,6 +332,7 @@ impl<V: NetworkView + Drop, I: Inlet, O: Outlet> Hub<V, I, O> {
     {
         let _names = self.marks.count();
         let _targets = self.history.target_count();
+        let _persons = self.history.person_count();
         self.history.can_come_again();
     }
 
@@ -342,7 +343,7 @@ impl<V: NetworkView + Drop, I: Inlet, O: Outlet> Hub<V, I, O> {
         &self.upstream
     }
 
-    /// The outlet of a session; `None` exactly where no session has the number.
+    /// The outlet of a session; `None` exactly if no session has the number.
     pub fn outlet(&self, id: SessionId) -> Option<&O>
         ensures { LendsOutlet self.now id
             (option_map (λ o. O.state o.now) result) }
@@ -353,7 +354,7 @@ impl<V: NetworkView + Drop, I: Inlet, O: Outlet> Hub<V, I, O> {
         Some(&self.sessions[place].outlet)
     }
 
-    /// The capabilities that the client of a session holds now; `None` exactly where no session has
+    /// The capabilities that the client of a session holds now; `None` exactly if no session has
     /// the number.
     pub fn caps(&self, id: SessionId) -> Option<Caps>
         ensures { TellsCaps self.now id result }

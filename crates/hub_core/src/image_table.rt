@@ -22,7 +22,7 @@ pub struct Made {
     pub packet: Option<Packet>,
 }
 
-/// The packet of a line, where there is one.
+/// The packet of a line, if there is one.
 fn packet_of_line(alloc: Global, line: &Option<Line>) -> Result<Option<Packet>, OutOfMemory>
     ensures { IfOk result (λ packet. packet ≡ packet_of (option_to_list line.now)) }
 {
@@ -32,7 +32,7 @@ fn packet_of_line(alloc: Global, line: &Option<Line>) -> Result<Option<Packet>, 
     }
 }
 
-/// The packet of the lines that stand for a loss, where we are on a channel.
+/// The packet of the lines that stand for a loss, if we are on a channel.
 fn packet_of_loss<V: NetworkView>(alloc: Global, view: &V) -> Result<Option<Packet>, OutOfMemory>
     ensures { IfOk result (λ packet. packet ≡ packet_of (part_lines_of (V.view view.now))) }
 {
@@ -71,7 +71,7 @@ fn share_of(packet: &Option<Packet>) -> Result<Option<Packet>, OutOfMemory>
     }
 }
 
-/// Where what was made for a set stands.
+/// The place of what was made for a set.
 fn place_in(made: &Vec<Made>, caps: Caps) -> Option<usize>
     ensures { result ≡ position (λ m. same_caps m.caps caps) made.now.items }
 {

@@ -1,6 +1,6 @@
-//! The keys by which clients asked to join channels, and which of them the network confirmed.
+//! The keys by which channels were asked to be joined, and which of them the network confirmed.
 
-ghost use Rattle.std.specs.Prelude.{◌≡◌, ◌<◌, ◌+◌, ◌∷◌, ◌&&◌, [], true, IfNone, IfOk, IfSome, OnOk};
+ghost use Rattle.std.specs.Prelude.{◌≡◌, ◌<◌, ◌+◌, ◌∷◌, ◌&&◌, [], true, IfNone, IfOk, IfSome, OnOk, Some};
 ghost use Rattle.std.specs.Prelude.{length, map, not, option_map};
 ghost use Rattle.std.specs.List.{list_any};
 ghost use Rattle.std.specs.Option.{option_map_or};
@@ -16,7 +16,7 @@ use std::alloc::Global;
 /// How many keys can wait for the network's answer.
 const ASKED_LIMIT: usize = 64;
 
-/// A channel, and a key by which a client asked to join it.
+/// A channel, and a key by which it was asked to be joined.
 #[derive(Drop)]
 pub struct JoinKey {
     pub name: Vec<u8>,
@@ -189,6 +189,22 @@ pub fn asked_for(
 {
     let mut new = copy_all(alloc, keys)?;
     ask_all(alloc, &mut new, mapping, line.param(0), line.param(1))?;
+    Ok(new)
+}
+
+/// The keys once this one is asked for the channel of this name.
+pub fn expected(
+    alloc: Global,
+    keys: &Vec<JoinKey>,
+    mapping: CaseMapping,
+    name: &[u8],
+    key: &[u8],
+) -> Result<Vec<JoinKey>, OutOfMemory>
+    ensures { IfOk result (λ new. join_keys new.items
+        ≡ ask mapping (name.now, Some key.now) (join_keys keys.now.items)) }
+{
+    let mut new = copy_all(alloc, keys)?;
+    ask(alloc, &mut new, mapping, name, Some(key))?;
     Ok(new)
 }
 

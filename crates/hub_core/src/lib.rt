@@ -27,6 +27,7 @@ mod upkeep;
 mod wishes;
 
 pub use attach::{AttachError, NoSession};
+pub use detach::Seen;
 pub use forgetting::ForgetFault;
 pub use history::CapacityError;
 pub use hub::{Hub, HubError, Past, Pumped, Setup};

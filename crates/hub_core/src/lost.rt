@@ -28,7 +28,7 @@ use std::alloc::Global;
 pub struct LostChannel {
     /// Its name.
     pub name: Vec<u8>,
-    /// Its key, the parameter of its mode `k`, where it had one (RFC 2811, section 4.2.10).
+    /// Its key, the parameter of its mode `k`, if it had one (RFC 2811, section 4.2.10).
     pub key: Option<Vec<u8>>,
 }
 
@@ -47,7 +47,7 @@ pub enum Settled<'a> {
     All,
 }
 
-/// The place after `j`, where this letter stands: letters rise, so it is no greater than 256.
+/// The place after `j`, where this letter is: letters rise, so it is no greater than 256.
 fn place_after(j: usize, letter: u8) -> usize
     requires { j ≤ letter }
     ensures next { result ≡ j + 1 }
@@ -72,7 +72,7 @@ pub fn channel_key<V: NetworkView>(view: &V, i: usize) -> Option<&[u8]>
     None
 }
 
-/// Adds the channel at place `i`, where there is one.
+/// Adds the channel at place `i`, if there is one.
 fn push_channel<V: NetworkView>(
     alloc: Global,
     channels: &mut Vec<LostEntry>,

@@ -33,7 +33,7 @@ impl<V: NetworkView + Drop, I: Inlet> Hub<V, I, MemoryOutlet> {
     }
 
     /// Takes up to `most` packets out of a session's outlet, oldest first; answers how many, 0
-    /// where no session has the number. They stay to be read there. After a refusal nothing has
+    /// if no session has the number. They stay to be read there. After a refusal nothing has
     /// changed.
     pub fn drain_session(&mut self, id: SessionId, most: usize) -> Result<usize, OutOfMemory>
         ensures ok { IfOk result (λ taken. DrainsAt self.old id most taken self.new) }

@@ -1,9 +1,11 @@
 //! Which items are messages, and how these are kept.
 
 ghost use Rattle.std.specs.Prelude.{ℕ, ◌≡◌, IfErr, IfOk, IfSome, IsSome, OnErr, OnOk, is_some};
+ghost use Rattle.std.specs.Prelude.{option_map};
+ghost use Rattle.std.specs.Option.{option_and_then};
 ghost use Rattle.net_view.specs.Arrival.{arrival_of};
-ghost use Rattle.history.specs.Entry.{IsWrittenEntry};
-ghost use Rattle.history.specs.Keeping.{kept_by};
+ghost use Rattle.history.specs.Entry.{IsWrittenEntry, in_ring};
+ghost use Rattle.history.specs.Keeping.{kept_by, ring_heard};
 ghost use Rattle.hub_core.specs.Pumping.{entry_for, entry_kept, with_entry};
 
 use crate::hub::HubError;
@@ -23,21 +25,41 @@ pub fn is_kept(keeping: &Keeping, item: &Item) -> bool
     }
 }
 
-/// The entry of an item, if it is a message.
-pub fn entry_of(alloc: Global, item: &Item, moment: Moment) -> Result<Option<Entry>, OutOfMemory>
-    ensures made { IfOk result (λ entry. entry ≡ entry_for (arrival_of item.now, moment.0)) }
+/// The name of the person in whose ring an item is kept that was heard, if it is a message; `None` if
+/// that is the ring of its target.
+pub fn ring_heard<'i>(keeping: &Keeping, item: &'i Item) -> Option<&'i [u8]>
+    ensures { (moment : ℕ) → option_map (λ name. name.now) result ≡ option_and_then
+        (ring_heard (kept_by keeping.now)) (entry_for (arrival_of item.now, moment)) }
+{
+    match item {
+        Item::Line(line) => keeping.ring_heard(line),
+        Item::Lost => None,
+    }
+}
+
+/// The entry of an item, if it is a message, in the ring of a person of this name, or in that of its
+/// target.
+pub fn entry_of(
+    alloc: Global,
+    ring: Option<&[u8]>,
+    item: &Item,
+    moment: Moment,
+) -> Result<Option<Entry>, OutOfMemory>
+    ensures made { IfOk result (λ entry. entry
+        ≡ option_map (in_ring (option_map (λ name. name.now) ring.entry))
+        (entry_for (arrival_of item.now, moment.0))) }
     ensures written { IfOk result (λ entry. IfSome entry IsWrittenEntry) }
 {
     match item {
         Item::Line(line) => {
             let time = shown_time(line, moment);
-            Entry::of_message(alloc, &time, line)
+            Entry::of_message_in(alloc, ring, &time, line)
         }
         Item::Lost => Ok(None),
     }
 }
 
-/// Keeps a message, where there is one. That there is a number for it is for the caller to see to.
+/// Keeps a message, if there is one. The caller ensures that there is a number for it.
 /// After an error nothing has changed.
 pub fn keep(history: &mut History, entry: Option<Entry>) -> Result<(), HubError>
     requires { IsSome entry → IsSome history.old.next }

@@ -7,7 +7,7 @@ ghost use Rattle.hub_core.specs.Pumping.{Puts};
 use hub_ends::Outlet;
 use welcome::Packet;
 
-/// Puts a packet, where there is one and there is room for it.
+/// Puts a packet, if there is one and there is room for it.
 pub fn put<O: Outlet>(outlet: &mut O, packet: Option<Packet>)
     ensures { Puts O.alone (O.state outlet.old) packet (O.state outlet.new) }
 {

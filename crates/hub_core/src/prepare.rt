@@ -5,7 +5,7 @@ ghost use Rattle.std.specs.Prelude.{if◌then◌else◌};
 ghost use Rattle.std.specs.Prelude.{OnOk, map, option_map};
 ghost use Rattle.std.specs.List.{AllByRecursion};
 ghost use Rattle.net_view.specs.Arrival.{arrival_of};
-ghost use Rattle.history.specs.Entry.{IsWrittenEntry};
+ghost use Rattle.history.specs.Entry.{IsWrittenEntry, in_ring};
 ghost use Rattle.hub_core.specs.Given.{all_sets_but, given_but, packet_for, sets_but};
 ghost use Rattle.hub_core.specs.Insides.{state_of};
 ghost use Rattle.hub_core.specs.Pumping.{entry_for};
@@ -20,7 +20,7 @@ use hub_ends::{Outlet, SessionId};
 use net_view::{NetworkView, OutOfMemory};
 use welcome::Packet;
 
-/// What one session is to be sent of an item; nothing, where it is the one left out.
+/// What one session is to be sent of an item; nothing, if it is the one left out.
 fn coming_for<V: NetworkView, O: Outlet>(
     incoming: &Incoming<'_, V>,
     session: &Session<O>,
@@ -71,19 +71,22 @@ fn prepare<V: NetworkView, O: Outlet>(
 }
 
 /// Makes what an item leads to: what each session but one is to be sent, and the entry of a
-/// message, if it is to be kept. Nothing is sent yet, and no date is formatted for what is not kept.
+/// message, if it is to be kept, in the ring of a person of this name, or in that of its target.
+/// Nothing is sent yet, and no date is formatted for what is not kept.
 pub fn prepare_item<V: NetworkView, O: Outlet>(
     incoming: &Incoming<'_, V>,
     sessions: &mut Vec<Session<O>>,
     history: &History,
     except: Option<SessionId>,
     is_kept: bool,
+    ring: Option<&[u8]>,
     made: &mut Vec<Made>,
 ) -> Result<Option<Entry>, HubError>
     ensures states { map (state_of O.state) sessions.new.items
         ≡ map (state_of O.state) sessions.old.items }
-    ensures made { IfOk result (λ entry. entry ≡ (if is_kept then
-        entry_for (arrival_of incoming.now.item.now, incoming.now.moment.0) else None)) }
+    ensures made { IfOk result (λ entry. entry ≡ (if is_kept
+        then option_map (in_ring (option_map (λ name. name.now) ring.entry))
+        (entry_for (arrival_of incoming.now.item.now, incoming.now.moment.0)) else None)) }
     ensures written { IfOk result (λ entry. IfSome entry IsWrittenEntry) }
     ensures coming { OnOk result (AllByRecursion (λ s. s.coming
         ≡ given_but except (packet_for (V.view incoming.now.view.now)
@@ -102,6 +105,6 @@ pub fn prepare_item<V: NetworkView, O: Outlet>(
     if !is_kept {
         return Ok(None);
     }
-    let entry = entry_of(incoming.alloc, incoming.item, incoming.moment)?;
+    let entry = entry_of(incoming.alloc, ring, incoming.item, incoming.moment)?;
     Ok(entry)
 }

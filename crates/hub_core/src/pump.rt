@@ -22,7 +22,7 @@ use crate::image_table::{Made, images_of};
 use crate::incoming::Incoming;
 use crate::key_news::news_of;
 use crate::lost::{LostChannels, LostEntry, drop_named, lost_by, renew, settled_by};
-use crate::messages::{is_kept, keep};
+use crate::messages::{is_kept, keep, ring_heard};
 use crate::outlets::put;
 use crate::prepare::prepare_item;
 use crate::session::Session;
@@ -129,7 +129,8 @@ fn prepare_arrival<V: NetworkView, O: Outlet>(
         (history.now.next ≡ None)) }
 {
     let is_kept = is_kept(keeping, incoming.item);
-    let entry = prepare_item(incoming, sessions, history, None, is_kept, made)?;
+    let ring = ring_heard(keeping, incoming.item);
+    let entry = prepare_item(incoming, sessions, history, None, is_kept, ring, made)?;
     let pong = pong_of(incoming.alloc, incoming.item)?;
     let new = lost_by(incoming.alloc, incoming.view, incoming.item, lost)?;
     Ok((entry, pong, new))
@@ -138,12 +139,12 @@ fn prepare_arrival<V: NetworkView, O: Outlet>(
 impl<V: NetworkView + Drop, I: Inlet, O: Outlet> Hub<V, I, O> {
     /// Tries the held item, or else takes the next one from the inlet. For a line, each session is
     /// sent its image, as its client's capabilities have it, by the view before the line; a message
-    /// is kept, if the profile keeps it; a PING puts a PONG with its parameters into the outlet to the network, where there
-    /// is room. For a loss each session is sent that we leave the channels. A session whose outlet
-    /// has no room is cut.
+    /// is kept, if the profile keeps it, in its ring; a PING puts a PONG with its parameters into the
+    /// outlet to the network, if there is room. For a loss each session is sent that we leave the
+    /// channels. A session whose outlet has no room is cut.
     ///
     /// After an error the item is held and nothing else has changed; the next pump tries it again.
-    /// `Spent` comes exactly where the item is a message to be kept for which there is no number, and
+    /// `Spent` comes exactly if the item is a message to be kept for which there is no number, and
     /// before memory is asked for. `OutOfMemory` if an allocation was refused.
     pub fn pump(&mut self) -> Result<Pumped, HubError>
         ensures step { Pumps I.alone O.alone self.old result self.new }

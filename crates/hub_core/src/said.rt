@@ -54,7 +54,7 @@ pub enum Meant {
     Quits,
     /// Nothing: PASS, USER, PONG, AUTHENTICATE, CAP END.
     Nothing,
-    /// It is answered by us: PING, and CAP but for END.
+    /// It is answered by us: PING, and CAP except END.
     Asks,
     /// It is for the network.
     Forwards,
@@ -139,12 +139,14 @@ impl<V: NetworkView + Drop, I: Inlet, O: Outlet> Hub<V, I, O> {
             item: &own,
             moment,
         };
+        let ring = self.profile.keeping.ring_said(line);
         let entry = prepare_item(
             &incoming,
             &mut self.sessions,
             &self.history,
             Some(id),
             true,
+            ring,
             &mut self.made,
         )?;
         keep(&mut self.history, entry)?;
@@ -185,17 +187,17 @@ impl<V: NetworkView + Drop, I: Inlet, O: Outlet> Hub<V, I, O> {
     }
 
     /// Does what a line that the session's client said asks for. PING and CAP are answered to the
-    /// session, but for CAP END; it is cut where its outlet has no room for the answer. A CAP REQ is
-    /// granted where it can be taken; where the capabilities are others then, the catch-up stands
+    /// session, except CAP END; it is cut if its outlet has no room for the answer. A CAP REQ is
+    /// granted if it can be taken; if the capabilities are others then, the catch-up comes
     /// after the answer, in one packet. What is for
     /// the network goes there without tags and source; a message, which is PRIVMSG or NOTICE with
-    /// two parameters, goes to each other session too, as its client reads it, and is kept: if the profile
-    /// keeps it.
+    /// two parameters, goes to each other session too, as its client reads it, and is kept, in the
+    /// ring of its target: if the profile keeps it.
     ///
     /// After `Quit` the caller detaches the session. After `NoSession`, `Offline` and `Busy`, and
-    /// after an error, nothing has changed. `Spent` comes exactly where we are online and the line
-    /// is a message to be kept for which there is no number, and before memory is asked for. `OutOfMemory` is
-    /// told where an allocation was refused.
+    /// after an error, nothing has changed. `Spent` comes exactly if we are online and the line
+    /// is a message to be kept for which there is no number, and before memory is asked for.
+    /// `OutOfMemory` is reported if an allocation was refused.
     pub fn said(&mut self, id: SessionId, line: &Line, moment: Moment) -> Result<Said, HubError>
         ensures { Says O.alone self.old id line.now moment.0 result self.new }
     {

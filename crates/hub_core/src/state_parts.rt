@@ -24,14 +24,14 @@ pub struct StatePart {
     pub packet: Packet,
 }
 
-/// Where the state part for a set stands.
+/// The place of the state part for a set.
 fn place_in(parts: &Vec<StatePart>, caps: Caps) -> Option<usize>
     ensures { result ≡ position (λ p. same_caps p.caps caps) parts.now.items }
 {
     parts.iter().position(|part| part.caps == caps)
 }
 
-/// A share of the state part that is kept for a set, where there is one.
+/// A share of the state part that is kept for a set, if there is one.
 fn kept_for<V: NetworkView>(view: &V, parts: &Vec<StatePart>, caps: Caps) -> Option<Packet>
     requires { AreStateParts (V.view view.now) parts.now.items }
     ensures { IfSome result (λ packet. packet ≡ state_part_of (V.view view.now) caps) }
@@ -43,7 +43,7 @@ fn kept_for<V: NetworkView>(view: &V, parts: &Vec<StatePart>, caps: Caps) -> Opt
     }
 }
 
-/// Keeps a state part, if memory allows. Where as many are kept as there may be, the one that was
+/// Keeps a state part, if memory allows. If the most that there may be are kept, the one that was
 /// made first goes.
 fn keep_part(parts: &mut Vec<StatePart>, caps: Caps, packet: &Packet)
     ensures { (view : View) → AreStateParts view parts.old.items →

@@ -41,7 +41,7 @@ fn is_nearly_full<O: Outlet>(session: &mut Session<O>) -> bool
     session.outlet.free() < (session.outlet.capacity() / 4).max(1)
 }
 
-/// Adds a number, where it is to be added.
+/// Adds a number, if it is to be added.
 fn push_if(numbers: &mut Vec<SessionId>, number: SessionId, is: bool) -> Result<(), OutOfMemory>
     ensures { IfOk result (λ u. numbers.new.items
         ≡ numbers.old.items ++ (if is then number ∷ [] else [])) }
@@ -72,8 +72,8 @@ fn all_nearly_full<O: Outlet>(
 }
 
 impl<V: NetworkView + Drop, I: Inlet, O: Outlet> Hub<V, I, O> {
-    /// Puts `PING bnc` into the outlet to the network, where we are online and there is room, and
-    /// answers whether it did. The answer of the network, a PONG, is for nobody. After
+    /// Puts `PING bnc` into the outlet to the network, if we are online and there is room, and
+    /// answers whether it did. The answer of the network, a PONG, goes to nobody. After
     /// `OutOfMemory`, which is the answer if an allocation was refused, nothing was put.
     pub fn keepalive(&mut self) -> Result<bool, OutOfMemory>
         ensures { KeepsAlive O.alone self.old result self.new }
@@ -115,8 +115,8 @@ impl<V: NetworkView + Drop, I: Inlet, O: Outlet> Hub<V, I, O> {
 
     /// The numbers of the sessions whose outlets have less room than for a quarter of the packets
     /// that they hold at most, or for none, in the order in which the sessions were attached.
-    /// `OutOfMemory` if an allocation was refused. Nothing changes, but that more room
-    /// may be known of.
+    /// `OutOfMemory` if an allocation was refused. Nothing changes, except that more room
+    /// may be known.
     pub fn nearly_full(&mut self) -> Result<Vec<SessionId>, OutOfMemory>
         ensures hub { Frees O.alone self.old self.new }
         ensures numbers { IfOk result (λ numbers. numbers.items ≡ nearly_full self.new.sessions) }
@@ -125,8 +125,8 @@ impl<V: NetworkView + Drop, I: Inlet, O: Outlet> Hub<V, I, O> {
     }
 
     /// How many more packets there is room for in the outlet to the network, as far as is known: 0
-    /// where it is full or closed. Each line that goes to the network is one packet. Nothing
-    /// changes, but that more room may be known of.
+    /// if it is full or closed. Each line that goes to the network is one packet. Nothing
+    /// changes, except that more room may be known.
     pub fn upstream_free(&mut self) -> usize
         ensures hub { Stays O.alone self.old self.new }
         ensures value { result ≡ self.new.upstream.free }

@@ -1,3 +1,4 @@
 pub mod Came
 pub mod Outlets
 pub mod Memory
+pub mod Packets

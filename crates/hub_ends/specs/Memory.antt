@@ -33,6 +33,6 @@ state_of o = record {
 abbrev pub pending_of : MemoryOutlet → ℕ
 pending_of o = deque_len o.waiting
 
--- what is free after so many were taken out
+-- what is free after this many were taken out
 abbrev pub drained_from : MemoryOutlet → ℕ → ℕ
 drained_from o taken = cond (is_some o.closed) 0 (free_of o + taken)

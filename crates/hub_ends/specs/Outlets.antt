@@ -11,11 +11,11 @@ pub record OutletState : Type 0 where
   pub capacity : ℕ
   pub free : ℕ
 
--- an outlet for so many packets, to which nothing was sent
+-- an outlet for this many packets, to which nothing was sent
 abbrev pub new_outlet : ℕ → OutletState
 new_outlet capacity = record { sent = []; closed = None; capacity = capacity; free = capacity }
 
--- It took a packet. Of its room at most one place is gone; where room comes by its own end alone,
+-- It took a packet. Of its room at most one place is gone; if room comes by its own end alone,
 -- exactly one.
 pub record Took (alone : Bool) (o : OutletState) (packet : List Parts) (o' : OutletState) : Type 0 where
   pub sent : o'.sent ≡ o.sent ++ packet ∷ []
@@ -24,7 +24,7 @@ pub record Took (alone : Bool) (o : OutletState) (packet : List Parts) (o' : Out
   pub more : o.free ≤ o'.free + 1
   pub room : alone ≡ true → o.free ≡ o'.free + 1
 
--- It is as it was, but that more room may be known of in it; where room comes by its own end alone,
+-- It is as it was, except that more room may be known in it; if room comes by its own end alone,
 -- no more is.
 pub record FindsRoom (alone : Bool) (o o' : OutletState) : Type 0 where
   pub sent : o'.sent ≡ o.sent

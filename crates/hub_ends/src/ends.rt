@@ -6,9 +6,9 @@ ghost use Rattle.std.specs.Prelude.{MatchOption};
 ghost use Rattle.hub_ends.specs.Came.{Came, came};
 ghost use Rattle.hub_ends.specs.Outlets.{FindsRoom, OutletState, Took};
 
+use crate::packet::Packet;
 use client_caps::Moment;
 use net_view::Item;
-use welcome::Packet;
 
 /// The number of a session. Numbers rise by one, and none is given twice.
 pub type SessionId = u64;
@@ -25,7 +25,7 @@ pub trait Inlet: Drop {
     /// Whether items come by calls on this end alone, so that all that will come is known.
     ghost alone: { Bool };
 
-    /// Takes the next item; `None` where there is none for now.
+    /// Takes the next item; `None` if there is none for now.
     fn next(&mut self) -> Option<(Item, Moment)>
         ensures { MatchOption result
             ((taken self.new ≡ taken self.old) × (ahead self.old ≡ []) × (ahead self.new ≡ []))
@@ -60,7 +60,7 @@ pub trait Outlet: Drop {
         ensures value { IsTrue result ↔ (0 < (state self.new).free) }
         ensures found { FindsRoom alone (state self.old) (state self.new) };
 
-    /// Sends a packet, or hands it back where the outlet is full. It waits for nobody.
+    /// Sends a packet, or hands it back if the outlet is full. It waits for nobody.
     fn offer(&mut self, packet: Packet) -> Result<(), Packet>
         ensures taken { OnOk result (Took alone (state self.old) packet (state self.new)) }
         ensures full { IfErr result (λ p. (p ≡ packet) × (state self.new ≡ state self.old) ×

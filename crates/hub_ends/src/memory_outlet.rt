@@ -7,9 +7,9 @@ ghost use Rattle.std.specs.VecDeque.{deque_len, deque_capacity};
 
 use crate::OutOfMemory;
 use crate::ends::{Outlet, SessionId};
+use crate::packet::Packet;
 use std::alloc::Global;
 use std::collections::VecDeque;
-use welcome::Packet;
 
 /// A bounded queue of packets, with those that were taken out, which are kept for good.
 #[derive(Drop)]

@@ -1,10 +1,12 @@
 -- What happened, and what is answered, computed at lists of deeds, the newest first, and of events.
 use Rattle.hub_runs.specs.declared.event.Event.TheVariants as on
 use Rattle.hub_core.specs.declared.attach.AttachError.TheVariants as refused
+use Rattle.hub_core.specs.declared.detach.Seen.TheVariants as seen
 use Prim.Native.String.{String}
 use Rattle.client_caps.specs.{Caps.no_caps, Request.request_of}
 use Rattle.client_caps.specs.declared.moment.Moment.{Moment}
 use Rattle.hub_core.specs.declared.hub.Pumped.TheVariants.{Taken}
+use Rattle.hub_core.specs.Attaching.{left_by}
 use Rattle.hub_core.specs.States.{whole_profile}
 use Rattle.hub_ends.specs.Came.{Came}
 use Rattle.hub_runs.specs.Course.{Asked, Deed, Joined, Took, held_since, session_then}
@@ -54,6 +56,20 @@ boundaries : (held_since 1 came ≡ 1)
 unfolding request_of
 boundaries = (refl, refl, refl, refl)
 
+-- ---- the mark that a session leaves
+
+-- by what its client has seen, the number of the last message, and the mark of before
+marks_left : (left_by seen.All (Some 9) (Some 3) ≡ Some 9)
+    × (left_by seen.All None (Some 3) ≡ None)
+    × (left_by (seen.UpTo (Some 5)) (Some 9) (Some 3) ≡ Some 5)
+    × (left_by (seen.UpTo (Some 2)) (Some 9) (Some 3) ≡ Some 3)
+    × (left_by (seen.UpTo (Some 12)) (Some 9) (Some 3) ≡ Some 9)
+    × (left_by (seen.UpTo (Some 5)) (Some 9) None ≡ Some 5)
+    × (left_by (seen.UpTo (Some 12)) (Some 9) None ≡ Some 9)
+    × (left_by (seen.UpTo (Some 5)) None (Some 3) ≡ None)
+    × (left_by (seen.UpTo None) (Some 9) (Some 3) ≡ None)
+marks_left = (refl, refl, refl, refl, refl, refl, refl, refl, refl)
+
 -- ---- answers
 
 -- two messages of each target are kept, the next session is 7, and the outlet to the network has
@@ -76,3 +92,12 @@ attached_and_detached : (bytes : Vec ℕ Global) (m : Moment)
     ∷ OfDetach true ∷ OfDetach false ∷ []
 unfolding told state_lines mapping_of set_tokens
 attached_and_detached bytes m is = rw is refl
+
+-- the same of a session that is left
+attached_and_left : (bytes : Vec ℕ Global) (m : Moment)
+    → bytes.items ≡ codes ":s 001 Me :hi\r\n:s 376 Me :end\r\n"
+    → replies_of setup (on.Up bytes m ∷ on.Attach no_caps None 8 ∷ on.Leave 7 (Some 5)
+    ∷ on.Leave 7 None ∷ [])
+    ≡ OfLines (Taken 0 ∷ Taken 0 ∷ []) ∷ OfAttach (Ok 7) ∷ OfDetach true ∷ OfDetach false ∷ []
+unfolding told state_lines mapping_of set_tokens
+attached_and_left bytes m is = rw is refl

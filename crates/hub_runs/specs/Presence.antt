@@ -23,19 +23,19 @@ put_in None o = Some o
 put_in (Some packet) o = if nat_lt o.1 o.0 then Some (o.0, o.1 + 1) else None
 
 -- The outlet of the session of a number. Its burst waits in it first. There is none before the
--- session attaches, and none after it is detached or cut.
+-- session attaches, and none after it went or was cut.
 abbrev pub outlet_then : ℕ → List Deed → Option (ℕ × ℕ)
 outlet_then id [] = None
 outlet_then id (Joined k name caps capacity ∷ older) =
     cond (k == id) (Some (capacity, 1)) (outlet_then id older)
-outlet_then id (Left k ∷ older) = cond (k == id) None (outlet_then id older)
+outlet_then id (Left k seen ∷ older) = cond (k == id) None (outlet_then id older)
 outlet_then id (Drew k count ∷ older) =
     option_map (λ (o : ℕ × ℕ). (o.0, cond (k == id) (o.1 - count) o.1)) (outlet_then id older)
 outlet_then id (Drained count ∷ older) = outlet_then id older
 outlet_then id (d ∷ older) =
     option_and_then (put_in (given_then id older d)) (outlet_then id older)
 
--- whether the session of a number is there: it attached, and was neither detached nor cut since
+-- whether the session of a number is there: it attached, and neither went nor was cut since
 abbrev pub is_there : ℕ → List Deed → Bool
 is_there id deeds = is_some (outlet_then id deeds)
 

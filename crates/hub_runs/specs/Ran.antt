@@ -26,8 +26,8 @@ use Rattle.hub_runs.specs.Transcripts.{transcript_of}
 use Rattle.hub_runs.specs.Worlds.{AllHappen, RestsAt, Stops, WorldState, numbers_given}
 use Rattle.hub_runs.specs.Worlds.{rest_after}
 
--- After so many events a run ends: all of them are done; or it stops at the next one, of which
--- these items were taken.
+-- After this many events a run ends: all of them are done; or it stops at the next one, and these
+-- items of that one were taken.
 abbrev pub EndsAt : List Event → ℕ → Option Stop → WorldState → List Came → WorldState → Type 0
 EndsAt events done None last taken world =
     (done ≡ length events) × (taken ≡ []) × (world ≡ last)
@@ -36,7 +36,7 @@ EndsAt events done (Some s) last taken world =
     (world.gone ≡ last.gone) × RestsAt e last.rest world.rest
 
 -- Nothing was before: no message, mark or name. Of the messages that come the last ones are kept,
--- of which the first has this number.
+-- and the first that is kept has this number.
 abbrev pub none_before : ProfileParts → ℕ → ℕ → Before
 none_before profile capacity first = record {
   profile = profile;
@@ -54,7 +54,7 @@ before_of start = record {
   names = fin.keys start.marks;
 }
 
--- a message more is kept behind the others
+-- a message more is kept after the others
 abbrev pub KeepsOn : (List EntryParts → Messages) → Type 0
 KeepsOn kept = (ms : List EntryParts) (e : Option EntryParts) → (IsSome e → IsSome (kept ms).next)
     → with_entry (kept ms) e ≡ kept (ms ++ option_to_list e)
@@ -88,7 +88,7 @@ pub record RanFrom (b : Before) (start : WorldState) (events : List Event) (done
   -- the hub took the transcript of the events done and what was taken of the next, each line with
   -- the moment at which its LF came
   pub heard_all : less world.hub.taken world.hub.held ≡ transcript_of (take done events) ++ taken
-  -- so did what happened, by which all below is told
+  -- so did what happened, by which all below is stated
   pub deeds_are : reverse (came_back
       (with_items (deeds_of (limits_from b start.hub) (take done events)) taken))
       ≡ transcript_of (take done events) ++ taken
@@ -110,7 +110,7 @@ pub record RanFrom (b : Before) (start : WorldState) (events : List Event) (done
   -- the outlets of the sessions that were detached were sent their packets up to then
   pub gone : map (λ (o : OutletState). o.sent) world.gone ≡ gone_with b
       (deeds_of (limits_from b start.hub) (take done events))
-  -- behind the last LF stood what the pieces since the last loss left
+  -- after the last LF is what the pieces since the last loss left
   pub rest : last.rest ≡ rest_after [] (take done events)
   -- the numbers of sessions rise by one from the first, so none was given twice
   pub numbers : (first : ℕ) → start.hub.next ≡ Some first

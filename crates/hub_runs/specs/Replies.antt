@@ -13,6 +13,7 @@ use Rattle.history.specs.Keeping.{Kept}
 use Rattle.hub_ends.specs.Came.{Came}
 use Rattle.hub_core.specs.declared.attach.AttachError.{AttachError}
 use Rattle.hub_core.specs.declared.attach.AttachError.TheVariants as refused
+use Rattle.hub_core.specs.declared.detach.Seen.TheVariants as seen
 use Rattle.hub_core.specs.declared.hub.HubError.{HubError}
 use Rattle.hub_core.specs.declared.hub.HubError.TheVariants as fault
 use Rattle.hub_core.specs.declared.hub.Pumped.{Pumped}
@@ -37,7 +38,7 @@ use Rattle.hub_runs.specs.Worlds.{lines_at, name_of, rest_behind}
 -- ---- answers
 
 -- What an event was answered: what the hub did of each line, and of a loss; the number of a client
--- that attached, or why there is none; whether a session was detached; what was done of a line; how
+-- that attached, or why there is none; whether there was a session to go; what was done of a line; how
 -- many packets were taken out.
 pub data Answer : Type 0 where
   OfLines : List Pumped → Answer
@@ -61,15 +62,15 @@ spoken k v id line moment =
     if is_message line && not (is_spread_by k v line) then Passed id line
     else Spoke id line moment
 
--- what has happened after an event, by what it was answered, where these bytes had come behind the
--- last LF
+-- what has happened after an event, by its answer, if these bytes had come after the last LF
 abbrev pub with_event : Kept → List Deed → List ℕ → Event → Answer → List Deed
 with_event k older rest (on.Up bytes moment) _ =
     with_items older (lines_at (rest ++ bytes.items) moment.0)
 with_event k older rest (on.Lost moment) _ = Took (Lost, moment.0) ∷ older
 with_event k older rest (on.Attach caps name capacity) (OfAttach (Ok id)) =
     Joined id (name_of name) caps capacity ∷ older
-with_event k older rest (on.Detach id) (OfDetach true) = Left id ∷ older
+with_event k older rest (on.Detach id) (OfDetach true) = Left id seen.All ∷ older
+with_event k older rest (on.Leave id number) (OfDetach true) = Left id (seen.UpTo number) ∷ older
 with_event k older rest (on.Said id line moment) (OfLine (Ok said.Forwarded)) =
     spoken k (view_then older) id line moment.0 ∷ older
 with_event k older rest (on.Said id line moment) (OfLine (Ok said.Answered)) = Asked id line ∷ older
@@ -149,7 +150,7 @@ module _ (l : Limits) where
   said_then deeds id line =
       if is_there id deeds then said_by (meaning line) deeds id line else Ok said.NoSession
 
-  -- What an event is answered after all this, when these bytes have come behind the last LF. A
+  -- The answer to an event after all this, when these bytes have come after the last LF. A
   -- failed allocation is no answer: there a run stops.
   abbrev pub answer_to : List Deed → List ℕ → Event → Answer
   answer_to deeds rest (on.Up bytes moment) =
@@ -158,6 +159,7 @@ module _ (l : Limits) where
   answer_to deeds rest (on.Attach caps name capacity) =
       OfAttach (attach_then deeds (name_of name) capacity)
   answer_to deeds rest (on.Detach id) = OfDetach (is_there id deeds)
+  answer_to deeds rest (on.Leave id number) = OfDetach (is_there id deeds)
   answer_to deeds rest (on.Said id line moment) = OfLine (said_then deeds id line)
   answer_to deeds rest (on.Drained (Some id) most) = OfDrain (min most (waits id deeds))
   answer_to deeds rest (on.Drained None most) = OfDrain (min most (waiting l.upstream deeds))

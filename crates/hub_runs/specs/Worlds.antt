@@ -1,4 +1,4 @@
--- What events do to a hub over ends in memory: there each step is told by the state before it.
+-- What events do to a hub over ends in memory: there the state before a step determines the step.
 use Rattle.std.specs.Prelude.{◌≡◌, ◌⊎◌, ℕ, List, [], ◌∷◌, ◌++◌, Option, None, Some, Bool, true}
 use Rattle.std.specs.Prelude.{false, map, Ok, Err}
 use Rattle.std.specs.List.{filter_map}
@@ -24,7 +24,9 @@ use Rattle.history.specs.Marks.{NameMarks}
 use Rattle.history.specs.Messages.{Messages}
 use Rattle.hub_core.specs.States.{HubState, ProfileParts, started_by, started_new, whole_profile}
 use Rattle.hub_core.specs.Pumping.{Pumps}
-use Rattle.hub_core.specs.Attaching.{Attaches, Detaches, Lacks, Refuses}
+use Rattle.hub_core.specs.Attaching.{Attaches, Goes, Lacks, Refuses}
+use Rattle.hub_core.specs.declared.detach.Seen.{Seen}
+use Rattle.hub_core.specs.declared.detach.Seen.TheVariants as seen
 use Rattle.hub_core.specs.Saying.{Says}
 use Rattle.hub_core.specs.InMemory.{DrainsAt, DrainsUpstream, with_ahead}
 use Rattle.hub_runs.specs.declared.event.Event.{Event}
@@ -36,7 +38,7 @@ use Rattle.hub_runs.specs.declared.outcome.StartError.TheVariants as cause
 use Rattle.hub_runs.specs.declared.outcome.Stop.{Stop}
 use Rattle.hub_runs.specs.declared.outcome.Stop.TheVariants as stop
 
--- what there is between events: the hub, the bytes behind the last LF of the open stretch, and the
+-- what there is between events: the hub, the bytes after the last LF of the open stretch, and the
 -- outlets of the sessions that were detached, in order
 pub record WorldState : Type 0 where
   pub hub : HubState
@@ -63,7 +65,7 @@ abbrev pub beginning : ℕ → ℕ → ℕ → ℕ → WorldState
 beginning history first_number first_session upstream_capacity =
     beginning_by whole_profile history first_number first_session upstream_capacity
 
--- what a run begins with that goes on from these messages, the next of which has this number, these
+-- what a run begins with that goes on from these messages, whose next one has this number, these
 -- marks, and these channels that are to be joined again
 abbrev pub beginning_from : ProfileParts → Messages → ℕ → NameMarks → List (Text × Option Text)
     → ℕ → ℕ → WorldState
@@ -106,6 +108,14 @@ name_of name = option_map (λ (n : Vec ℕ Global). n.items) name
 
 -- ---- events that are done
 
+-- a session goes, and its client has seen this, by the answer to that
+abbrev pub Went : Seen → ℕ → Reply → WorldState → WorldState → Type 0
+Went seen id (reply.Detach (Ok _)) old new =
+    (o : OutletState) × Goes seen old.hub id o o.closed new.hub ×
+    (new.rest ≡ old.rest) × (new.gone ≡ old.gone ++ o ∷ [])
+Went seen id (reply.Detach (Err _)) old new = Lacks id old.hub.sessions × (new ≡ old)
+Went seen id _ old new = ⊥
+
 -- what an event does, by what it was answered
 abbrev pub Happens : Event → Reply → WorldState → WorldState → Type 0
 Happens (on.Up bytes moment) (reply.Up pumped) old new =
@@ -120,10 +130,8 @@ Happens (on.Attach caps name capacity) (reply.Attach (Ok id)) old new =
 Happens (on.Attach caps name capacity) (reply.Attach (Err e)) old new =
     Refuses old.hub (name_of name) (new_outlet capacity) e × (e ≡ refused.OutOfMemory → ⊥) ×
     (new ≡ old)
-Happens (on.Detach id) (reply.Detach (Ok _)) old new =
-    (o : OutletState) × Detaches old.hub id o o.closed new.hub ×
-    (new.rest ≡ old.rest) × (new.gone ≡ old.gone ++ o ∷ [])
-Happens (on.Detach id) (reply.Detach (Err _)) old new = Lacks id old.hub.sessions × (new ≡ old)
+Happens (on.Detach id) r old new = Went seen.All id r old new
+Happens (on.Leave id number) r old new = Went (seen.UpTo number) id r old new
 Happens (on.Said id line moment) (reply.Said r) old new =
     Says true old.hub id line moment.0 r new.hub × (r ≡ Err fault.OutOfMemory → ⊥) ×
     (new.rest ≡ old.rest) × (new.gone ≡ old.gone)
@@ -187,7 +195,7 @@ abbrev pub is_over : Event → List ℕ → Bool
 is_over (on.Up bytes moment) rest = is_too_long (rest ++ bytes.items)
 is_over _ rest = false
 
--- the bytes behind the last LF after an event, and after events
+-- the bytes after the last LF after an event, and after events
 abbrev pub rest_behind : List ℕ → Event → List ℕ
 rest_behind rest (on.Up bytes moment) = rest_of (rest ++ bytes.items)
 rest_behind rest (on.Lost moment) = []
@@ -197,7 +205,7 @@ abbrev pub rest_after : List ℕ → List Event → List ℕ
 rest_after rest [] = rest
 rest_after rest (e ∷ es) = rest_after (rest_behind rest e) es
 
--- where a run stops at an event: those before it or, where it was cut into lines, those after it
+-- where a run stops at an event: those before it or, if it was cut into lines, those after it
 abbrev pub RestsAt : Event → List ℕ → List ℕ → Type 0
 RestsAt e old new = (new ≡ old) ⊎ (new ≡ rest_behind old e)
 
@@ -206,7 +214,7 @@ abbrev pub DoesNothing : HubState → List Came → HubState → Type 0
 DoesNothing old taken new = (taken ≡ []) × (new ≡ old)
 
 -- A run stops at an event: of the items that it brings these were taken, and no more was done. It
--- is `TooLong` exactly where a line is; else an item was refused, or there was no memory.
+-- is `TooLong` exactly if a line is; else an item was refused, or there was no memory.
 abbrev pub Stops : Event → Stop → WorldState → List Came → HubState → Type 0
 Stops e stop.TooLong old taken new = (is_over e old.rest ≡ true) × DoesNothing old.hub taken new
 Stops e stop.Spent old taken new =

@@ -3,14 +3,17 @@
 ghost use Rattle.std.specs.Prelude.{ℕ, ◌≡◌, List, IfErr, IfOk, OnErr, map, option_map};
 ghost use Rattle.hub_ends.specs.Came.{Came};
 ghost use Rattle.hub_ends.specs.Outlets.{OutletState};
+ghost use Rattle.hub_core.specs.Attaching.{Goes, Lacks};
+ghost use Rattle.hub_ends.specs.Memory.{state_of};
 ghost use Rattle.hub_runs.specs.declared.event.Event.TheVariants as on;
-ghost use Rattle.hub_runs.specs.Worlds.{Happens, RestsAt, Stops, name_of, outlets_of, world_of};
+ghost use Rattle.hub_runs.specs.Worlds.{Happens, RestsAt, Stops, Went, name_of, outlets_of};
+ghost use Rattle.hub_runs.specs.Worlds.{world_of};
 
 use crate::event::Event;
 use crate::items::{take_in, take_lines};
 use crate::outcome::{MemoryHub, Reply, Stop, World};
 use client_caps::{Caps, Moment};
-use hub_core::{AttachError, HubError, NoSession};
+use hub_core::{AttachError, HubError, NoSession, Seen};
 use hub_ends::{MemoryOutlet, SessionId};
 use irc_line::{Line, Splitter};
 use net_view::{Item, NetworkView};
@@ -90,20 +93,37 @@ fn join<V: NetworkView + Drop>(
     }
 }
 
-/// A session goes, and its outlet is kept.
+/// A session goes, and its client has seen this.
+fn end<V: NetworkView + Drop>(
+    hub: &mut MemoryHub<V>,
+    id: SessionId,
+    seen: Seen,
+) -> Result<MemoryOutlet, NoSession>
+    ensures ok { IfOk result (λ o.
+        Goes seen hub.old id (state_of o) (state_of o).closed hub.new) }
+    ensures err { OnErr result ((hub.new ≡ hub.old) × Lacks id hub.old.sessions) }
+{
+    match seen {
+        Seen::All => hub.detach(id),
+        Seen::UpTo(number) => hub.leave(id, number),
+    }
+}
+
+/// A session goes, and its client has seen this; its outlet is kept.
 fn leave<V: NetworkView + Drop>(
     hub: &mut MemoryHub<V>,
     id: SessionId,
+    seen: Seen,
     gone: &mut Vec<MemoryOutlet>,
 ) -> Result<Reply, Stop>
-    ensures ok { (rest : List ℕ) → IfOk result (λ r. Happens (on.Detach id) r
+    ensures ok { (rest : List ℕ) → IfOk result (λ r. Went seen id r
         (world_of hub.old rest (outlets_of gone.old.items))
         (world_of hub.new rest (outlets_of gone.new.items))) }
     ensures err { IfErr result (λ s. (s ≡ Stop.Memory) × (hub.new ≡ hub.old) ×
         (gone.new.items ≡ gone.old.items)) }
 {
     gone.reserve(1)?;
-    match hub.detach(id) {
+    match end(hub, id, seen) {
         Ok(outlet) => {
             gone.push_reserved(outlet);
             Ok(Reply::Detach(Ok(())))
@@ -166,7 +186,10 @@ pub fn apply<V: NetworkView + Drop>(
         Event::Up(bytes, moment) => up(alloc, &mut world.hub, &mut world.splitter, bytes, *moment),
         Event::Lost(moment) => lose(alloc, &mut world.hub, &mut world.splitter, *moment),
         Event::Attach(caps, name, capacity) => join(alloc, &mut world.hub, *caps, name, *capacity),
-        Event::Detach(id) => leave(&mut world.hub, *id, &mut world.gone),
+        Event::Detach(id) => leave(&mut world.hub, *id, Seen::All, &mut world.gone),
+        Event::Leave(id, number) => {
+            leave(&mut world.hub, *id, Seen::UpTo(*number), &mut world.gone)
+        }
         Event::Said(id, line, moment) => hear(&mut world.hub, *id, line, *moment),
         Event::Drained(id, most) => drain(&mut world.hub, *id, *most),
     }

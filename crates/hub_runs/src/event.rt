@@ -11,14 +11,17 @@ pub enum Event {
     Up(Vec<u8>, Moment),
     /// The connection to the network is lost. A line that is not at its end is dropped.
     Lost(Moment),
-    /// A client attaches, with these capabilities and this name or none, to an outlet for so many
+    /// A client attaches, with these capabilities and this name or none, to an outlet for this many
     /// packets at a time.
     Attach(Caps, Option<Vec<u8>>, usize),
     /// The session of a number goes.
     Detach(SessionId),
+    /// The session of a number goes since its client vanished, which has surely seen the messages up
+    /// to a number, if one is known.
+    Leave(SessionId, Option<u64>),
     /// The client of a session says a line.
     Said(SessionId, Line, Moment),
-    /// Up to so many packets are taken out of the outlet of a session, or with `None` out of the
+    /// Up to this many packets are taken out of the outlet of a session, or with `None` out of the
     /// outlet to the network.
     Drained(Option<SessionId>, usize),
 }

@@ -20,11 +20,11 @@ pub enum Reply {
     Lost(Pumped),
     /// The number of the new session, or why there is none.
     Attach(Result<SessionId, AttachError>),
-    /// Whether there was such a session.
+    /// Whether there was such a session, to detach or to leave.
     Detach(Result<(), NoSession>),
     /// What was done of the line, or why it was refused.
     Said(Result<Said, HubError>),
-    /// How many packets were taken out: 0 where no session has the number.
+    /// How many packets were taken out: 0 if no session has the number.
     Drained(usize),
 }
 
@@ -98,7 +98,7 @@ pub struct Run<V: NetworkView + Drop> {
     pub done: usize,
     /// What there is after them, and after the lines that were already taken of the next one.
     pub world: World<V>,
-    /// Why it stopped; `None` where all events are done.
+    /// Why it stopped; `None` if all events are done.
     pub stopped_by: Option<Stop>,
 }
 

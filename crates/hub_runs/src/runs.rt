@@ -24,7 +24,7 @@ use irc_line::Splitter;
 use net_view::NetworkView;
 use std::alloc::Global;
 
-/// What a run of so many events begins with.
+/// What a run of this many events begins with.
 fn begin<V: NetworkView + Drop>(
     alloc: Global,
     view: V,
@@ -55,7 +55,7 @@ fn begin<V: NetworkView + Drop>(
     })
 }
 
-/// What a run of so many events begins with that goes on from what was kept.
+/// What a run of this many events begins with that goes on from what was kept.
 fn begin_from<V: NetworkView + Drop>(
     alloc: Global,
     view: V,
@@ -122,12 +122,12 @@ fn go_on<V: NetworkView + Drop>(alloc: Global, world: World<V>, events: &[Event]
 }
 
 /// Runs events over a hub whose ends are in memory. It begins with this view, to which nothing
-/// came, and with an outlet to the network for so many packets at a time.
+/// came, and with an outlet to the network for this many packets at a time.
 ///
-/// It stops at an event for which memory is refused, at a message from the network for which no
-/// number is left, and at more bytes without LF than a line may have; then the world stands after
-/// the events done and the lines that were already taken of the next one. All other refusals are
-/// replies. A refusal to start drops the view; `BadCapacity` comes exactly where the setup's
+/// It stops at an event for which an allocation is refused, at a message from the network for which
+/// no number is left, and at more bytes without LF than a line may have; then the world is as it is
+/// after the events done and the lines that were already taken of the next one. All other refusals
+/// are replies. A refusal to start drops the view; `BadCapacity` comes exactly if the setup's
 /// history is 0 or above 10,000.
 pub fn run<V: NetworkView + Drop>(
     alloc: Global,

@@ -74,7 +74,7 @@ last_read {u = u} {v = v} {w = w} piece cause.OutOfMemory r read h = record {
 }
 last_read piece end r read h = absurd h
 
--- the piece that was refused stands behind all bytes, of which the splitter holds the rest
+-- the piece that was refused comes after all bytes, of which the splitter holds the rest
 ends_anew : {A : Type 0} (goes_on : Type 0) (answers : A → Type 0) (u w : Option (List ℕ))
     (bytes : List ℕ) (t : Pending) (end : InputEnd A) → t ≡ fed start bytes
     → is_too_long bytes ≡ false → EndsBy goes_on answers u w bytes t.rest end

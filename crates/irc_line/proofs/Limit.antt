@@ -1,4 +1,4 @@
--- Whether too many bytes stand without LF, found from the last LF within reach.
+-- Whether too many bytes come without LF, found from the last LF within reach.
 use Rattle.irc_line.{proofs.Segments.{segments-behind, segments-some}, specs.Lines.HasNoLf}
 use Rattle.irc_line.specs.Lines.{is_too_long, line_limit, rest_of, segments_of, the_last}
 use Rattle.std.proofs.Common.{Bool, List, [], add-one, arith, drop, drop-cons, false, get_or}
@@ -10,13 +10,13 @@ use Rattle.std.specs.{List.list_any, Prelude.{nat_lt, ◌||◌}}
 abbrev pub is_long : List ℕ → Bool
 is_long segment = nat_lt line_limit (length segment)
 
--- whether one of the segments is too long, where `held` bytes stand before the first
+-- whether one of the segments is too long, if `held` bytes come before the first
 abbrev pub is_over : ℕ → List (List ℕ) → Bool
 is_over held [] = false
 is_over held (segment ∷ others) =
     nat_lt line_limit (held + length segment) || list_any is_long others
 
--- bytes behind bytes without LF
+-- bytes after bytes without LF
 pub is_too_long-behind : (held bytes : List ℕ) → HasNoLf held →
     is_too_long (held ++ bytes) ≡ is_over (length held) (segments_of bytes)
 is_too_long-behind held bytes clean =
@@ -50,7 +50,7 @@ over-long held front after clean h =
     let cut = segments-behind front after s.first s.others clean s.whole in
     grind (arith, nat_tests, length-append)
 
--- what stands before an LF within reach is passed over
+-- what comes before an LF within reach is passed over
 pub over-passed : (held : ℕ) (front after : List ℕ) → held + length front ≤ line_limit →
     is_over held (segments_of (front ++ 10 ∷ after)) ≡ is_over 0 (segments_of after)
 over-passed held [] after h = over-lf held after (omega arith)
@@ -58,7 +58,7 @@ over-passed held (b ∷ bs) after h =
     let s = segments-some (bs ++ 10 ∷ after) in
     grind (arith, nat_tests, over-lf, over-byte, over-passed 0 bs after, over-passed (held + 1) bs after)
 
--- where nothing is too long, the rest is not
+-- if nothing is too long, the rest is not
 last-short : (first : List ℕ) (others : List (List ℕ)) → list_any is_long (first ∷ others) ≡ false →
     length (the_last (first ∷ others)) ≤ line_limit
 last-short first [] e = grind (arith, nat_tests)
@@ -67,7 +67,7 @@ last-short first (next ∷ others) e = grind (arith, last-short next others)
 pub rest_short : (bytes : List ℕ) → is_too_long bytes ≡ false → length (rest_of bytes) ≤ line_limit
 rest_short bytes e = let s = segments-some bytes in grind (arith, last-short)
 
--- bytes none of which is an LF, by their places
+-- bytes without an LF among them, by their places
 pub no-lf : (bytes : List ℕ) → ((k : ℕ) → k < length bytes → (get_or bytes k 0 == 10) ≡ false) →
     HasNoLf bytes
 no-lf [] h = tt

@@ -3,7 +3,7 @@ use Rattle.{irc_line.specs.Line.Parts, std.proofs.Common.{List, [], add-one, app
 use Rattle.std.proofs.Common.{drop, get_or, length, take, ℕ, ◌++◌, ◌+◌, ◌<◌, ◌∷◌}
 use Rattle.std.proofs.{Common.◌≡◌, Math.Seq.drop-cons, lemmas.List.{take-append-drop, take_more}}
 
--- a line more, behind those before
+-- a line more, after those before
 pub behind : (before done lines : List Parts) (line : Parts) → lines ≡ done ++ line ∷ []
     → before ++ lines ≡ (before ++ done) ++ line ∷ []
 behind before done lines line is = rw (is, append_assoc)

@@ -1,4 +1,4 @@
--- Small facts on Bool and Option. Those of std stand here too, so that a crate has one place to cite.
+-- Small facts on Bool and Option. Those of std are here too, so that a crate has one place to cite.
 use Rattle.std.proofs.Common.{Bool, None, Option, arith, false, is_some, suc, true, ℕ, ◌&&◌, ◌==◌}
 use Rattle.std.{proofs.{Common.{◌||◌, ◌≡◌}, lemmas.Bool.Decides.nat_tests}, specs.Option.option_or}
 pub use Rattle.std.proofs.lemmas.Bool.{and_from, and_parts, cases_Bool, not-false, not-true}

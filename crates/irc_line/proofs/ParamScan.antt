@@ -37,7 +37,7 @@ pub params-none : (text front : List ℕ) → front ≡ trimmed text → length 
 params-none text [] is none = cc (params-trimmed text)
 params-none text (b ∷ bs) is none = absurd (omega arith)
 
--- behind a colon all is one parameter
+-- after a colon all is one parameter
 pub params-trailing : (text front : List ℕ) → front ≡ trimmed text → 0 < length front →
     get_or front 0 0 ≡ 58 → params_at false text ≡ drop 1 front ∷ []
 params-trailing text [] is some colon = absurd (omega arith)

@@ -13,7 +13,7 @@ any_but_last [] h = refl
 any_but_last (x ∷ []) h = refl
 any_but_last (x ∷ y ∷ others) h = grind (arith, any_but_last (y ∷ others))
 
--- where no line was too long, it is the rest with what comes that can be
+-- if no line was too long, it is the rest with what comes that can be
 pub long_more : (s : Pending) (a b : List ℕ) → s ≡ fed start a → is_too_long a ≡ false
     → is_too_long (a ++ b) ≡ is_too_long (s.rest ++ b)
 long_more s a b at h =

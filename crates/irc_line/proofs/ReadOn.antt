@@ -1,4 +1,4 @@
--- What a rest without LF and a piece behind it hold, from the first LF of the piece on.
+-- What a rest without LF and a piece after it hold, from the first LF of the piece on.
 use Rattle.irc_line.proofs.Segments.{lines-at, lines-none, rest-at, rest-none, segments-behind}
 use Rattle.irc_line.proofs.Segments.{skipped-at, skipped-none}
 use Rattle.irc_line.specs.{Line.Parts, Lines.{HasNoLf, is_skipped, lines_of, rest_of, segments_of}}

@@ -7,7 +7,7 @@ use Rattle.irc_line.proofs.Logic.{cases_Bool}
 use Rattle.std.proofs.lemmas.{List.{Splits.slice_split_first, Sums.sum_by-cons}}
 use Rattle.std.specs.{List.{position, position_or_len, slice_split}, Prelude.option_to_list}
 
--- the parts of a text go on behind the first such byte
+-- the parts of a text go on after the first such byte
 pub split-at : (byte : ℕ) (bytes : List ℕ) (n : ℕ) → position (λ b. b == byte) bytes ≡ Some n →
     slice_split (λ b. b == byte) bytes
     ≡ take n bytes ∷ slice_split (λ b. b == byte) (drop (n + 1) bytes)
@@ -38,7 +38,7 @@ segments-some (b ∷ bs) =
       | inr e ↦ record { first = b ∷ more.first; others = more.others; whole = grind arith }
     ]
 
--- the first segment of bytes behind bytes without LF begins with these
+-- the first segment of bytes after bytes without LF begins with these
 pub segments-behind : (held bytes first : List ℕ) (others : List (List ℕ)) → HasNoLf held →
     segments_of bytes ≡ first ∷ others → segments_of (held ++ bytes) ≡ (held ++ first) ∷ others
 segments-behind [] bytes first others clean e = e
@@ -51,7 +51,7 @@ pub segments-append : (a b : List ℕ) →
 segments-append [] b = refl
 segments-append (c ∷ cs) b = let s = segments-some cs in grind (arith, segments-append cs b)
 
--- what stands behind the last LF has none
+-- the text after the last LF has none
 pub rest_clean : (bytes : List ℕ) → HasNoLf (rest_of bytes)
 rest_clean [] = tt
 rest_clean (b ∷ bs) = let s = segments-some bs in grind (arith, rest_clean bs)

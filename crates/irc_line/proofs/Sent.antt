@@ -1,4 +1,4 @@
--- What a writer got, one write behind the other.
+-- What a writer got, one write after the other.
 use Rattle.irc_line.specs.{Line.Parts, Writing.{bytes_of, written}}
 use Rattle.std.proofs.{Common.{List, ◌++◌, ◌≡◌}, lemmas.List.Concat.flat_map-append}
 

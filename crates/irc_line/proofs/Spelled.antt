@@ -82,7 +82,7 @@ longer-gap [] b g e = absurd g
 longer-gap (c ∷ []) b g e = (g.0, (e, tt))
 longer-gap (c ∷ d ∷ ds) b g e = (g.0, longer-gap (d ∷ ds) b g.1 e)
 
--- the parameters behind a gap, and those behind the rest of a word
+-- the parameters after a gap, and those after the rest of a word
 params-spell : (text : List ℕ) →
     ((gap : List ℕ) → IsGap gap → SpellsParams (params_at false text) (gap ++ text))
     × SpellsParams (params_at false (after_token text)) (after_token text)
@@ -144,7 +144,7 @@ pub one-line : (line other : Parts) (text : List ℕ) → Spells line text → S
     line ≡ other
 one-line line other text s t = cc (spelled-read line text s, spelled-read other text t)
 
--- what is told of a read by its value, told by the grammar
+-- what is said of a read by its value, said by the grammar
 pub found-of : {E : Type 0} (read : Result (Option Parts) E) (text : List ℕ) →
     IfOk read (λ line. line ≡ line_of text) → IfOk read (λ line. IfSome line (λ l. Spells l text))
 found-of read text is = grind (arith, line-spelled)

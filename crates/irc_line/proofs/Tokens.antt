@@ -6,7 +6,7 @@ use Rattle.std.proofs.Common.{length-append, refl, suc, take, ℕ, ◌++◌, ◌
 use Rattle.std.proofs.lemmas.{Bool.Decides.nat_tests, List.{drop_all, drop_at, take_all}}
 use Rattle.std.specs.List.{position, position_or_len}
 
--- a token and what is behind it are the text
+-- a token and what is after it are the text
 pub token-append : (text : List ℕ) → token text ++ after_token text ≡ text
 token-append [] = refl
 token-append (b ∷ bs) = grind (arith, token-append bs)
@@ -23,7 +23,7 @@ token-is : (text : List ℕ) → (take (position_or_len is_space text) text ≡ 
 token-is [] = (refl, refl)
 token-is (b ∷ bs) = grind (arith, take-one, drop-one, token-is bs)
 
--- where there is no space, all of the text is a token
+-- if there is no space, all of the text is a token
 pub token-whole : (text : List ℕ) → position is_space text ≡ None →
     (text ≡ token text) × ([] ≡ after_token text)
 token-whole text e = let at = token-is text in grind (arith, nat_tests, take_all, drop_all)
@@ -32,7 +32,7 @@ pub token-at : (text : List ℕ) (n : ℕ) → position is_space text ≡ Some n
     (take n text ≡ token text) × (drop n text ≡ after_token text)
 token-at text n e = let at = token-is text in grind (arith, nat_tests)
 
--- one text stands at the end of the other
+-- one text is at the end of the other
 pub record EndsIn (text end : List ℕ) : Type 0 where
   pub front : List ℕ
   pub whole : front ++ end ≡ text

@@ -1,4 +1,4 @@
--- Lines that are written one behind the other are a stream of these lines.
+-- Lines that are written one after the other are a stream of these lines.
 use Rattle.irc_line.proofs.{Again.IsClean, Making.{writable-again, writable-spells}}
 use Rattle.irc_line.{proofs.Streams.made-of, specs.{Line.{Parts, is_line_byte}, Lines.HasNoLf}}
 use Rattle.irc_line.specs.{Lines.{lines_of, with_lf, without_cr}, Reading.line_of}

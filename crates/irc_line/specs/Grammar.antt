@@ -8,9 +8,9 @@
 --     middle   = 1*(any byte but SP), not beginning with ":"
 --     trailing = *(any byte)
 --
--- No byte is NUL, CR or LF. Our own choices: spaces may stand at the front, more than one between
--- parts, and there is no limit to the number of parameters (RFC 2812 has fifteen) nor here to a
--- line's length.
+-- No byte is NUL, CR or LF. Our own choices: spaces may come at the front, more than one between
+-- parts, and neither the number of parameters (RFC 2812 has fifteen) nor, here, a line's length is
+-- limited.
 use Rattle.std.specs.Prelude.{◌≡◌, ℕ, true, false, IsTrue, ◌⊎◌, ◌==◌, List, [], ◌∷◌, ◌++◌, Option}
 use Rattle.std.specs.Prelude.{Some, None}
 use Rattle.std.specs.List.{AllByRecursion}
@@ -40,7 +40,7 @@ SpellsMarked mark None text = text ≡ []
 SpellsMarked mark (Some part) text =
     IsToken part × (gap : List ℕ) × IsGap gap × (text ≡ mark ∷ (part ++ gap))
 
--- the text behind a command: each parameter behind a gap, the last perhaps behind a colon
+-- the text after a command: each parameter after a gap, the last perhaps after a colon
 abbrev pub SpellsParams : List (List ℕ) → List ℕ → Type 0
 SpellsParams [] text = AreSpaces text
 SpellsParams (param ∷ params) text = (gap : List ℕ) × IsGap gap × (

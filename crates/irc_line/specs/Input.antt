@@ -7,8 +7,8 @@ use Rattle.irc_line.specs.Lines.{Pending, fed, fed_all, is_too_long, lines_all, 
 use Rattle.irc_line.specs.declared.input.InputEnd.{InputEnd}
 use Rattle.irc_line.specs.declared.input.InputEnd.TheVariants as cause
 
--- What came of one piece more, behind these lines: `goes_on` says of what takes the lines that it
--- goes on, having taken these, and `answers` that it answered at one of them.
+-- What came of one piece more, after these lines: `goes_on` says that what takes the lines goes on,
+-- having taken these, and `answers` that it answered at one of them.
 abbrev pub IsTaken : {A : Type 0} → (List Parts → Type 0) → (List Parts → A → Type 0)
     → List Parts → Pending → List ℕ → Pending → Option (InputEnd A) → Type 0
 IsTaken goes_on answers before old piece new None =
@@ -23,8 +23,8 @@ IsTaken goes_on answers before old piece new (Some cause.OutOfMemory) =
     (new ≡ old) × (is_too_long (old.rest ++ piece) ≡ false) × goes_on before
 IsTaken goes_on answers before old piece new (Some _) = ⊥
 
--- Why an input was read no further, where these bytes were taken before: what takes the lines
--- answered, or it goes on. `held` is what the last piece then stands behind.
+-- Why an input was read no further, if these bytes were taken before: what takes the lines
+-- answered, or it goes on. `held` is what the last piece then comes after.
 abbrev pub EndsBy : {A : Type 0} → Type 0 → (A → Type 0) → Option (List ℕ) → Option (List ℕ)
     → List ℕ → List ℕ → InputEnd A → Type 0
 EndsBy goes_on answers began left bytes held (cause.Answered answer) =
@@ -41,7 +41,7 @@ EndsBy goes_on answers began left bytes held cause.OutOfMemory =
     (piece : List ℕ) × Consumes began left (bytes ++ piece)
     × (is_too_long (held ++ piece) ≡ false) × goes_on
 
--- An input was read: the lines of these pieces, one behind the other, and the splitter's rest were
+-- An input was read: the lines of these pieces, one after the other, and the splitter's rest were
 -- taken, and nothing of the piece that was refused, if any.
 pub record WasRead {A : Type 0} (goes_on : List Parts → Type 0)
     (answers : List Parts → A → Type 0) (old new : Pending) (began left : Option (List ℕ))

@@ -16,7 +16,7 @@ pub record Parts : Type 0 where
 abbrev pub is_space : ℕ → Bool
 is_space b = b == 32
 
--- what may stand in a line: all but NUL, CR and LF (RFC 2812, section 2.3.1: nospcrlfcl)
+-- the bytes that a line may have: all but NUL, CR and LF (RFC 2812, section 2.3.1: nospcrlfcl)
 abbrev pub is_line_byte : ℕ → Bool
 is_line_byte b = not (b == 0 || b == 10 || b == 13)
 
@@ -26,7 +26,7 @@ is_command text =
     (not (length text == 0) && list_all is_ascii_alphabetic text)
     || (length text == 3 && list_all is_ascii_digit text)
 
--- the nick of a source: what stands before its first `!`, else before its first `@`, else all of it
+-- the nick of a source: the text before its first `!`, else before its first `@`, else all of it
 -- (RFC 2812, section 2.3.1: prefix)
 abbrev pub nick_of : List ℕ → List ℕ
 nick_of source =

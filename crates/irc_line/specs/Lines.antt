@@ -6,7 +6,7 @@ use Rattle.std.specs.List.{AllByRecursion, list_any, filter_map, slice_split}
 use Rattle.irc_line.specs.Line.{Parts}
 use Rattle.irc_line.specs.Reading.{is_line, line_of, trimmed}
 
--- what stands between the LFs, in order; the last stands behind the last LF
+-- the texts between the LFs, in order; the last one is after the last LF
 abbrev pub segments_of : List ℕ → List (List ℕ)
 segments_of bytes = slice_split (λ b. b == 10) bytes
 
@@ -31,7 +31,7 @@ with_lf segment = segment ++ 10 ∷ []
 abbrev pub ended_of : List ℕ → List (List ℕ)
 ended_of bytes = all_but_last (segments_of bytes)
 
--- what stands behind the last LF: the beginning of a line, perhaps
+-- the text after the last LF: the beginning of a line, perhaps
 abbrev pub rest_of : List ℕ → List ℕ
 rest_of bytes = the_last (segments_of bytes)
 
@@ -57,16 +57,16 @@ is_skipped text = not (is_line text) && not (is_blank text)
 abbrev pub skipped_of : List ℕ → ℕ
 skipped_of bytes = count_by (λ segment. is_skipped (without_cr segment)) (ended_of bytes)
 
--- how many bytes may stand without LF (RFC 2812, section 2.3, has 512 with CR LF; this limit is our
+-- how many bytes may come without LF (RFC 2812, section 2.3, has 512 with CR LF; this limit is our
 -- own)
 abbrev pub line_limit : ℕ
 line_limit = 16384
 
--- whether somewhere more bytes than that stand without LF
+-- whether more bytes than that come without LF anywhere
 abbrev pub is_too_long : List ℕ → Bool
 is_too_long bytes = list_any (λ segment. nat_lt line_limit (length segment)) (segments_of bytes)
 
--- what a splitter holds: the bytes behind the last LF, and how many segments it has skipped
+-- what a splitter holds: the bytes after the last LF, and how many segments it has skipped
 pub record Pending : Type 0 where
   pub rest : List ℕ
   pub skipped : ℕ
@@ -86,7 +86,7 @@ fed s piece =
       skipped = counted (s.skipped + skipped_of (s.rest ++ piece));
     }
 
--- the same after pieces one behind the other, and the lines that they gave
+-- the same after pieces one after the other, and the lines that they gave
 abbrev pub fed_all : Pending → List (List ℕ) → Pending
 fed_all s [] = s
 fed_all s (piece ∷ pieces) = fed_all (fed s piece) pieces

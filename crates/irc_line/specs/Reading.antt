@@ -10,33 +10,33 @@ abbrev pub trimmed : List ℕ → List ℕ
 trimmed [] = []
 trimmed (b ∷ bs) = if is_space b then trimmed bs else b ∷ bs
 
--- what stands before the first space
+-- the text before the first space
 abbrev pub token : List ℕ → List ℕ
 token [] = []
 token (b ∷ bs) = if is_space b then [] else b ∷ token bs
 
--- what stands from the first space on
+-- the text from the first space on
 abbrev pub after_token : List ℕ → List ℕ
 after_token [] = []
 after_token (b ∷ bs) = if is_space b then b ∷ bs else after_token bs
 
--- x, or y where the list is empty
+-- x, or y if the list is empty
 abbrev pub unless_empty : {X : Type 0} → List ℕ → X → X → X
 unless_empty [] x y = y
 unless_empty (b ∷ bs) x y = x
 
--- the part behind a mark, where the text begins with the mark and a part
+-- the part after a mark, if the text begins with the mark and a part
 abbrev pub marked : ℕ → List ℕ → Option (List ℕ)
 marked mark [] = None
 marked mark (b ∷ bs) = if b == mark then unless_empty (token bs) (Some (token bs)) None else None
 
--- what stands behind such a part, or the text where there is none
+-- the text after such a part, or all of the text if there is none
 abbrev pub after_marked : ℕ → List ℕ → List ℕ
 after_marked mark [] = []
 after_marked mark (b ∷ bs) =
     if b == mark then unless_empty (token bs) (trimmed (after_token bs)) (b ∷ bs) else b ∷ bs
 
--- The parameters behind a command. In a word the first is the rest of that word; a colon before a
+-- The parameters after a command. In a word the first is the rest of that word; a colon before a
 -- word makes all that follows one parameter.
 abbrev pub params_at : Bool → List ℕ → List (List ℕ)
 params_at true [] = [] ∷ []
@@ -48,7 +48,7 @@ params_at false (b ∷ bs) =
     if b == 58 then bs ∷ [] else
     onto_first b (params_at true bs)
 
--- a text from the place behind its tags, and from its command on
+-- a text from the place after its tags, and from its command on
 abbrev pub untagged : List ℕ → List ℕ
 untagged text = after_marked 64 (trimmed text)
 

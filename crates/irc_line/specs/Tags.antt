@@ -1,4 +1,4 @@
--- The time tag of a line (IRCv3 message-tags: tags are separated by `;`, a value stands behind `=`;
+-- The time tag of a line (IRCv3 message-tags: tags are separated by `;`, a value comes after `=`;
 -- IRCv3 server-time: `@time=YYYY-MM-DDThh:mm:ss.sssZ`).
 use Rattle.std.specs.Prelude.{ℕ, Bool, true, false, ◌&&◌, ◌==◌, nat_eq, List, [], ◌∷◌, Option, Some}
 use Rattle.std.specs.Prelude.{None, not, length, drop, find, codes, if◌then◌else◌}
@@ -20,7 +20,7 @@ value_behind front tags =
     option_map (λ tag. drop (length front) tag)
     (find (λ tag. starts_with nat_eq tag front) (tags_in tags))
 
--- whether the byte may stand where a form has this one: `d` (100) stands for a digit, any other for
+-- whether the byte may be where a form has this one: `d` (100) stands for a digit, any other for
 -- itself
 abbrev pub fits_form : ℕ → ℕ → Bool
 fits_form b form = if form == 100 then is_ascii_digit b else b == form
@@ -39,7 +39,7 @@ time_form = codes "dddd-dd-ddTdd:dd:dd.dddZ"
 abbrev pub time_value : List ℕ → Option (List ℕ)
 time_value value = if has_form time_form value then Some value else None
 
--- the value of the first `time=` among the line's tags, where it has the form of a time
+-- the value of the first `time=` among the line's tags, if it has the form of a time
 abbrev pub time_of : Parts → Option (List ℕ)
 time_of line =
     option_and_then (λ tags. option_and_then time_value (value_behind (codes "time=") tags))

@@ -9,11 +9,11 @@ abbrev pub is_word : List ℕ → Bool
 is_word [] = false
 is_word (b ∷ bs) = not (b == 58) && not (list_any is_space (b ∷ bs))
 
--- a parameter behind a space, with a colon where it is no word
+-- a parameter after a space, with a colon if it is no word
 abbrev pub param_text : List ℕ → List ℕ
 param_text param = 32 ∷ (if is_word param then param else 58 ∷ param)
 
--- tags or a source behind its mark, and a space
+-- tags or a source after its mark, and a space
 abbrev pub marked_text : ℕ → Option (List ℕ) → List ℕ
 marked_text mark None = []
 marked_text mark (Some part) = mark ∷ (part ++ 32 ∷ [])
@@ -28,7 +28,7 @@ text_of line =
 abbrev pub written : Parts → List ℕ
 written line = text_of line ++ (13 ∷ 10 ∷ [])
 
--- lines one behind the other
+-- lines one after the other
 abbrev pub bytes_of : List Parts → List ℕ
 bytes_of lines = flat_map written lines
 

@@ -12,7 +12,7 @@ use std::io::{Error, ErrorKind, Read};
 /// How many reads of an input there are at most.
 pub const READ_LIMIT: u64 = 1_000_000_000;
 
-/// Where a reading stands.
+/// The state of a reading.
 #[derive(Clone, Copy, Debug, PartialEq, Eq)]
 pub enum ReadPoint {
     /// Before a read.
@@ -29,7 +29,7 @@ pub trait LineTaker<A> {
     // From how it began, it ended so, with this answer, at one of these lines.
     ghost ends: { Self → List Parts → A → Self → Type 0 };
 
-    /// Takes the lines of the next piece; answers where it takes no more.
+    /// Takes the lines of the next piece; answers if it takes no more.
     fn take_lines(&mut self, lines: Vec<Line>) -> Option<A>
         ensures goes_on { (began : Self) (before : List Parts) → is_after began before self.old →
             IfNone result (is_after began (before ++ lines.items) self.new) }
@@ -49,7 +49,7 @@ pub enum InputEnd<A> {
     EndOfInput,
     /// A read failed.
     ReadFault(Error),
-    /// With the last piece, more than `LINE_LIMIT` bytes stand without LF.
+    /// With the last piece, more than `LINE_LIMIT` bytes come without LF.
     TooLong,
     /// An allocation was refused for the lines of the last piece.
     OutOfMemory,
@@ -57,7 +57,7 @@ pub enum InputEnd<A> {
     ReadsSpent,
 }
 
-/// Takes a piece: the lines that it completes. Answers why it is the last, where it is. Of a piece
+/// Takes a piece: the lines that it completes. Answers why it is the last, if it is. Of a piece
 /// that is refused no line is taken, and the splitter is as it was.
 fn take_piece<A, T: LineTaker<A>>(
     alloc: Global,

@@ -10,7 +10,7 @@ ghost use Rattle.irc_line.specs.Lines.{HasNoLf, with_lf, segments_of, ended_of, 
 ghost use Rattle.irc_line.specs.Lines.{skipped_of, start, fed, fed_all, lines_all};
 
 /// Any bytes are segments without LF, each with an LF after it, and then a rest without LF; and
-/// segments and a rest of which bytes are made in this way are the ones that are read off them.
+/// segments and a rest that make bytes in this way are the ones that are read off them.
 pub fn the_segments()
     ensures whole { (bytes : List ℕ) → flat_map with_lf (ended_of bytes) ++ rest_of bytes ≡ bytes }
     ensures without_lf { (bytes : List ℕ) → AllByRecursion HasNoLf (segments_of bytes) }
@@ -44,7 +44,7 @@ pub fn the_grammar()
         line ≡ other }
 {}
 
-/// Parts can be written and read back exactly where the test says so; and where it says no, there
+/// Parts can be written and read back exactly if the test says so; and if it says no, there
 /// is no text at all that is read as them. Lines written one after the other are a stream of them.
 pub fn what_is_written()
     ensures again { (line : Parts) →

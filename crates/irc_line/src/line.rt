@@ -31,7 +31,7 @@ use thiserror::Error;
 #[derive(Clone, Drop)]
 pub struct Line<A: Allocator = Global> {
     text: Vec<u8, A>,
-    // where the command stands
+    // where the command begins
     command_at: usize,
 }
 
@@ -53,7 +53,7 @@ impl<A: Allocator> Model for Line<A> {
 #[derive(Clone, Copy, Debug, PartialEq, Eq, Error)]
 pub enum MakeError {
     /// There is no text that is read as these parts: a part that holds a space, a NUL, a CR or an
-    /// LF where none may stand, an empty tag part or source, a command that is none, or a parameter
+    /// LF where none may be, an empty tag part or source, a command that is none, or a parameter
     /// before the last that is no word.
     #[error("not a line")]
     NotALine,
@@ -98,7 +98,7 @@ impl<A: Allocator> Line<A> {
         Ok(Some(Line { text, command_at }))
     }
 
-    /// The line that the text is, without its ending; `None` where the text is outside the grammar
+    /// The line that the text is, without its ending; `None` if the text is outside the grammar
     /// (RFC 2812, section 2.3.1; IRCv3 message-tags). One allocation, of the text's length.
     pub fn read(alloc: A, text: &[u8]) -> Result<Option<Line<A>>, OutOfMemory>
     where
@@ -106,7 +106,7 @@ impl<A: Allocator> Line<A> {
         ensures value { IfOk result (λ line. line ≡ line_of text.now) }
         // What is read is what the text spells.
         ensures found { IfOk result (λ line. IfSome line (λ l. Spells l text.now)) }
-        // Nothing is read only where the text spells no line.
+        // Nothing is read only if the text spells no line.
         ensures none { IfOk result (λ line. IfNone line ((l : Parts) → Spells l text.now → ⊥)) }
     {
         Line::<A>::parse(alloc, text)
@@ -142,7 +142,7 @@ impl<A: Allocator> Line<A> {
     }
 
     /// A line of these parts, without tags, as in `:a PRIVMSG #c :hi all`. `NotALine` comes exactly
-    /// where no text is read as these parts, and before memory is asked for.
+    /// if no text is read as these parts, and before memory is asked for.
     pub fn make(
         alloc: A,
         source: Option<&[u8]>,
@@ -178,8 +178,8 @@ impl<A: Allocator> Line<A> {
     }
 
     /// A copy of the line over another allocator, with these tags, or none, in place of its own.
-    /// That the tags are no empty text and hold no space, NUL, CR or LF is for the caller to see
-    /// to. One allocation.
+    /// The caller ensures that the tags are no empty text and hold no space, NUL, CR or LF.
+    /// One allocation.
     pub fn copy_tagged_in<B: Allocator>(
         &self,
         alloc: B,
@@ -201,8 +201,8 @@ impl<A: Allocator> Line<A> {
     }
 
     /// A line of the same parameters over another allocator, with this source, or none, this
-    /// command and no tags. That the source is no empty text and holds no space, NUL, CR or LF, and
-    /// that the command is one, is for the caller to see to. One allocation.
+    /// command and no tags. The caller ensures that the source is no empty text and holds no space,
+    /// NUL, CR or LF, and that the command is one. One allocation.
     pub fn copy_as_in<B: Allocator>(
         &self,
         alloc: B,
@@ -242,7 +242,7 @@ impl<A: Allocator> Line<A> {
         split_marked(b':', rest).0
     }
 
-    /// The nick of the source: what stands before its first `!`, else before its first `@`, else
+    /// The nick of the source: the text before its first `!`, else before its first `@`, else
     /// all of it.
     pub fn source_nick(&self) -> Option<&[u8]>
         ensures { option_map (λ part. part.now) result ≡ option_map nick_of self.now.source }
@@ -290,8 +290,9 @@ impl<A: Allocator> Line<A> {
         count_params(split_token(&self.text[self.command_at..]).1)
     }
 
-    /// The value of the first `time=` among the tags, where it has the form
-    /// `2020-01-02T03:04:05.678Z` (IRCv3 server-time); that the numbers name a moment is not asked.
+    /// The value of the first `time=` among the tags, if it has the form
+    /// `2020-01-02T03:04:05.678Z` (IRCv3 server-time); that the numbers name a moment is not
+    /// checked.
     pub fn time_tag(&self) -> Option<&[u8]>
         ensures { option_map (λ value. value.now) result ≡ time_of self.now }
     {
@@ -333,7 +334,7 @@ impl<A: Allocator> Line<A> {
         Ok(())
     }
 
-    /// Appends the line and CR LF. A colon stands before the last parameter only where that is
+    /// Appends the line and CR LF. The last parameter gets a colon only if it is
     /// empty, begins with a colon or holds a space. After an error `out` is unchanged.
     #[tactic(auto, using(crate::proofs::Making::value_again))]
     pub fn write<B: Allocator>(&self, out: &mut Vec<u8, B>) -> Result<(), OutOfMemory>
@@ -353,7 +354,7 @@ impl<A: Allocator> Line<A> {
 }
 
 impl<A: Allocator + Copy> Line<A> {
-    /// Gives the line these tags, or none, in place of its own. `NotALine` comes exactly where the
+    /// Gives the line these tags, or none, in place of its own. `NotALine` comes exactly if the
     /// tags are empty or hold a space, a NUL, a CR or an LF, and before memory is asked for. After
     /// an error the line is unchanged.
     pub fn set_tags(&mut self, tags: Option<&[u8]>) -> Result<(), MakeError>

@@ -21,7 +21,7 @@ pub fn trim(text: &[u8]) -> &[u8]
     rest
 }
 
-/// Where the first such byte stands.
+/// Where the first such byte is.
 #[tactic(auto, using(crate::proofs::First::first_position))]
 pub fn place_of(byte: u8, text: &[u8]) -> Option<usize>
     ensures place { result ≡ position (λ b. b == byte) text.now }
@@ -30,7 +30,7 @@ pub fn place_of(byte: u8, text: &[u8]) -> Option<usize>
     memchr(byte, text)
 }
 
-/// What stands before the first such byte, and what follows it.
+/// The text before the first such byte, and the text after it.
 pub fn split_byte(byte: u8, text: &[u8]) -> Option<(&[u8], &[u8])>
     ensures none { IfNone result (slice_split (λ b. b == byte) text.now ≡ text.now ∷ []) }
     ensures some { IfSome result
@@ -42,7 +42,7 @@ pub fn split_byte(byte: u8, text: &[u8]) -> Option<(&[u8], &[u8])>
     Some((&text[..end], &text[end + 1..]))
 }
 
-/// What stands before the first space, and what stands from it on.
+/// The text before the first space, and the text from it on.
 pub fn split_token(text: &[u8]) -> (&[u8], &[u8])
     ensures before { result.0.now ≡ token text.now }
     ensures after { result.1.now ≡ after_token text.now }

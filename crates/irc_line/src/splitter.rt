@@ -16,14 +16,14 @@ use std::alloc::{AllocFailed, Allocator, Global};
 use std::marker::Model;
 use thiserror::Error;
 
-/// How many bytes may stand before LF. RFC 2812, section 2.3, allows 512 with CR LF; this limit is
+/// How many bytes may come before LF. RFC 2812, section 2.3, allows 512 with CR LF; this limit is
 /// our own.
 pub const LINE_LIMIT: usize = 16_384;
 
 /// Why a piece was not taken.
 #[derive(Clone, Copy, Debug, PartialEq, Eq, Error)]
 pub enum FeedError {
-    /// With the piece, more than `LINE_LIMIT` bytes stand without LF.
+    /// With the piece, more than `LINE_LIMIT` bytes come without LF.
     #[error("line too long")]
     TooLong,
     /// An allocation was refused.
@@ -45,7 +45,7 @@ impl From<OutOfMemory> for FeedError {
 /// is dropped (RFC 2812, section 2.3).
 #[derive(Drop)]
 pub struct Splitter<A: Allocator = Global> {
-    // what stands after the last LF
+    // the text after the last LF
     rest: Vec<u8, A>,
     skipped: u64,
 }
@@ -70,7 +70,7 @@ fn strip_cr(segment: &[u8]) -> &[u8]
     }
 }
 
-/// Whether somewhere more than `LINE_LIMIT` bytes stand without LF, once the piece stands after
+/// Whether more than `LINE_LIMIT` bytes come without LF anywhere, once the piece comes after
 /// the rest.
 ///
 /// The last LF within reach is looked for, so that most of the piece is passed over unread.
@@ -112,7 +112,7 @@ fn read_segment<A: Allocator + Drop, B: Allocator>(
     }
 }
 
-/// Adds the lines that the bytes hold; answers what stands after the last LF, and how many
+/// Adds the lines that the bytes hold; answers the text after the last LF, and how many
 /// segments are skipped.
 fn read_lines<'a, A: Allocator + Copy, B: Allocator>(
     alloc: A,
@@ -229,7 +229,7 @@ impl<A: Allocator + Copy> Splitter<A> {
     /// to `out`, in order. A line that is blank is dropped; another that is outside the grammar is
     /// skipped and counted.
     ///
-    /// `TooLong` comes exactly where more than `LINE_LIMIT` bytes stand without LF, and before
+    /// `TooLong` comes exactly if more than `LINE_LIMIT` bytes come without LF, and before
     /// memory is asked for. After an error splitter and list are unchanged. Each byte is searched
     /// for LF once, however small the pieces are, and each line takes one allocation.
     #[tactic(auto, using(crate::proofs::Limit::rest_short, crate::proofs::Segments::rest_clean))]

@@ -25,7 +25,7 @@ pub fn tag_value<'a>(front: &[u8], tags: &'a [u8]) -> Option<&'a [u8]>
     None
 }
 
-/// Whether the byte may stand where the form has this one.
+/// Whether the byte may be where the form has this one.
 fn fits(byte: u8, form: u8) -> bool
     ensures { result ≡ fits_form byte form }
 {

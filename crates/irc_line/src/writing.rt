@@ -108,8 +108,8 @@ fn push_line<A: Allocator>(
 }
 
 /// Appends a line of these parts and CR LF, as [`Line::write`](crate::Line::write) does with a line
-/// in hand; no line is made. Whether the text is read as these parts is not asked (that is what
-/// [`Line::make`](crate::Line::make) tells). After an error `out` is unchanged.
+/// in hand; no line is made. Whether the text is read as these parts is not checked (that is what
+/// [`Line::make`](crate::Line::make) says). After an error `out` is unchanged.
 pub fn write_line<A: Allocator>(
     tags: Option<&[u8]>,
     source: Option<&[u8]>,

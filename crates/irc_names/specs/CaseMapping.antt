@@ -15,17 +15,17 @@ upper_row Strict = codes "[]\\"
 abbrev pub lower_row : List ℕ
 lower_row = codes "{}|^"
 
--- what stands below the byte, where it stands in the upper row; else the byte
+-- the byte of the lower row below this byte, if this byte is in the upper row; else the byte
 abbrev pub below : List ℕ → List ℕ → ℕ → ℕ
 below [] lower b = b
 below (u ∷ upper) [] b = b
 below (u ∷ upper) (l ∷ lower) b = if b == u then l else below upper lower b
 
--- the byte that stands for this byte in a key
+-- the byte that represents this byte in a key
 abbrev pub key_byte : CaseMapping → ℕ → ℕ
 key_byte mapping b = below (upper_row mapping) lower_row (to_ascii_lowercase b)
 
--- what a name is compared by: two names are one name where their keys are equal
+-- what a name is compared by: two names are one name if their keys are equal
 abbrev pub key_of : CaseMapping → List ℕ → List ℕ
 key_of mapping name = map (key_byte mapping) name
 

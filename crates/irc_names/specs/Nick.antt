@@ -1,5 +1,5 @@
--- Which nicks something is told of. RFC 2812, section 2.3.1, is narrower than what networks allow,
--- so this test is our own choice.
+-- Which nicks anything is said about. RFC 2812, section 2.3.1, is narrower than what networks
+-- allow, so this test is our own choice.
 use Rattle.std.specs.Prelude.{ℕ, Bool, false, ◌||◌, ◌&&◌, not, ◌==◌, nat_le, nat_lt, List, [], ◌∷◌}
 use Rattle.std.specs.Prelude.{codes}
 use Rattle.std.specs.List.{list_any}
@@ -17,7 +17,7 @@ begins_nick b = is_ascii_alphanumeric b || is_one_of (codes "[]\\`_^{|}") b || n
 abbrev pub is_outside_nick : ℕ → Bool
 is_outside_nick b = nat_lt b 32 || b == 127 || is_one_of (codes " !@") b
 
--- whether something is told of this nick
+-- whether anything is said about this nick
 abbrev pub is_nameable : List ℕ → Bool
 is_nameable [] = false
 is_nameable (b ∷ bs) = begins_nick b && not (list_any is_outside_nick (b ∷ bs))

@@ -21,7 +21,7 @@ pub enum CaseMapping {
 }
 
 impl CaseMapping {
-    /// The byte that stands for `byte` in the key of a name. A key's own bytes stand for
+    /// The byte that represents `byte` in the key of a name. A key's own bytes represent
     /// themselves.
     pub fn fold_byte(self, byte: u8) -> u8
         ensures { result ≡ key_byte self byte }

@@ -18,7 +18,7 @@ pub fn names_are_equivalent()
     ensures key { (m : CaseMapping) (a : List ℕ) → AreOneName m (key_of m a) a }
 {}
 
-/// The order that `CaseMapping::order` answers is total, and two names tie in it exactly where they
+/// The order that `CaseMapping::order` answers is total, and two names tie in it exactly if they
 /// are one name.
 pub fn order_is_total()
     ensures total { (m : CaseMapping) → IsTotalOrder (on (key_of m) (slice_cmp nat_cmp)) }

@@ -1,5 +1,4 @@
-//! Names of users and channels: when two are one name, their order, and which nicks something is
-//! told of.
+//! Names of users and channels: when two are one name, their order, and which nicks are nameable.
 #![tactic(auto)]
 
 mod case_mapping;

@@ -1,4 +1,4 @@
-//! Which nicks something is told of.
+//! Which nicks anything is said about.
 
 ghost use Rattle.std.specs.Prelude.{◌≡◌};
 ghost use Rattle.std.specs.List.{list_any};
@@ -22,7 +22,7 @@ fn has_barred(nick: &[u8]) -> bool
     nick.iter().any(|byte| is_barred(*byte))
 }
 
-/// Whether something is told of this nick: it is not empty, begins with an ASCII letter, a digit,
+/// Whether anything is said about this nick: it is not empty, begins with an ASCII letter, a digit,
 /// one of `` [ ] \ ` _ ^ { | } `` or a byte from 0x80 on, and holds no space, no byte below 0x20,
 /// no 0x7F, no `!` and no `@`. Our own choice: RFC 2812, section 2.3.1, allows fewer nicks than
 /// networks do.

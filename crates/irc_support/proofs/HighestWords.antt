@@ -69,7 +69,7 @@ top_symbol settings w =
 
 -- ---- the word with its highest symbol alone
 
--- behind its symbols a word has none at its front
+-- after its symbols a word has none at its front
 after_past : (p : ℕ → Bool) (w : Text) → take_while p (drop (length (take_while p w)) w) ≡ []
 after_past p [] = refl
 after_past p (b ∷ w) = grind (arith, take_while-cons, after_past p w)
@@ -106,7 +106,7 @@ small_rank settings b rank e =
     let same = paired r (ranking_of-is settings) in
     omega arith
 
--- where no rank is shown the word has no symbols
+-- if no rank is shown the word has no symbols
 pub unranked : (settings : List Token) (w : Text) → (word_of settings w).ranks ≡ [] →
     after_symbols settings w ≡ w
 unranked settings [] h = refl

@@ -33,7 +33,7 @@ modes_read settings [] each = refl
 modes_read settings ((b, None) ∷ modes) each = grind (arith, modes_read settings modes)
 modes_read settings ((b, Some param) ∷ modes) each = grind (arith, modes_read settings modes)
 
--- what the letters behind a plus and their parameters change
+-- what the letters after a plus and their parameters change
 pub changes_read : (settings : List Token) (modes : List (ℕ × Option Text)) →
     AllByRecursion (IsWrittenMode settings) modes →
     changes settings (mode_params modes) ≡ map set_change modes

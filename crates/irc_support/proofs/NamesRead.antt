@@ -52,7 +52,7 @@ nick_past settings (b ∷ nick) h =
 
 -- ---- a nick is a plain word with nothing to cut off
 
--- a byte that no nick holds does not stand in it
+-- a byte that no nick holds is not in it
 never_in : (p : ℕ → Bool) (k : ℕ) → p k ≡ true → (text : Text) → list_any p text ≡ false →
     has_byte text k ≡ false
 never_in p k out [] h = refl

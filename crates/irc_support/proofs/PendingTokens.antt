@@ -9,7 +9,7 @@ use Rattle.std.proofs.{Common.{true, ℕ, ◌++◌, ◌∷◌, ◌≡◌}, lemma
 use Rattle.std.{proofs.lemmas.List.{Sums.fold-append, nil_from_length}, specs.List.list_any}
 use Rattle.std.specs.{Prelude.◌&&◌, Str.bytes_eq, declared.vec.Vec.Vec}
 
--- ---- names that stand once
+-- ---- names that occur once
 
 AreApart-with : (settings : List Token) (token : Token) → AreApart settings →
     AreApart (with_token settings token)

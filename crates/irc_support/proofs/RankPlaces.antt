@@ -31,7 +31,7 @@ has_at [] k b at = cc
 has_at (x ∷ xs) zero b at = grind (arith, nat_tests)
 has_at (x ∷ xs) (suc k) b at = grind (arith, has_at xs k b)
 
--- in a text where no byte stands twice, a byte's place is where it stands
+-- in a text in which no byte occurs twice, a byte's place is where it is
 place : (xs : Text) (k b : ℕ) → is_distinct xs ≡ true → slice_get xs k ≡ Some b →
     position_or_len (λ c. c == b) xs ≡ k
 place [] k b apart at = cc

@@ -68,13 +68,13 @@ first test k small at before =
     let past = skip test k (suc (15 - k)) 16 0 (omega arith) (λ r low high. before r (omega arith)) in
     grind (arith, past)
 
--- a set is told by which ranks are in it
+-- a set is determined by which ranks are in it
 pub ranks_that-has_rank : (test : ℕ → Bool) →
     ranks_that test ≡ ranks_that (has_rank (ranks_that test))
 ranks_that-has_rank test =
     ranks_that_agree test _ (λ r small. sym (has_rank-ranks_that test r small))
 
--- and begins with its highest rank, behind which it is the set without that
+-- and begins with its highest rank, after which it is the set without that
 split_first : (test : ℕ → Bool) (k : ℕ) → k < 16 → test k ≡ true →
     ((i : ℕ) → i < k → test i ≡ false) →
     ranks_that test ≡ k ∷ ranks_that (λ r. not (r == k) && has_rank (ranks_that test) r)

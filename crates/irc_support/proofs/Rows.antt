@@ -94,7 +94,7 @@ names_and_keys : (mapping_of [] ≡ Rfc1459)
     × (is_channel [] (codes "#c") ≡ true)
     × (is_channel (valued "CHANTYPES" "#" ∷ []) (codes "&c") ≡ false)
     × (is_channel [] (codes "#a,b") ≡ false)
-    -- what STATUSMSG lets stand before a channel's name is no part of it
+    -- what STATUSMSG allows before a channel's name is no part of it
     × (is_channel (valued "STATUSMSG" "@+" ∷ []) (codes "@#c") ≡ false)
     × (is_word (codes "a:b") ≡ true)
     × (is_word (codes ":a") ≡ false)
@@ -143,9 +143,9 @@ member ranks nick = record { ranks = ranks; nick = codes nick }
 
 words_of_a_name_list : (words [] (codes "Me @+bob  +eve!e@h @")
     ≡ member [] "Me" ∷ member (0 ∷ 1 ∷ []) "bob" ∷ member (1 ∷ []) "eve" ∷ member (0 ∷ []) "" ∷ [])
-    -- symbols in any order, each as often as it stands
+    -- symbols in any order, each once for each time that it occurs
     × (words [] (codes "+@+bob") ≡ member (0 ∷ 1 ∷ []) "bob" ∷ [])
-    -- a set is told highest first
+    -- a set is listed highest first
     × (ranks_that (has_rank (1 ∷ 0 ∷ [])) ≡ 0 ∷ 1 ∷ [])
     -- `:s 353 Me = #c :@bob`, and the same without the channel's symbol
     × (words_in [] (line "353" ("Me" ∷ "=" ∷ "#c" ∷ "@bob" ∷ [])) ≡ member (0 ∷ []) "bob" ∷ [])

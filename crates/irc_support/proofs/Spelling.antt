@@ -6,11 +6,11 @@ use Rattle.std.proofs.Common.{◌-◌, ◌∷◌, None, append_assoc, arith, len
 use Rattle.std.proofs.{Common.◌∙◌, Math.Seq.{drop-append-add, drop-append_seam, take-append_seam}}
 use Rattle.std.proofs.{Common.{Some, ap}, lemmas.{List.take-append-drop, Slice.Eq.bytes_eq-Decides}}
 
--- as many symbols as letters, at most 16
+-- the number of symbols is that of letters, at most 16
 pub paired : (r : Ranking) → IsTrue (is_ranking r) → length r.letters ≡ length r.symbols
 paired r h = grind (arith, nat_tests)
 
--- the value behind its `(`
+-- the value after its `(`
 abbrev inner : Ranking → Text
 inner r = r.letters ++ 41 ∷ r.symbols
 

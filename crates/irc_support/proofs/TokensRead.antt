@@ -55,7 +55,7 @@ before_more b text =
     let n = position_or_len is_equals text in
     let more : 1 + n ≡ suc n = omega arith in grind (arith, more)
 
--- what stands before the first equals sign has none
+-- the text before the first equals sign has none
 before_has_none : (text : Text) → list_any is_equals (before_first is_equals text) ≡ false
 before_has_none [] = refl
 before_has_none (b ∷ text) = grind (arith, before_more b text, before_has_none text)

@@ -10,7 +10,7 @@ is_gap b = b == 32
 abbrev pub is_some_word : Text → Bool
 is_some_word word = not (length word == 0)
 
--- the parts of a text are the one before such a byte and those behind it, where there is one
+-- the parts of a text are the one before such a byte and those after it, if there is one
 pub parts_cut : (b : ℕ) (text : Text) →
     slice_split (λ c. c == b) text
     ≡ (cut_at b text).0 ∷ option_map_or (slice_split (λ c. c == b)) (cut_at b text).1 []

@@ -18,7 +18,7 @@ abbrev pub mode_lists : List Token → List Text
 mode_lists settings =
     lists_in (unwrap_or (value_of settings (codes "CHANMODES")) (codes "b,k,l,imnpst"))
 
--- the kind of the letters of the list at this place; lists behind the fourth say nothing (our own
+-- the kind of the letters of the list at this place; lists after the fourth say nothing (our own
 -- choice)
 abbrev pub kind_at : ℕ → Kind
 kind_at place =
@@ -28,7 +28,7 @@ kind_at place =
     if place == 3 then D else
     Unknown
 
--- the kind of a letter by the first list that it stands in
+-- the kind of a letter by the first list that has it
 abbrev pub kind_in : List Text → ℕ → Kind
 kind_in lists letter =
     option_map_or kind_at (position_from (λ list. has_byte list letter) 0 lists) Unknown

@@ -39,7 +39,7 @@ is_kept {A} names name = not (list_any (λ (k : Vec ℕ A). bytes_eq name k.item
 abbrev pub kept : {A : Type 0} → List (Vec ℕ A) → List Token → List Token
 kept {A} names settings = filter (λ (t : Token). is_kept {A = A} names t.0) settings
 
--- the settings with these tokens, of which the last in the list is set first
+-- the settings with these tokens; the last in the list is set first
 abbrev pub with_all : {A : Type 0} → List Token → List (Vec ℕ A × Option (Vec ℕ A)) → List Token
 with_all settings [] = settings
 with_all settings (e ∷ earlier) = with_token (with_all settings earlier) (token_in e)

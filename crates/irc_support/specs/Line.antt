@@ -12,16 +12,16 @@ abbrev pub settings_after : List Token → Parts → List Token
 settings_after settings line =
     if has_command line (codes "005") then set_tokens settings line.params else settings
 
--- the changes that a line lists: those of MODE behind the target, and those of 324
--- RPL_CHANNELMODEIS behind our nick and the channel
+-- the changes that a line lists: those of MODE after the target, and those of 324
+-- RPL_CHANNELMODEIS after our nick and the channel
 abbrev pub changes_in : List Token → Parts → List ChangeParts
 changes_in settings line =
     if has_command line (codes "MODE") then changes settings (drop 1 line.params) else
     if has_command line (codes "324") then changes settings (drop 2 line.params) else
     []
 
--- the members that a line names: those of 353 RPL_NAMREPLY behind our nick, a symbol and the
--- channel (that they stand in this place is our own choice)
+-- the members that a line names: those of 353 RPL_NAMREPLY after our nick, a symbol and the
+-- channel (that they are in this place is our own choice)
 abbrev pub words_in : List Token → Parts → List Word
 words_in settings line =
     if has_command line (codes "353") then

@@ -21,7 +21,7 @@ signed plus (b ∷ text) =
     if b == 45 then signed false text else
     (plus, b) ∷ signed plus text
 
--- the letters with their parameters: each that takes one takes the next, where there is one
+-- the letters with their parameters: each that takes one takes the next, if there is one
 abbrev pub with_params : List Token → List (Bool × ℕ) → List Text → List ChangeParts
 with_params settings [] params = []
 with_params settings (s ∷ letters) params =
@@ -31,7 +31,7 @@ with_params settings (s ∷ letters) params =
     else record { plus = s.0; letter = s.1; param = None } ∷ with_params settings letters params
 
 -- The changes of a mode text and its parameters; a sign is plus until the text says otherwise. A
--- letter that finds no parameter left stands there without one: what that means is for whoever
+-- letter that finds no parameter left is kept without one: what that means is decided by whoever
 -- reads the change.
 unfoldable pub changes : List Token → List Text → List ChangeParts
 changes settings [] = []

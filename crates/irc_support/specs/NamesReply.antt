@@ -1,5 +1,5 @@
 -- Name lists: the words of RPL_NAMREPLY, 353 (RFC 2812, section 5.1), as IRCv3 multi-prefix has
--- them: all symbols of a member stand before the nick.
+-- them: all symbols of a member come before the nick.
 use Rattle.std.specs.Prelude.{ℕ, Bool, false, not, ◌==◌, List, length, map, filter, take_while}
 use Rattle.std.specs.Prelude.{drop, is_some}
 use Rattle.std.specs.List.{list_any, slice_split}
@@ -9,7 +9,7 @@ use Rattle.irc_support.specs.Tokens.{Token}
 use Rattle.irc_support.specs.Ranking.{rank_of_symbol}
 use Rattle.irc_support.specs.Ranks.{ranks_that}
 
--- a member of a name list: the ranks whose symbols stand before the nick, highest first, and the
+-- a member of a name list: the ranks whose symbols come before the nick, highest first, and the
 -- nick
 pub record Word : Type 0 where
   pub ranks : List ℕ
@@ -35,7 +35,7 @@ abbrev pub shows_rank : List Token → Text → ℕ → Bool
 shows_rank settings symbols rank =
     list_any (λ b. option_map_or (λ r. r == rank) (rank_of_symbol settings b) false) symbols
 
--- a word taken apart: the ranks whose symbols stand at its front, highest first, and what follows
+-- a word taken apart: the ranks whose symbols are at its front, highest first, and what follows
 -- these
 abbrev pub split_word : List Token → Text → List ℕ × Text
 split_word settings word =
@@ -45,7 +45,7 @@ split_word settings word =
 unfoldable pub split_words : List Token → Text → List (List ℕ × Text)
 split_words settings text = map (split_word settings) (words_between text)
 
--- the member that such a word names; a nick ends before its first `!`, where the word has user and
+-- the member that such a word names; a nick ends before its first `!`, if the word has user and
 -- host
 abbrev pub member_of : List ℕ × Text → Word
 member_of w = record { ranks = w.0; nick = (cut_at 33 w.1).0 }

@@ -15,7 +15,7 @@ abbrev pub bits_of : List ℕ → ℕ
 bits_of [] = 0
 bits_of (r ∷ ranks) = 2 ^ r + bits_of ranks
 
--- the bits from a on, c of them, that are 1
+-- the bits that are 1 among the c bits from a on
 abbrev ones_from : ℕ → ℕ → ℕ → List ℕ
 ones_from bits a c = filter (λ r. bit_at bits r == 1) (range_with_len a c)
 
@@ -31,7 +31,7 @@ next_power a = let e : a + 1 ≡ suc a = omega arith in rw e (pow-suc 2 a)
 halved : (n a : ℕ) → n / 2 ^ (a + 1) ≡ n / 2 ^ a / 2
 halved n a = rw (next_power a) (sym (div-div-eq-div-mul n (2 ^ a) 2))
 
--- with q the number from bit a on, and rest told of the bits above a
+-- with q the number from bit a on, and rest the value of the bits above a
 told : (b : Bool) (p q rest : ℕ) → (q % 2 == 1) ≡ b → rest ≡ q / 2 * (p * 2) →
     (cond b (p + rest) rest) ≡ q * p
 told true p q rest e r = rw r (odd p q (q / 2) (grind (arith, nat_tests)))

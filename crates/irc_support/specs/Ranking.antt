@@ -20,7 +20,7 @@ pub record Ranking : Type 0 where
 abbrev pub is_symbol : ℕ → Bool
 is_symbol b = is_ascii_punctuation b && not (has_byte (codes "[]\\`_^{|}:,") b)
 
--- one symbol a letter, at most 16, none of them twice
+-- one symbol a letter, at most 16, no symbol twice
 abbrev pub is_ranking : Ranking → Bool
 is_ranking r =
     length r.letters == length r.symbols && nat_le (length r.letters) 16
@@ -36,7 +36,7 @@ pub record Spells (value : Text) (r : Ranking) : Type 0 where
   pub written : value ≡ prefix_text r
   pub ranking : IsTrue (is_ranking r)
 
--- The only ranks that a value can spell. With one symbol a letter, half of the value but for `(`
+-- The only ranks that a value can spell. With one symbol a letter, half of the value except `(`
 -- and `)` is letters, the other half symbols.
 abbrev pub halves_of : Text → Ranking
 halves_of value = record {
@@ -44,7 +44,7 @@ halves_of value = record {
   symbols = drop ((length value - 2) / 2 + 2) value;
 }
 
--- the ranks that a value spells, where it spells some
+-- the ranks that a value spells, if it spells some
 unfoldable pub spelled_by : Text → Option Ranking
 spelled_by value =
     if bytes_eq value (prefix_text (halves_of value)) && is_ranking (halves_of value)

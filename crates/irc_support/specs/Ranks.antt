@@ -2,7 +2,7 @@
 use Rattle.std.specs.Prelude.{ℕ, Bool, ◌==◌, List, filter}
 use Rattle.std.specs.List.{list_any, range_with_len}
 
--- as many ranks as PREFIX can name, from 0 on
+-- the number of ranks that PREFIX can name, from 0 on
 unfoldable pub rank_count : ℕ
 rank_count = 16
 

@@ -5,7 +5,7 @@ use Rattle.std.specs.Prelude.{fold, Option, unwrap_or, option_map}
 use Rattle.std.specs.Str.{bytes_eq}
 use Rattle.irc_support.specs.Text.{Text, cut_at}
 
--- a name and, behind `=`, its value; a value can be empty, which is another thing than none
+-- a name and, after `=`, its value; a value can be empty, which is another thing than none
 abbrev pub Token : Type 0
 Token = Text × Option Text
 
@@ -45,7 +45,7 @@ after_param settings (b ∷ text) =
 unfoldable pub set_tokens : List Token → List Text → List Token
 set_tokens settings params = fold after_param settings (token_params params)
 
--- The value of the token of this name, where there is one. A token without `=` is read as one with
+-- The value of the token of this name, if there is one. A token without `=` is read as one with
 -- an empty value.
 abbrev pub value_of : List Token → Text → Option Text
 value_of settings name =

@@ -1,4 +1,4 @@
--- How tokens, modes and members are written, and which of them can be: what is written is read
+-- How tokens, modes and members are written, and which of these can be: what is written is read
 -- back.
 use Rattle.std.specs.Prelude.{⊤, ◌≡◌, ℕ, Bool, true, false, ◌&&◌, ◌||◌, not, ◌==◌, IsTrue, List, []}
 use Rattle.std.specs.Prelude.{◌∷◌, ◌++◌, map, take, Option, Some, None, is_some}
@@ -28,7 +28,7 @@ AreTokens (t ∷ settings) =
     IsTrue (is_token_name t.0) × (list_any (λ (u : Token). bytes_eq t.0 u.0) settings ≡ false) ×
     AreTokens settings
 
--- a token as it came: its name, and behind `=` its value, where it has one
+-- a token as it came: its name, and after `=` its value, if it has one
 abbrev pub token_text : Token → Text
 token_text (name, None) = name
 token_text (name, Some value) = name ++ 61 ∷ value
@@ -38,13 +38,13 @@ token_text (name, Some value) = name ++ 61 ∷ value
 abbrev pub is_sign : ℕ → Bool
 is_sign b = b == 43 || b == 45
 
--- a letter and its parameter: the letter is no sign, and it has a parameter exactly where its kind
+-- a letter and its parameter: the letter is no sign, and it has a parameter exactly if its kind
 -- takes one
 abbrev pub IsWrittenMode : List Token → ℕ × Option Text → Type 0
 IsWrittenMode settings m =
     (is_sign m.0 ≡ false) × (is_some m.1 ≡ takes_parameter (kind_of settings m.0) true)
 
--- the letters of modes behind a plus, and their parameters
+-- the letters of modes after a plus, and their parameters
 abbrev pub mode_params : List (ℕ × Option Text) → List Text
 mode_params modes =
     (43 ∷ map (λ (m : ℕ × Option Text). m.0) modes)

@@ -45,7 +45,7 @@ pub fn kinds_by_lists(value: &[u8]) -> [Kind; LETTERS]
     let (third, rest) = first_list(rest);
     let (fourth, _) = first_list(rest);
     let mut kinds = [Kind::Unknown; LETTERS];
-    // a letter is of the first list that it stands in, so that one comes last
+    // a letter is of the first list that has it, so that one comes last
     set_kind(&mut kinds, fourth, Kind::D);
     set_kind(&mut kinds, third, Kind::C);
     set_kind(&mut kinds, second, Kind::B);

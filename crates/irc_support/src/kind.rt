@@ -22,7 +22,7 @@ pub enum Kind {
 impl Kind {
     ghost use Rattle.irc_support.specs.ChanModes.{takes_parameter};
 
-    /// Whether a letter of this kind takes a parameter where it is set (`plus`) or unset.
+    /// Whether a letter of this kind takes a parameter when it is set (`plus`) or unset.
     pub fn takes_parameter(self, plus: bool) -> bool
         ensures { result ≡ takes_parameter self plus }
     {

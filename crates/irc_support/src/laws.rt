@@ -13,7 +13,7 @@ ghost use Rattle.irc_support.specs.Written.{is_sign, mode_params, set_change, wo
 ghost use Rattle.irc_support.specs.Written.{highest_member, names_with_highest};
 
 /// Settings depend on the tokens alone: 005 lines with the same tokens in one order give the same
-/// settings, however the tokens are spread over the lines and whatever nick and closing text stand
+/// settings, however the tokens are spread over the lines and whatever nick and closing text are
 /// round them.
 pub fn settings_depend_on_the_tokens_alone()
     ensures { (settings : List Token) (lines others : List (List Text)) →
@@ -43,7 +43,7 @@ pub fn letters_and_symbols_go_together()
 {}
 
 /// The tokens in force have names that are not empty, begin with no minus, hold no equals sign and
-/// stand once: 005 lines keep that form. Tokens of this form that are written out, each a
+/// occur once: 005 lines keep that form. Tokens of this form that are written out, each a
 /// parameter, are read back as they are.
 pub fn tokens_are_read_back()
     ensures in_force { (lines : List (List Text)) → AreTokens (fold set_tokens [] lines) }

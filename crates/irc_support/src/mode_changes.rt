@@ -19,7 +19,7 @@ pub struct Change<'a> {
     pub plus: bool,
     /// The letter, as it came; it may be one that the network did not name.
     pub letter: u8,
-    /// What the letter took: the next parameter, word or not, where its kind takes one and one was
+    /// What the letter took: the next parameter, word or not, if its kind takes one and one was
     /// left.
     pub param: Option<&'a [u8]>,
 }
@@ -107,9 +107,9 @@ fn changes_from<'a, A: Allocator, B: Allocator>(
 /// takes no memory.
 ///
 /// MODE has its letters in parameter 1, 324 in parameter 2, and what they take after it, as in
-/// `:s MODE #c +lo-v 5 bob eve` (where the letters stand in a 324 is our own choice). The sign is
+/// `:s MODE #c +lo-v 5 bob eve` (the place of the letters in a 324 is our own choice). The sign is
 /// plus until the text says otherwise. Prefix letters and kinds A and B take a parameter always, C
-/// where it is set, D and unknown letters never. A letter that finds no parameter left comes
+/// when it is set, D and unknown letters never. A letter that finds no parameter left comes
 /// without one.
 pub fn changes<'a, A: Allocator, B: Allocator>(
     support: &'a Support<A>,

@@ -94,7 +94,7 @@ impl<'a, A: Allocator> Iterator for Names<'a, A> {
     }
 }
 
-/// The first word of a text of words with spaces between, and what follows it; `None` where
+/// The first word of a text of words with spaces between, and what follows it; `None` if
 /// there is no word left.
 pub fn next_word(text: &[u8]) -> Option<(&[u8], &[u8])>
     ensures { MatchOption result (words_between text.now ≡ [])

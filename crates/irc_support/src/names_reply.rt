@@ -11,9 +11,9 @@ use std::alloc::Allocator;
 /// The words of a 353 line, taken apart by these settings: none for any other line. It takes no
 /// memory.
 ///
-/// The words stand in parameter 3 with spaces between, as in `:s 353 Me = #c :Me @+bob +eve!e@h`
-/// (that they stand in this place is our own choice). A word is the symbols of `PREFIX` at its
-/// front, all of which are read (IRCv3 multi-prefix), and what follows them as it stands: a nick,
+/// The words are in parameter 3 with spaces between, as in `:s 353 Me = #c :Me @+bob +eve!e@h`
+/// (that they are in this place is our own choice). A word is the symbols of `PREFIX` at its
+/// front, all of which are read (IRCv3 multi-prefix), and what follows them, unchanged: a nick,
 /// or with userhost-in-names `nick!user@host`. A word of symbols alone comes with an empty rest.
 #[tactic(auto, unfolding(crate::specs::NamesReply::split_words))]
 pub fn name_words<'a, A: Allocator, B: Allocator>(

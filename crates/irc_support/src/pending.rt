@@ -16,8 +16,8 @@ use std::hash::{BuildHasherDefault, FoldHasher};
 type Names<A> = IndexSet<Vec<u8, A>, BuildHasherDefault<FoldHasher>, A>;
 
 /// What a line leaves to do: first names go, then tokens are set. A name that the line removes goes
-/// from its old place, wherever in the line that stands, and what the line set before is of no
-/// account.
+/// from its old place, wherever in the line that is, and what the line set before does not
+/// count.
 #[derive(Drop)]
 pub struct Pending<A: Allocator> {
     removed: Names<A>,

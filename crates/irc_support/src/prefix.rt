@@ -78,7 +78,7 @@ fn is_a_ranking(letters: &[u8], symbols: &[u8]) -> bool
         && are_distinct(symbols)
 }
 
-/// What follows the byte that a text begins with; `None` where it does not begin with this
+/// What follows the byte that a text begins with; `None` if it does not begin with this
 /// byte.
 fn behind(byte: u8, text: &[u8]) -> Option<&[u8]>
     ensures found { IfSome result (λ rest. text.now ≡ byte ∷ rest.now) }
@@ -90,7 +90,7 @@ fn behind(byte: u8, text: &[u8]) -> Option<&[u8]>
     }
 }
 
-/// The letters and the symbols of a value of the form `(letters)symbols`, where it spells ranks.
+/// The letters and the symbols of a value of the form `(letters)symbols`, if it spells ranks.
 fn halves(value: &[u8]) -> Option<(&[u8], &[u8])>
     ensures value { option_map (λ h. record { letters = h.0.now; symbols = h.1.now }) result
         ≡ spelled_by value.now }
@@ -128,7 +128,7 @@ impl Prefix {
         }
     }
 
-    /// The ranks that a value of `PREFIX` names: none where it is empty, and `(ov)@+` where it has
+    /// The ranks that a value of `PREFIX` names: none if it is empty, and `(ov)@+` if it has
     /// another form or names more than 16.
     pub fn read(value: &[u8]) -> Prefix
         ensures { result ≡ ranking_in value.now }

@@ -12,7 +12,7 @@ use std::marker::Model;
 #[tactic(auto, using(crate::proofs::RankSets::bits_back))]
 #[derive(Clone, Copy, Debug, PartialEq, Eq)]
 pub struct Ranks {
-    // bit r stands for rank r
+    // bit r represents rank r
     bits: u16,
 }
 
@@ -51,7 +51,7 @@ impl Ranks {
         rank < 16 && self.bits >> rank & 1 == 1
     }
 
-    /// The highest rank of the set, which is the least number; `None` where the set is empty.
+    /// The highest rank of the set, which is the least number; `None` if the set is empty.
     #[tactic(auto, using(crate::proofs::RankSets::no_bits))]
     pub fn top(self) -> Option<u8>
         ensures value { result ≡ slice_get self 0 }
@@ -94,7 +94,7 @@ impl Ranks {
         RankIter { left: self }
     }
 
-    /// The highest rank, and the set without it; `None` where the set is empty.
+    /// The highest rank, and the set without it; `None` if the set is empty.
     #[tactic(auto, using(crate::proofs::RankSets::no_bits))]
     fn split_top(self) -> Option<(u8, Ranks)>
         ensures { MatchOption result (self ≡ []) (λ s. self ≡ s.0 ∷ s.1) }

@@ -163,7 +163,7 @@ impl<A: Allocator> Support<A> {
         self.tokens.len()
     }
 
-    /// The name of the token at this place, counted from 0, and its value: `None` where no `=`
+    /// The name of the token at this place, counted from 0, and its value: `None` if no `=`
     /// followed the name, which is read as an empty value and written as it came. `None` from
     /// `token_count` on.
     #[tactic(auto, using(crate::proofs::TokenTable::token_places))]
@@ -186,7 +186,7 @@ impl<A: Allocator> Support<A> {
     }
 
     /// The rank that a letter of `PREFIX` gives, from 0, the highest, to 15 (isupport draft,
-    /// section 3.14). `PREFIX` names no rank where it is empty, and `(ov)@+` where it is not there,
+    /// section 3.14). `PREFIX` names no rank if it is empty, and `(ov)@+` if it is not there,
     /// is of another form or names more than 16 ranks (our own choice).
     pub fn rank_of_letter(&self, letter: u8) -> Option<u8>
         ensures value { result ≡ rank_of_letter self.now letter }
@@ -210,7 +210,7 @@ impl<A: Allocator> Support<A> {
         self.prefix.symbol(rank)
     }
 
-    /// The ranks whose symbols stand at the front of a word of a name list, and what follows
+    /// The ranks whose symbols are at the front of a word of a name list, and what follows
     /// the symbols: of `@+bob!b@h` with `PREFIX=(ov)@+` the ranks 0 and 1, and `bob!b@h`.
     pub fn split_symbols<'b>(&self, word: &'b [u8]) -> (Ranks, &'b [u8])
         ensures ranks { result.0
@@ -229,8 +229,8 @@ impl<A: Allocator> Support<A> {
         (ranks, rest)
     }
 
-    /// The kind of a mode letter: a letter of `PREFIX`, else the list of `CHANMODES` that it stands
-    /// in (isupport draft, section 3.3). Without `CHANMODES` the lists are `b,k,l,imnpst`; missing
+    /// The kind of a mode letter: a letter of `PREFIX`, else the list of `CHANMODES` that has
+    /// it (isupport draft, section 3.3). Without `CHANMODES` the lists are `b,k,l,imnpst`; missing
     /// lists are empty, and further ones say nothing (our own choices).
     pub fn kind(&self, letter: u8) -> Kind
         ensures { result ≡ kind_of self.now letter }

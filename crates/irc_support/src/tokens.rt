@@ -35,7 +35,7 @@ where
     }
 }
 
-/// What one parameter does to the tokens; nothing where it has no name.
+/// What one parameter does to the tokens; nothing if it has no name.
 fn edit_of<A: Allocator + Copy>(alloc: A, param: &[u8]) -> Result<Option<Edit<A>>, OutOfMemory>
     ensures { IfOk result
         (λ edit. (settings : List Token) →
@@ -73,7 +73,7 @@ pub fn edits<A: Allocator + Copy, B: Allocator>(
     Ok(edits)
 }
 
-/// The value of the token of this name, empty where there is no `=`; `None` where there is no such
+/// The value of the token of this name, empty if there is no `=`; `None` if there is no such
 /// token.
 fn value<'a, A: Allocator>(tokens: &'a Table<A>, name: &[u8]) -> Option<&'a [u8]>
     ensures { option_map (λ value. value.now) result
@@ -85,7 +85,7 @@ fn value<'a, A: Allocator>(tokens: &'a Table<A>, name: &[u8]) -> Option<&'a [u8]
     }
 }
 
-/// The value of the token of this name, or the default where there is no such token.
+/// The value of the token of this name, or the default if there is no such token.
 pub fn value_or<'a, A: Allocator>(tokens: &'a Table<A>, name: &[u8], default: &'a [u8]) -> &'a [u8]
     ensures { result.now
         ≡ unwrap_or (value_of (tokens_in tokens.now.entries) name.now) default.now }

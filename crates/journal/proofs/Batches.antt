@@ -12,7 +12,7 @@ use Rattle.journal.proofs.Grown.{all_came, batch_does, last_is}
 use Rattle.journal.proofs.NameChanges.{names_change}
 use Rattle.journal.proofs.Snapshots.{after_two, channels_again, same_ok}
 use Rattle.journal.specs.Changes.{Follows, IsUnchanged, Tells, TellsAt, TellsBy, WasWritten}
-use Rattle.journal.specs.Changes.{batch_of, grown}
+use Rattle.journal.specs.Changes.{batch_of, can_append, grown}
 use Rattle.journal.specs.Changes.{kept_now, messages_from, name_changes, none_missing}
 use Rattle.journal.specs.Kept.{KeptParts, after_batch, after_each}
 use Rattle.journal.specs.Records.{RecordParts}
@@ -27,10 +27,11 @@ Channels = List (List ℕ × Option (List ℕ))
 batch_follows : (w : Written) (k : KeptParts) (es : List EntryParts) (last : ℕ) (h : Messages)
     (marks latest : NameMarks) (channels : Channels) → WasWritten w k
     → h ≡ grown w.next es k.history → h.next ≡ Some last → last < 2 ^ 64 → fin.len marks ≤ 64
-    → none_missing w.next last h ≡ true
+    → can_append w last h ≡ true
     → after_batch (batch_of w last h marks latest channels) k
     ≡ Ok (kept_now h marks latest channels)
-batch_follows w k es last h marks latest channels was is now small few none =
+batch_follows w k es last h marks latest channels was is now small few can =
+    let none : none_missing w.next last h ≡ true = grind (arith, can) in
     let names = name_changes w.marks w.latest marks latest in
     let start = record k { channels = [] } in
     let grew = record start { history = grown w.next es k.history } in

@@ -1,6 +1,6 @@
 -- A hub can go on from what was kept.
 use Rattle.std.proofs.Common.{◌≡◌, ◌<◌, ◌≤◌, ◌+◌, ◌^◌, ℕ, List, [], ◌∷◌, Option, Some, Result, Ok}
-use Rattle.std.proofs.Common.{Err, refl, sym, ap, subst, arith, inl, inr, true, ltb, ◌∙◌}
+use Rattle.std.proofs.Common.{Err, refl, sym, ap, subst, arith, inl, inr, Bool, true, ltb, ◌∙◌}
 use Rattle.std.specs.Prelude.{IfOk, IsTrue}
 use Rattle.std.specs.List.{AllByRecursion}
 use Rattle.std.proofs.lemmas.Bool.{lt-ltb}
@@ -9,17 +9,13 @@ use Rattle.history.proofs.LastMessages.{all_kept}
 use Rattle.history.specs.Entry.{EntryParts, IsWrittenEntry, is_message_command}
 use Rattle.history.specs.Marks.{NameMarks}
 use Rattle.history.specs.Messages.{AreKeptBefore, Messages, no_messages, with_message}
+use Rattle.journal.proofs.Capacities.{lower}
 use Rattle.journal.specs.Kept.{KeptParts, after, after_each, skipped, then_after, with_history}
 use Rattle.journal.specs.Kept.{with_names, with_next}
 use Rattle.journal.specs.Records.{AreSound, IsRight, IsSound, RecordParts, gone, mark, message}
 use Rattle.journal.specs.Records.{name, next, on, seen}
 use Rattle.journal.specs.Recalls.{CanBegin, RecallsFile, Takes, TakesAll}
 use Rattle.journal.specs.declared.damage.Damage.{Damage}
-
-lower : (first last : ℕ) → first ≤ last → (ms : List (ℕ × EntryParts))
-    → AllByRecursion (λ m. m.0 < first) ms → AllByRecursion (λ m. m.0 < last) ms
-lower first last le [] all = tt
-lower first last le (m ∷ ms) all = (omega (arith, all.0), lower first last le ms all.1)
 
 none_kept : (capacity first : ℕ) → CanBegin (no_messages capacity first)
 none_kept capacity first = (first, record { messages = tt; written = tt; below = tt; next = refl })
@@ -103,12 +99,12 @@ begins_all : (ps : List (List ℕ)) (a b : KeptParts) → TakesAll ps a b → Ca
 begins_all [] a b t can = subst (λ (k : KeptParts). CanBegin k.history) (sym t) can
 begins_all (p ∷ ps) a b t can = begins_all ps t.0 b t.2 (begins_takes p a t.0 t.1 can)
 
-pub begins : (capacity first : ℕ) (bytes : List ℕ) (n used : ℕ) (d : Option Damage)
-    (start kept : KeptParts) → start.history ≡ no_messages capacity first
-    → RecallsFile start bytes n used d kept → CanBegin kept.history
-begins capacity first bytes n used d start kept is (inl r) =
+pub begins : (capacity first : ℕ) (bytes : List ℕ) (rings : Bool) (n used : ℕ)
+    (d : Option Damage) (start kept : KeptParts) → start.history ≡ no_messages capacity first
+    → RecallsFile start bytes rings n used d kept → CanBegin kept.history
+begins capacity first bytes rings n used d start kept is (inl r) =
     begins_all r.recalls.recalled.front start kept r.recalls.recalled.took
     (subst CanBegin (sym is) (none_kept capacity first))
-begins capacity first bytes n used d start kept is (inr r) =
+begins capacity first bytes rings n used d start kept is (inr r) =
     subst CanBegin (sym (ap (λ (k : KeptParts). k.history) r.start_kept ∙ is))
     (none_kept capacity first)

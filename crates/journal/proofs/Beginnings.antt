@@ -121,7 +121,7 @@ cut_recalled start kept bytes m used d bs n all are r =
 
 -- ---- all of them
 
--- where all batches can be done, all are
+-- if all batches can be done, all are
 all_done : (ps : List (List ℕ)) (start kept wanted : KeptParts) (n : ℕ) (d : Option Damage)
     → TakesAll ps start wanted → IsRecalled ps start n d kept
     → (kept ≡ wanted) × (d ≡ None) × (n ≡ length ps)
@@ -180,7 +180,7 @@ fails_one p a d e (inr f) (inr g) =
 fails_not_takes : (p : List ℕ) (a b : KeptParts) (d : Damage) → Fails p a d → Takes p a b → ⊥
 fails_not_takes p a b d f t = no_fault p a b d t f
 
--- what is recalled where this payload does not count
+-- what is recalled if this payload does not count
 stopped_at : (ps : List (List ℕ)) (bad : List ℕ) (more front later : List (List ℕ))
     (start wanted kept : KeptParts) (why : Damage) (d : Option Damage) → TakesAll ps start wanted
     → Fails bad wanted why → ps ++ bad ∷ more ≡ front ++ later → TakesAll front start kept

@@ -11,9 +11,9 @@ use Rattle.std.proofs.lemmas.List.Elements.{filter-append}
 use Rattle.std.proofs.lemmas.List.FromFn.{length-enumerate_from}
 use Rattle.irc_line.proofs.Logic.{cases_Bool}
 use Rattle.history.specs.Entry.{EntryParts}
-use Rattle.history.specs.Messages.{CanComeAgain, Messages, is_missed, number_after, target_key}
-use Rattle.history.specs.Messages.{target_limit, with_message}
-use Rattle.history.specs.Retained.{looking_back, stays}
+use Rattle.history.specs.Messages.{CanComeAgain, Messages, is_missed, is_with_person, number_after}
+use Rattle.history.specs.Messages.{target_key, target_limit, with_message}
+use Rattle.history.specs.Retained.{looking_back_apart, of_kind, stays}
 use Rattle.journal.specs.Changes.{grown, messages_from, none_missing, number_before}
 use Rattle.journal.specs.Kept.{KeptParts, after, after_each, skipped, then_after, with_history}
 use Rattle.journal.specs.Records.{message, next}
@@ -24,7 +24,7 @@ Numbered = List (ℕ × EntryParts)
 
 -- ---- of which some went
 
--- no more than those, and if as many, then those
+-- no more than those, and if the number is the same, then those
 record Within {X : Type 0} (l m : List X) : Type 0 where
   few : length l ≤ length m
   same : length l ≡ length m → l ≡ m
@@ -46,7 +46,8 @@ within_more a b c ab = record {
       ap (λ (l : List _). l ++ c) (ab.same one);
 }
 
-module _ {X : Type 0} (key : X → List ℕ) (test : List ℕ → List X → Bool) (p : X → Bool) where
+module _ {X : Type 0} (key : X → List ℕ) (kind : X → Bool) (test : List ℕ → List X → Bool)
+    (p : X → Bool) where
   with_one : (m : X) (a b : List X) → Within a b → Within (m ∷ a) (m ∷ b)
   with_one m a b w = record {
     few = omega (arith, w.few);
@@ -63,13 +64,14 @@ module _ {X : Type 0} (key : X → List ℕ) (test : List ℕ → List X → Boo
         absurd (omega (arith, more, w.few));
   }
 
-  those_that_stay : (ms : List X) → Within (filter p (looking_back key test ms)) (filter p ms)
+  those_that_stay : (ms : List X)
+      → Within (filter p (looking_back_apart key kind test ms)) (filter p ms)
   those_that_stay [] = record { few = omega arith; same = λ _. refl }
   those_that_stay (m ∷ ms) =
       let rest = those_that_stay ms in
-      let a = filter p (looking_back key test ms) in
+      let a = filter p (looking_back_apart key kind test ms) in
       let b = filter p ms in
-      elim (cases_Bool (test (key m) (reverse ms))) [
+      elim (cases_Bool (test (key m) (filter (of_kind kind (kind m)) (reverse ms)))) [
         | inl stays ↦ elim (cases_Bool (p m)) [
           | inl has ↦ rw (stays, has) (with_one m a b rest)
           | inr lacks ↦ rw (stays, lacks) rest
@@ -87,7 +89,7 @@ one_came p n e h passes =
     let all : filter p (h.kept ++ (n, e) ∷ []) ≡ filter p h.kept ++ (n, e) ∷ [] =
     filter-append p h.kept ((n, e) ∷ []) ∙ rw passes refl in
     subst (λ (l : Numbered). Within (filter p (with_message n e h).kept) l) all
-    (those_that_stay target_key (stays target_key target_limit h.capacity) p
+    (those_that_stay target_key is_with_person (stays target_key target_limit h.capacity) p
     (h.kept ++ (n, e) ∷ []))
 
 many_came : (p : ℕ × EntryParts → Bool) (n : ℕ) (es : List EntryParts) (h : Messages)

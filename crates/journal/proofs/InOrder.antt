@@ -46,7 +46,7 @@ no_fault p a b d t (inr some) =
     let same = one_batch p t.0 some.0 t.1 some.1 in
     ok_err b d (sym t.2 ∙ ap (λ (rs : List RecordParts). after_batch rs a) same ∙ some.2)
 
--- where all count, none stops
+-- if all count, none stops
 pub none_stops : (ps : List (List ℕ)) (a c : KeptParts) (n : ℕ) (d : Damage) → TakesAll ps a c
     → StopsAt ps a n d → ⊥
 none_stops ps a c n d t s =
@@ -96,7 +96,7 @@ front_is : (ps : List (Bor (List ℕ))) (start : KeptParts) (n : ℕ) (d : Damag
 front_is ps start n d s =
     texts_taken n ps ∙ ap (take n) s.are ∙ take_at s.front (s.next ∷ s.later) n s.count
 
--- so many payloads are there
+-- this many payloads are there
 pub stops_within : (all ps : List (Bor (List ℕ))) (start : KeptParts) (n : ℕ) (d : Damage)
     → all ≡ ps → StopsAt (texts all) start n d → n ≡ length (take n ps)
 stops_within all ps start n d same s =

@@ -10,6 +10,8 @@ pub mod Grown
 pub mod Headers
 pub mod InOrder
 pub mod InParts
+pub mod RingsHeld
 pub mod TextParts
 pub mod NameChanges
+pub mod NameSteps
 pub mod Snapshots

@@ -22,7 +22,8 @@ use Rattle.irc_line.proofs.Logic.{cases_Bool}
 use Rattle.history.specs.Entry.{EntryParts}
 use Rattle.history.specs.Marks.{NameMarks, bytes_cmp, mark_of, with_mark}
 use Rattle.history.specs.Messages.{CanComeAgain, Messages, RiseFrom}
-use Rattle.journal.proofs.Capacities.{kept_of, one_more}
+use Rattle.history.proofs.OneMore.{Rises}
+use Rattle.journal.proofs.Capacities.{AreBelow, kept_of, one_above, one_more}
 use Rattle.journal.specs.Kept.{KeptParts, after, after_each, counted, marked, named, nothing}
 use Rattle.journal.specs.Kept.{then_after}
 use Rattle.journal.specs.Records.{RecordParts, message, next, parts_of_all, record_parts}
@@ -32,7 +33,7 @@ use Rattle.journal.specs.Snapshots.{first_of, message_records, messages_until, n
 use Rattle.journal.specs.Snapshots.{name_records, next_to, seen_records, snapshot_of}
 use Rattle.journal.specs.declared.damage.Damage.{Damage}
 
--- ---- records behind others
+-- ---- records after others
 
 then_two : (rs qs : List RecordParts) (b : KeptParts) (r : Result KeptParts Damage)
     → then_after (after_each rs) r ≡ Ok b
@@ -68,30 +69,32 @@ to_next k capacity done e n le = elim (cases_Bool (nat_eq e n)) [
 ]
 
 one_message : (k : KeptParts) (capacity : ℕ) (done : List (ℕ × EntryParts))
-    (m : ℕ × EntryParts) (last : ℕ) → m.0 < last → last < 2 ^ 64
-    → after (message m.1) (holding k capacity (kept_of capacity done) m.0)
+    (n : ℕ) (m : ℕ × EntryParts) (last : ℕ) → Rises done → AreBelow n done → n ≤ m.0 → m.0 < last
+    → last < 2 ^ 64 → after (message m.1) (holding k capacity (kept_of capacity done) m.0)
     ≡ Ok (holding k capacity (kept_of capacity (done ++ m ∷ [])) (m.0 + 1))
-one_message k capacity done m last lt small =
+one_message k capacity done n m last order under le lt small =
     let some : ltb m.0 (2 ^ 64 - 1) ≡ true = lt-ltb _ _ (omega (arith, lt, small)) in
     let more : ltb (m.0 + 1) (2 ^ 64) ≡ true = lt-ltb _ _ (omega (arith, lt, small)) in
-    rw (some, more, one_more capacity m done) refl
+    rw (some, more, one_more capacity n m done le order under) refl
 
 messages_again : (k : KeptParts) (capacity : ℕ) (done : List (ℕ × EntryParts)) (n : ℕ)
-    (ms : List (ℕ × EntryParts)) (last : ℕ) → RiseFrom n ms
+    (ms : List (ℕ × EntryParts)) (last : ℕ) → Rises done → AreBelow n done → RiseFrom n ms
     → AllByRecursion (λ m. m.0 < last) ms → n ≤ last → last < 2 ^ 64
     → after_each (messages_until n ms last) (holding k capacity (kept_of capacity done) n)
     ≡ Ok (holding k capacity (kept_of capacity (done ++ ms)) last)
-messages_again k capacity done n [] last rise below le small =
+messages_again k capacity done n [] last order under rise below le small =
     to_next k capacity (kept_of capacity done) n last le
     ∙ ap (λ (l : List (ℕ × EntryParts)). Ok (holding k capacity (kept_of capacity l) last))
     (sym (append-nil done))
-messages_again k capacity done n (m ∷ ms) last rise below le small =
+messages_again k capacity done n (m ∷ ms) last order under rise below le small =
+    let grown = one_above n m done rise.0 order under in
     let later = messages_until (m.0 + 1) ms last in
     let held = kept_of capacity done in
     after_two (next_to n m.0) (message m.1 ∷ later) (holding k capacity held n)
     (holding k capacity held m.0) (to_next k capacity held n m.0 rise.0)
-    ∙ ap (then_after (after_each later)) (one_message k capacity done m last below.0 small)
-    ∙ messages_again k capacity (done ++ m ∷ []) (m.0 + 1) ms last rise.1 below.1
+    ∙ ap (then_after (after_each later))
+    (one_message k capacity done n m last order under rise.0 below.0 small)
+    ∙ messages_again k capacity (done ++ m ∷ []) (m.0 + 1) ms last grown.0 grown.1 rise.1 below.1
     (omega (arith, below.0)) small
     ∙ ap (λ (l : List (ℕ × EntryParts)). Ok (holding k capacity (kept_of capacity l) last))
     (append_assoc done (m ∷ []) ms)
@@ -116,7 +119,7 @@ all_messages capacity first last ms rise below small low =
     let rises : nat_le first f ≡ true = grind (arith, nat_tests, low) in
     let begun : after (next f) start ≡ Ok (holding start capacity [] f) = rw rises refl in
     ap (then_after (after_each (messages_until f ms last))) begun
-    ∙ messages_again start capacity [] f ms last (rise_first ms last rise) below
+    ∙ messages_again start capacity [] f ms last tt tt (rise_first ms last rise) below
     (first_low ms last below) small
 
 -- ---- names
@@ -338,7 +341,7 @@ all_below ms h last is again is_next =
     rw is_next at again.below in
     rw is below
 
--- the entry at a place, and none behind the last
+-- the entry at a place, and none after the last
 at_some : {X : Type 0} (es : List X) (i : ℕ) (e : X) → slice_get es i ≡ Some e
     → drop i es ≡ e ∷ drop (i + 1) es
 at_some [] i e is = absurd cc
@@ -375,7 +378,7 @@ pub names_done : (latest m : NameMarks) (i : ℕ) → fin.len m ≤ i
 names_done latest m i le =
     ap (name_records latest) (drop_all i (fin.entries m) (omega (arith, le, len-entries m)))
 
--- the records behind a name's, of which these are the first
+-- the records after a name's, of which these are the first
 pub name_pushed : (old new : List Record) (r : Record) (n : RecordParts)
     (told : List RecordParts) (seen later all : List RecordParts) → new ≡ old ++ r ∷ []
     → record_parts r ≡ n → told ≡ parts_of_all new ++ seen → all ≡ (n ∷ seen) ++ later

@@ -11,8 +11,8 @@ use Rattle.history.specs.Marks.{NameMarks, mark_of}
 use Rattle.history.specs.Messages.{Messages, is_missed, with_message}
 use Rattle.journal.specs.Kept.{KeptParts, after_batch, channel_parts}
 use Rattle.journal.specs.Records.{RecordParts, gone, parts_of_all}
-use Rattle.journal.specs.Snapshots.{channel_records, counting, message_records, name_record}
-use Rattle.journal.specs.Snapshots.{seen_records}
+use Rattle.journal.specs.Snapshots.{channel_records, counting, have_rings, message_records}
+use Rattle.journal.specs.Snapshots.{name_record, seen_records}
 use Rattle.journal.specs.declared.changes.Changes.{Changes}
 use Rattle.journal.specs.declared.changes.Changes.TheVariants as changes
 use Rattle.journal.specs.declared.changes.Written.{Written}
@@ -26,14 +26,20 @@ number_before number = if nat_eq number 0 then None else Some (number - 1)
 abbrev pub messages_from : ℕ → Messages → List (ℕ × EntryParts)
 messages_from number h = filter (is_missed (number_before number)) h.kept
 
--- whether none is missing of those from one number up to another
+-- whether all from one number up to another are there
 abbrev pub none_missing : ℕ → ℕ → Messages → Bool
 none_missing from last h =
     nat_le from last && nat_eq (length (messages_from from h)) (last - from)
 
+-- whether the messages since can be appended to what was written: none is missing, and none has a
+-- ring if the file can have none
+abbrev pub can_append : Written → ℕ → Messages → Bool
+can_append w last h =
+    none_missing w.next last h && (w.rings || not (have_rings (messages_from w.next h)))
+
 -- ---- client names: each with its mark, and with what its sessions were given since
 
--- whether a mark may stand after another one, which never goes back
+-- whether a mark may come after another one: marks never go back
 abbrev pub rises : Option ℕ → Option ℕ → Bool
 rises None mark = true
 rises (Some before) None = false
@@ -73,7 +79,7 @@ name_changes old old_latest new new_latest =
 
 -- ---- all of it
 
--- the batch of what changed, where this is the number of the next message
+-- the batch of what changed, if this is the number of the next message
 abbrev pub batch_of : Written → ℕ → Messages → NameMarks → NameMarks
     → List (List ℕ × Option (List ℕ)) → List RecordParts
 batch_of w last h marks latest channels =
@@ -91,11 +97,11 @@ pub record IsUnchanged (w : Written) (last : ℕ) (marks latest : NameMarks)
 abbrev pub TellsAt : Changes → Written → ℕ → Messages → NameMarks → NameMarks
     → List (List ℕ × Option (List ℕ)) → Type 0
 TellsAt changes.Nothing w last h marks latest channels =
-    (none_missing w.next last h ≡ true) × IsUnchanged w last marks latest channels
+    (can_append w last h ≡ true) × IsUnchanged w last marks latest channels
 TellsAt (changes.Batch records) w last h marks latest channels =
-    (none_missing w.next last h ≡ true) × (IsUnchanged w last marks latest channels → ⊥)
+    (can_append w last h ≡ true) × (IsUnchanged w last marks latest channels → ⊥)
     × (parts_of_all records.items ≡ batch_of w last h marks latest channels)
-TellsAt changes.Snapshot w last h marks latest channels = none_missing w.next last h ≡ false
+TellsAt changes.Snapshot w last h marks latest channels = can_append w last h ≡ false
 TellsAt changes.Spent w last h marks latest channels = ⊥
 
 abbrev pub TellsBy : Option ℕ → Changes → Written → Messages → NameMarks → NameMarks
@@ -104,14 +110,15 @@ TellsBy None c w h marks latest channels = c ≡ changes.Spent
 TellsBy (Some last) c w h marks latest channels = TellsAt c w last h marks latest channels
 
 -- What is to be written after what was written: nothing if nothing has changed; a batch of what has;
--- all of it if a message since was forgotten; nothing more after the last number.
+-- all of it if a message since was forgotten, or has a ring and the file can have none; nothing more
+-- after the last number.
 abbrev pub Tells : Changes → Written → Messages → NameMarks → NameMarks
     → List (List ℕ × Option (List ℕ)) → Type 0
 Tells c w h marks latest channels = TellsBy h.next c w h marks latest channels
 
 -- ---- what a batch leaves
 
--- a history to which these messages came, of which the first has this number
+-- a history that took these messages, the first with this number
 abbrev pub grown : ℕ → List EntryParts → Messages → Messages
 grown number [] h = h
 grown number (e ∷ es) h = grown (number + 1) es (with_message number e h)

@@ -20,14 +20,14 @@ DoTheSame records batches =
     (k kept : KeptParts) → k.channels ≡ [] → after_batch records k ≡ Ok kept
     → after_all batches k ≡ Ok kept
 
--- behind these bytes the records stand as batches
+-- after these bytes the records are written as batches
 pub record AreWritten (records : List RecordParts) (old new : List ℕ) : Type 0 where
   pub batches : List (List RecordParts)
   pub are : new ≡ old ++ journal_of batches
   pub sound : AreBatches batches
   pub same : DoTheSame records batches
 
--- the number of the message behind a record
+-- the number of the message after a record
 abbrev pub next_after : RecordParts → Option ℕ → Option ℕ
 next_after (next number) before = Some number
 next_after (message e) before = option_and_then number_after before

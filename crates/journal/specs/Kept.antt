@@ -52,13 +52,13 @@ skipped number None h = Err damage.BadNumber
 skipped number (Some lowest) h =
     if nat_le lowest number then Ok (record h { next = Some number }) else Err damage.BadNumber
 
--- a message more, where a number is left behind its own
+-- a message more, if a number is left after its own
 abbrev pub with_next : EntryParts → Option ℕ → Messages → Result Messages Damage
 with_next e None h = Err damage.BadNumber
 with_next e (Some number) h =
     if nat_lt number (2 ^ 64 - 1) then Ok (with_message number e h) else Err damage.BadNumber
 
--- a name more, where it is known or fewer than 64 are
+-- a name more, if it is known or fewer than 64 are
 abbrev pub named : List ℕ → NameMarks → Result NameMarks Damage
 named x marks =
     if not (fin.contains_key marks x) && nat_le 64 (fin.len marks) then Err damage.TooManyNames
@@ -118,7 +118,7 @@ abbrev pub after_each : List RecordParts → KeptParts → Result KeptParts Dama
 after_each [] k = Ok k
 after_each (r ∷ rs) k = then_after (after_each rs) (after r k)
 
--- a batch tells all channels that we are on
+-- a batch names all channels that we are on
 abbrev pub after_batch : List RecordParts → KeptParts → Result KeptParts Damage
 after_batch rs k = after_each rs (record k { channels = [] })
 
@@ -128,7 +128,7 @@ after_all (b ∷ bs) k = then_after (after_all bs) (after_batch b k)
 
 -- ---- what a call did
 
--- what was to come of it came, or it is told why not
+-- what was to come of it came, or the error says why not
 abbrev pub Does : {T A : Type 0} → Result T RedoError → Result A Damage → A → Type 0
 Does (Ok x) wanted new = wanted ≡ Ok new
 Does (Err (fault.Damaged d)) wanted new = wanted ≡ Err d

@@ -1,11 +1,11 @@
 -- What is recalled of a journal.
-use Rattle.std.specs.Prelude.{◌≡◌, ◌⊎◌, ◌+◌, ◌++◌, ℕ, List, [], ◌∷◌, Option, None, Some, Ok, Err}
-use Rattle.std.specs.Prelude.{length}
+use Rattle.std.specs.Prelude.{◌≡◌, ◌⊎◌, ◌+◌, ◌++◌, ℕ, Bool, false, List, [], ◌∷◌, Option, None, Some}
+use Rattle.std.specs.Prelude.{Ok, Err, length}
 use Rattle.std.specs.List.{flat_map}
 use Rattle.journal.specs.Kept.{KeptParts, after_all, after_batch, kept_parts}
 use Rattle.frames.specs.Frames.{Splits, frame}
 use Rattle.history.specs.Messages.{AreKeptBefore, Messages}
-use Rattle.journal.specs.Header.{IsPart, header}
+use Rattle.journal.specs.Header.{IsPart, header_for}
 use Rattle.journal.specs.Records.{IsBatch, RecordParts}
 use Rattle.journal.specs.declared.damage.Damage.{Damage}
 use Rattle.journal.specs.declared.damage.Damage.TheVariants as damage
@@ -37,7 +37,7 @@ abbrev pub FailsBy : List ℕ → KeptParts → RedoError → Type 0
 FailsBy payload old (fault.Damaged d) = Fails payload old d
 FailsBy payload old fault.OutOfMemory = Unit {0}
 
--- of these payloads so many count, and the next one does not, for this reason
+-- of these payloads this many count, and the next one does not, for this reason
 pub record StopsAt (payloads : List (List ℕ)) (start : KeptParts) (done : ℕ) (d : Damage) : Type 0
   where
     pub front : List (List ℕ)
@@ -49,7 +49,7 @@ pub record StopsAt (payloads : List (List ℕ)) (start : KeptParts) (done : ℕ)
     pub took : TakesAll front start kept
     pub fails : Fails next kept d
 
--- all count, or it is told up to which
+-- all count, or the result says up to which
 abbrev pub IsRedone : List (List ℕ) → KeptParts → Redone → Type 0
 IsRedone payloads start (redone.All k) = TakesAll payloads start (kept_parts k)
 IsRedone payloads start (redone.Until done d) = StopsAt payloads start done d
@@ -71,7 +71,7 @@ pub record IsRecalled (payloads : List (List ℕ)) (start : KeptParts) (batches 
   pub took : TakesAll front start kept
   pub ends : EndsBy later kept damage
 
--- the same of bytes: of the payloads of their frames, of which those that count have so many bytes
+-- the same of bytes: of the payloads of their frames; those that count have this many bytes
 pub record Recalls (start : KeptParts) (bytes : List ℕ) (batches used : ℕ) (damage : Option Damage)
     (kept : KeptParts) : Type 0 where
   pub payloads : List (List ℕ)
@@ -80,28 +80,30 @@ pub record Recalls (start : KeptParts) (bytes : List ℕ) (batches used : ℕ) (
   pub recalled : IsRecalled payloads start batches damage kept
   pub size : used ≡ length (flat_map frame recalled.front)
 
--- the same of a file: of the bytes behind the header, which counts too
-pub record RecallsBehind (start : KeptParts) (bytes : List ℕ) (batches used : ℕ)
+-- the same of a file, which may have messages with rings or not: of the bytes after its header,
+-- which counts too
+pub record RecallsBehind (start : KeptParts) (bytes : List ℕ) (rings : Bool) (batches used : ℕ)
     (damage : Option Damage) (kept : KeptParts) : Type 0 where
   pub more : List ℕ
   pub behind : ℕ
-  pub are : bytes ≡ frame header ++ more
+  pub are : bytes ≡ frame (header_for rings) ++ more
   pub recalls : Recalls start more batches behind damage kept
-  pub size : used ≡ length (frame header) + behind
+  pub size : used ≡ length (frame (header_for rings)) + behind
 
--- of a part of the header nothing is recalled
-pub record RecallsNothing (start : KeptParts) (bytes : List ℕ) (batches used : ℕ)
+-- of a part of a header nothing is recalled, and messages with rings can't be appended to it
+pub record RecallsNothing (start : KeptParts) (bytes : List ℕ) (rings : Bool) (batches used : ℕ)
     (damage : Option Damage) (kept : KeptParts) : Type 0 where
   pub part : IsPart bytes
+  pub no_rings : rings ≡ false
   pub start_kept : kept ≡ start
   pub no_batches : batches ≡ 0
   pub none_used : used ≡ 0
   pub no_damage : damage ≡ None
 
-abbrev pub RecallsFile : KeptParts → List ℕ → ℕ → ℕ → Option Damage → KeptParts → Type 0
-RecallsFile start bytes batches used damage kept =
-    RecallsBehind start bytes batches used damage kept
-    ⊎ RecallsNothing start bytes batches used damage kept
+abbrev pub RecallsFile : KeptParts → List ℕ → Bool → ℕ → ℕ → Option Damage → KeptParts → Type 0
+RecallsFile start bytes rings batches used damage kept =
+    RecallsBehind start bytes rings batches used damage kept
+    ⊎ RecallsNothing start bytes rings batches used damage kept
 
 -- this is kept after a beginning of these batches
 pub record IsAfterBeginning (batches : List (List RecordParts)) (start kept : KeptParts) : Type 0

@@ -1,7 +1,7 @@
 -- What a journal says, and its text: a record is a line of IRC, a batch is some records.
-use Rattle.std.specs.Prelude.{◌≡◌, ◌<◌, ◌^◌, ◌++◌, ℕ, List, [], ◌∷◌, Option, None, Some, Vec}
+use Rattle.std.specs.Prelude.{◌≡◌, ◌<◌, ◌^◌, ◌++◌, ℕ, Bool, List, [], ◌∷◌, Option, None, Some, Vec}
 use Rattle.std.specs.Prelude.{IsTrue}
-use Rattle.std.specs.Prelude.{codes, decimal, length, map}
+use Rattle.std.specs.Prelude.{◌==◌, codes, decimal, if◌then◌else◌, is_none, length, map, position}
 use Rattle.std.specs.List.{AllByRecursion, flat_map}
 use Rattle.std.specs.Option.{option_map}
 use Rattle.std.specs.declared.alloc.Global.{Global}
@@ -40,6 +40,31 @@ record_parts (rec.On channel key) = on channel.items (option_map text_of key)
 abbrev pub parts_of_all : List Record → List RecordParts
 parts_of_all records = map record_parts records
 
+-- a name as the value of a tag (IRCv3 message-tags, escaped values: `;` is `\:`, `\` is `\\`)
+abbrev pub escaped_byte : ℕ → List ℕ
+escaped_byte b =
+    if b == 59 then codes "\\:" else
+    if b == 92 then codes "\\\\" else b ∷ []
+
+abbrev pub escaped : List ℕ → List ℕ
+escaped x = flat_map escaped_byte x
+
+-- the tag of a person's ring, after that of the time
+abbrev pub ring_tag : Option (List ℕ) → List ℕ
+ring_tag None = []
+ring_tag (Some x) = codes ";ring=" ++ escaped x
+
+abbrev pub tags_of : EntryParts → List ℕ
+tags_of e = codes "time=" ++ (e.time ++ ring_tag e.ring)
+
+-- where the first tag ends
+abbrev pub end_of_tag : List ℕ → Option ℕ
+end_of_tag tags = position (λ b. b == 59) tags
+
+-- whether a text is no more than one tag
+abbrev pub is_one_tag : List ℕ → Bool
+is_one_tag text = is_none (end_of_tag text)
+
 -- a line of this command and these parameters
 abbrev pub bare : List ℕ → List (List ℕ) → Parts
 bare command params = untagged_line None command params
@@ -48,8 +73,7 @@ bare command params = untagged_line None command params
 abbrev pub line_for : RecordParts → Parts
 line_for (next number) = bare (codes "NEXT") (decimal number ∷ [])
 line_for (message e) =
-    line_of_parts (Some (codes "time=" ++ e.time)) (Some e.source) e.command
-    (e.target ∷ e.text ∷ [])
+    line_of_parts (Some (tags_of e)) (Some e.source) e.command (e.target ∷ e.text ∷ [])
 line_for (name x) = bare (codes "NAME") (x ∷ [])
 line_for (mark x number) = bare (codes "MARK") (x ∷ decimal number ∷ [])
 line_for (seen x number) = bare (codes "SEEN") (x ∷ decimal number ∷ [])
@@ -57,10 +81,12 @@ line_for (gone x) = bare (codes "GONE") (x ∷ [])
 line_for (on channel None) = bare (codes "ON") (channel ∷ [])
 line_for (on channel (Some key)) = bare (codes "ON") (channel ∷ key ∷ [])
 
--- a number has 64 bits; a message can be written, and is a PRIVMSG or a NOTICE
+-- a number has 64 bits; a message can be written, is a PRIVMSG or a NOTICE, and its time is no more
+-- than one tag
 abbrev pub IsRight : RecordParts → Type 0
 IsRight (next number) = number < 2 ^ 64
-IsRight (message e) = IsWrittenEntry e × IsTrue (is_message_command e.command)
+IsRight (message e) =
+    IsWrittenEntry e × IsTrue (is_message_command e.command) × IsTrue (is_one_tag e.time)
 IsRight (name x) = Unit {0}
 IsRight (mark x number) = number < 2 ^ 64
 IsRight (seen x number) = number < 2 ^ 64

@@ -1,26 +1,25 @@
 -- The records that say all that is kept.
-use Rattle.std.specs.Prelude.{◌≡◌, ◌≤◌, ◌+◌, ◌++◌, ℕ, List, [], ◌∷◌, Option, None, Some, Ok}
+use Rattle.std.specs.Prelude.{◌≡◌, ◌≤◌, ◌+◌, ◌++◌, ℕ, Bool, List, [], ◌∷◌, Option, None, Some, Ok}
 use Rattle.std.specs.Prelude.{if◌then◌else◌, map, nat_eq}
 use Rattle.std.specs.FinMap as fin
-use Rattle.std.specs.List.{AllByRecursion, flat_map}
+use Rattle.std.specs.List.{AllByRecursion, flat_map, list_any}
 use Rattle.history.specs.Entry.{EntryParts}
 use Rattle.history.specs.Marks.{NameMarks, mark_of}
-use Rattle.history.specs.Messages.{Messages, target_key, target_limit}
-use Rattle.history.specs.Retained.{retained}
+use Rattle.history.specs.Messages.{Messages, is_with_person, retained_of}
 use Rattle.journal.specs.Kept.{KeptParts, after_batch, nothing}
 use Rattle.journal.specs.Records.{RecordParts, gone, mark, message, name, next, on, seen}
 
--- the next number, where it is not the one that is expected
+-- the next number, if it is not the one that is expected
 abbrev pub next_to : ℕ → ℕ → List RecordParts
 next_to expected number = if nat_eq expected number then [] else next number ∷ []
 
--- messages, of which the first is expected to have this number, and the number that is next then
+-- messages, the first expected to have this number, and the number that is next then
 abbrev pub messages_until : ℕ → List (ℕ × EntryParts) → ℕ → List RecordParts
 messages_until expected [] last = next_to expected last
 messages_until expected (m ∷ ms) last =
     next_to expected m.0 ++ (message m.1 ∷ messages_until (m.0 + 1) ms last)
 
--- the number of the first message, or the next number where there is none
+-- the number of the first message, or the next number if there is none
 abbrev pub first_of : List (ℕ × EntryParts) → ℕ → ℕ
 first_of [] last = last
 first_of (m ∷ ms) last = m.0
@@ -46,7 +45,11 @@ name_records latest es =
 abbrev pub channel_records : List (List ℕ × Option (List ℕ)) → List RecordParts
 channel_records cs = map (λ c. on c.0 c.1) cs
 
--- all of it, where this is the number of the next message
+-- whether one of messages is in a person's ring
+abbrev pub have_rings : List (ℕ × EntryParts) → Bool
+have_rings ms = list_any is_with_person ms
+
+-- all of it, if this is the number of the next message
 abbrev pub snapshot_of : ℕ → Messages → NameMarks → NameMarks
     → List (List ℕ × Option (List ℕ)) → List RecordParts
 snapshot_of last h marks latest channels =
@@ -69,11 +72,11 @@ counting marks latest = fin.from_entries (counting_all latest (fin.entries marks
 abbrev pub in_capacity : ℕ → Messages → Messages
 in_capacity capacity h = record {
   capacity = capacity;
-  kept = retained target_key target_limit capacity h.kept;
+  kept = retained_of capacity h.kept;
   next = h.next;
 }
 
--- what is kept where all of it is, in a history of this capacity
+-- what is kept if all of it is, in a history of this capacity
 abbrev pub all_kept : ℕ → Messages → NameMarks → NameMarks → List (List ℕ × Option (List ℕ))
     → KeptParts
 all_kept capacity h marks latest channels = record {
@@ -83,7 +86,7 @@ all_kept capacity h marks latest channels = record {
   channels = channels;
 }
 
--- after these records from nothing, all of it is kept, where the first number is none that was
+-- after these records from nothing, all of it is kept, if the first number is none that was
 -- passed
 abbrev pub GivesBack : List RecordParts → ℕ → Messages → NameMarks → NameMarks
     → List (List ℕ × Option (List ℕ)) → Type 0

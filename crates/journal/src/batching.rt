@@ -8,7 +8,7 @@ ghost use Rattle.journal.specs.Records.{AreBatches, journal_of, parts_of_all, re
 
 use crate::record::Record;
 use crate::texts::{PushError, push_batch};
-use history::OutOfMemory;
+use history::{Entry, OutOfMemory};
 use std::alloc::Global;
 use std::mem;
 
@@ -29,8 +29,16 @@ struct Filling {
     size: usize,
     // the number of the next message, if it is known
     next: Option<u64>,
-    // whether no channel stands in that one
+    // whether no channel is in that one
     is_open: bool,
+}
+
+/// How many bytes a ring's name has at most in a line.
+fn ring_size(entry: &Entry) -> usize {
+    match entry.ring() {
+        Some(name) => name.len().saturating_mul(2),
+        None => 0,
+    }
 }
 
 /// How many bytes the line of a record has at most.
@@ -39,6 +47,7 @@ fn size_of(item: &Record) -> usize {
         Record::Next(_) => LINE_SIZE,
         Record::Message(entry) => LINE_SIZE
             .saturating_add(entry.time().len())
+            .saturating_add(ring_size(entry))
             .saturating_add(entry.source().len())
             .saturating_add(entry.command().len())
             .saturating_add(entry.target().len())
@@ -93,8 +102,8 @@ impl Filling {
         Ok(())
     }
 
-    /// Ends the batch that is filled, if it has no room for a record of so many bytes and may end.
-    /// Channels stay together.
+    /// Ends the batch that is filled, if it has no room for a record of this many bytes and may
+    /// end. Channels stay together.
     fn make_room(&mut self, alloc: Global, item: &Record, size: usize) -> Result<(), OutOfMemory>
         ensures { OnOk result ((k j : KeptParts) → Leaves self.old k j → Leaves self.new k j) }
     {
@@ -134,7 +143,7 @@ impl Filling {
     }
 }
 
-/// Records as batches, of which all but the last have no channels.
+/// Records as batches; all of these but the last have no channels.
 fn in_batches(alloc: Global, records: Vec<Record>) -> Result<Vec<Vec<Record>>, OutOfMemory>
     ensures { IfOk result (λ r. DoTheSame (parts_of_all records.items) (texts_of r.items)) }
 {
@@ -170,7 +179,7 @@ fn push_all(alloc: Global, out: &mut Vec<u8>, batches: &[Vec<Record>]) -> Result
 
 /// Appends records as batches of at most 1 MiB, each as a frame: a batch ends before the record for
 /// which it has no room, and the next one begins with the number of its first message. All channels
-/// stand in the last one. What is kept after the batches is what is kept after one batch of all
+/// are in the last one. What is kept after the batches is what is kept after one batch of all
 /// records. After an error `out` is unchanged.
 pub fn push_batches(alloc: Global, out: &mut Vec<u8>, records: Vec<Record>) -> Result<(), PushError>
     ensures ok { OnOk result

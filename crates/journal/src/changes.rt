@@ -9,7 +9,7 @@ ghost use Rattle.journal.specs.Changes.{gone_of, grown, is_changed, is_gone, kep
 ghost use Rattle.journal.specs.Changes.{name_changes, rises};
 ghost use Rattle.journal.specs.Kept.{KeptParts, channel_parts};
 ghost use Rattle.journal.specs.Records.{parts_of_all};
-ghost use Rattle.journal.specs.Snapshots.{channel_records, message_records};
+ghost use Rattle.journal.specs.Snapshots.{channel_records, have_rings, message_records};
 
 use crate::kept::Channel;
 use crate::record::Record;
@@ -28,6 +28,8 @@ pub struct Written {
     pub latest: Marks,
     /// The channels that we are on.
     pub channels: Vec<Channel>,
+    /// Whether messages with rings may be in its file, by its header.
+    pub rings: bool,
 }
 
 /// What is to be written.
@@ -37,7 +39,8 @@ pub enum Changes {
     Nothing,
     /// A batch of these records.
     Batch(Vec<Record>),
-    /// All of it, in a new file: a message was forgotten before it was written.
+    /// All of it, in a new file: a message was forgotten before it was written, or has a ring, and the
+    /// file can have none.
     Snapshot,
     /// Nothing more: the last number was given, after which no journal can go on.
     Spent,
@@ -56,7 +59,21 @@ fn messages_from(
     history.numbered_above(alloc, before)
 }
 
-/// Whether a mark may stand after another one.
+/// Whether one of these messages has a ring.
+fn have_rings(messages: &[(u64, &Entry)]) -> bool
+    ensures { result ≡ have_rings (map (λ m. (m.0, m.1.now)) messages.now) }
+{
+    let mut rest = messages;
+    while let [message, after @ ..] = rest {
+        if message.1.ring().is_some() {
+            return true;
+        }
+        rest = after;
+    }
+    false
+}
+
+/// Whether a mark may come after another one.
 fn rises(before: Option<u64>, mark: Option<u64>) -> bool
     ensures { result ≡ rises before mark }
 {
@@ -317,6 +334,9 @@ fn changes_at(
     if last < written.next || (messages.len() as u64) != last - written.next {
         return Ok(Changes::Snapshot);
     }
+    if !written.rings && have_rings(&messages) {
+        return Ok(Changes::Snapshot);
+    }
     match batch(alloc, written, messages, last, marks, latest, channels)? {
         Some(records) => Ok(Changes::Batch(records)),
         None => Ok(Changes::Nothing),
@@ -325,7 +345,8 @@ fn changes_at(
 
 /// What is to be written after what a journal says: a batch with the messages since, the names that
 /// changed, and all channels; or a new file, exactly if a message since was forgotten by its ring,
-/// so that a batch could not say which others went for it.
+/// so that a batch could not say which others went for it, or has the ring of a person, and the file
+/// can have none.
 #[tactic(auto, using(crate::proofs::Batches::tells_then))]
 pub fn what_changed(
     alloc: Global,

@@ -6,7 +6,7 @@ ghost use Rattle.journal.specs.Kept.{KeptParts, after_all, after_batch};
 ghost use Rattle.journal.specs.Records.{RecordParts};
 ghost use Rattle.journal.specs.Snapshots.{AreNoChannels};
 
-/// Records can be written as several batches, if only the last one tells of channels: what is kept
+/// Records can be written as several batches, if only the last one names channels: what is kept
 /// after these is what is kept after one batch of them all.
 pub fn records_in_parts()
     ensures { (parts : List (List RecordParts)) (last : List RecordParts) (k kept : KeptParts) →

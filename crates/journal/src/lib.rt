@@ -28,5 +28,5 @@ pub use recalling::{Recalled, recall};
 pub use record::Record;
 pub use replaying::RecallError;
 pub use shown::messages_text;
-pub use snapshotting::snapshot;
+pub use snapshotting::{has_rings, snapshot};
 pub use texts::{PushError, push_batch};

@@ -1,10 +1,10 @@
 //! A journal is recalled.
 
 ghost use Rattle.std.specs.Prelude.{◌≡◌, ◌↔◌, ◌<◌, ◌^◌, ◌++◌, IfOk, IsErrOf, List, None, Ok, Some, ℕ};
-ghost use Rattle.std.specs.Prelude.{false, length, take};
+ghost use Rattle.std.specs.Prelude.{Bool, false, length, take};
 ghost use Rattle.history.specs.Messages.{is_capacity};
 ghost use Rattle.frames.specs.Frames.{frame, frame_at};
-ghost use Rattle.journal.specs.Header.{IsForeign, IsOfAnotherVersion, file_of, header};
+ghost use Rattle.journal.specs.Header.{IsForeign, IsOfAnotherVersion, file_of, header_for};
 ghost use Rattle.journal.specs.Kept.{KeptParts, after_all, kept_parts, nothing};
 ghost use Rattle.journal.specs.Recalls.{CanBegin, Fails, IsAfterBeginning, Recalls, RecallsBehind};
 ghost use Rattle.journal.specs.Recalls.{RecallsFile};
@@ -25,6 +25,9 @@ use std::alloc::Global;
 pub struct Recalled {
     /// What is kept after its batches, up to the first that does not count.
     pub kept: Kept,
+    /// Whether messages with rings may be in its file, by its header. `false` if the file ends
+    /// within its header.
+    pub rings: bool,
     /// How many batches count.
     pub batches: usize,
     /// How many bytes of the file count, with its header: after them it is to be cut.
@@ -33,14 +36,16 @@ pub struct Recalled {
     pub damage: Option<Damage>,
 }
 
-/// Recalls the batches of frames.
+/// Recalls the batches of frames, of a file that may have messages with rings or not.
 #[tactic(auto, using(crate::proofs::FrameSizes::small_all, crate::proofs::FrameSizes::small_part, crate::proofs::InOrder::recalled_all, crate::proofs::InOrder::recalled_part, crate::proofs::InOrder::no_second,))]
 fn recall_frames(
     alloc: Global,
     capacity: usize,
     first: u64,
+    rings: bool,
     bytes: &[u8],
 ) -> Result<Recalled, RecallError>
+    ensures rings { IfOk result (λ r. r.rings ≡ rings) }
     ensures recalls { IfOk result (λ r. Recalls (nothing capacity first) bytes.now r.batches
         r.used r.damage (kept_parts r.kept)) }
     ensures bad { IsErrOf result RecallError.BadCapacity → is_capacity capacity ≡ false }
@@ -53,6 +58,7 @@ fn recall_frames(
     match redo_all(alloc, capacity, first, all)? {
         Redone::All(kept) => Ok(Recalled {
             kept,
+            rings,
             batches: payloads.len(),
             used: frames_length(payloads),
             damage: None,
@@ -64,6 +70,7 @@ fn recall_frames(
                     payloads.truncate(done);
                     Ok(Recalled {
                         kept,
+                        rings,
                         batches: done,
                         used: frames_length(payloads),
                         damage: Some(damage),
@@ -82,16 +89,17 @@ fn recall_behind(
     capacity: usize,
     first: u64,
     bytes: &[u8],
+    rings: bool,
     more: &[u8],
 ) -> Result<Recalled, RecallError>
-    requires { bytes.now ≡ frame header ++ more.now }
-    ensures recalls { IfOk result (λ r. RecallsBehind (nothing capacity first) bytes.now r.batches
-        r.used r.damage (kept_parts r.kept)) }
+    requires { bytes.now ≡ frame (header_for rings) ++ more.now }
+    ensures recalls { IfOk result (λ r. RecallsBehind (nothing capacity first) bytes.now r.rings
+        r.batches r.used r.damage (kept_parts r.kept)) }
     ensures bad { IsErrOf result RecallError.BadCapacity → is_capacity capacity ≡ false }
     ensures ours { IsErrOf result RecallError.NotAJournal → ⊥ }
     ensures known { IsErrOf result RecallError.LaterVersion → ⊥ }
 {
-    let mut recalled = recall_frames(alloc, capacity, first, more)?;
+    let mut recalled = recall_frames(alloc, capacity, first, rings, more)?;
     recalled.used += bytes.len() - more.len();
     Ok(recalled)
 }
@@ -103,16 +111,17 @@ fn recall_file(
     first: u64,
     bytes: &[u8],
 ) -> Result<Recalled, RecallError>
-    ensures recalls { IfOk result (λ r. RecallsFile (nothing capacity first) bytes.now r.batches
-        r.used r.damage (kept_parts r.kept)) }
+    ensures recalls { IfOk result (λ r. RecallsFile (nothing capacity first) bytes.now r.rings
+        r.batches r.used r.damage (kept_parts r.kept)) }
     ensures not_a_journal { IsErrOf result RecallError.NotAJournal → IsForeign bytes.now }
     ensures later { IsErrOf result RecallError.LaterVersion → IsOfAnotherVersion bytes.now }
     ensures bad { IsErrOf result RecallError.BadCapacity → is_capacity capacity ≡ false }
 {
     match behind_header(alloc, bytes)? {
-        Some(more) => recall_behind(alloc, capacity, first, bytes, more),
+        Some((rings, more)) => recall_behind(alloc, capacity, first, bytes, rings, more),
         None => Ok(Recalled {
             kept: nothing(alloc, capacity, first)?,
+            rings: false,
             batches: 0,
             used: 0,
             damage: None,
@@ -130,27 +139,28 @@ pub fn recall(
     first: u64,
     bytes: &[u8],
 ) -> Result<Recalled, RecallError>
-    ensures recalls { IfOk result (λ r. RecallsFile (nothing capacity first) bytes.now r.batches
-        r.used r.damage (kept_parts r.kept)) }
+    ensures recalls { IfOk result (λ r. RecallsFile (nothing capacity first) bytes.now r.rings
+        r.batches r.used r.damage (kept_parts r.kept)) }
     // A hub can begin with it.
     ensures begins { IfOk result (λ r. CanBegin r.kept.history) }
     // Of what was written and then cut, a beginning of the batches is recalled.
-    ensures cut { (batches : List (List RecordParts)) (n : ℕ) → AreBatches batches →
-        bytes.now ≡ take n (file_of batches) → IfOk result (λ r.
+    ensures cut { (rings : Bool) (batches : List (List RecordParts)) (n : ℕ) → AreBatches batches →
+        bytes.now ≡ take n (file_of rings batches) → IfOk result (λ r.
         IsAfterBeginning batches (nothing capacity first) (kept_parts r.kept)) }
     // Of what was written, and bytes after it that begin no frame, all batches are.
-    ensures whole { (batches : List (List RecordParts)) (torn : List ℕ) (kept : KeptParts) →
-        AreBatches batches → frame_at torn ≡ None → bytes.now ≡ file_of batches ++ torn →
+    ensures whole { (rings : Bool) (batches : List (List RecordParts)) (torn : List ℕ)
+        (kept : KeptParts) → AreBatches batches → frame_at torn ≡ None →
+        bytes.now ≡ file_of rings batches ++ torn →
         after_all batches (nothing capacity first) ≡ Ok kept → IfOk result (λ r.
-        (kept_parts r.kept ≡ kept) × (r.damage ≡ None) × (r.batches ≡ length batches)
-        × (r.used ≡ length (file_of batches))) }
+        (kept_parts r.kept ≡ kept) × (r.rings ≡ rings) × (r.damage ≡ None)
+        × (r.batches ≡ length batches) × (r.used ≡ length (file_of rings batches))) }
     // A sound frame after them that does not count ends it, with all before it, and is reported.
-    ensures damaged { (batches : List (List RecordParts)) (bad more : List ℕ) (kept : KeptParts)
-        (why : Damage) → AreBatches batches → length bad < 2 ^ 32 →
-        bytes.now ≡ file_of batches ++ (frame bad ++ more) →
+    ensures damaged { (rings : Bool) (batches : List (List RecordParts)) (bad more : List ℕ)
+        (kept : KeptParts) (why : Damage) → AreBatches batches → length bad < 2 ^ 32 →
+        bytes.now ≡ file_of rings batches ++ (frame bad ++ more) →
         after_all batches (nothing capacity first) ≡ Ok kept → Fails bad kept why →
-        IfOk result (λ r. (kept_parts r.kept ≡ kept) × (r.damage ≡ Some why)
-        × (r.batches ≡ length batches) × (r.used ≡ length (file_of batches))) }
+        IfOk result (λ r. (kept_parts r.kept ≡ kept) × (r.rings ≡ rings) × (r.damage ≡ Some why)
+        × (r.batches ≡ length batches) × (r.used ≡ length (file_of rings batches))) }
     // A file that begins otherwise is refused, and one of another version by a refusal of its own.
     ensures not_a_journal { IsErrOf result RecallError.NotAJournal → IsForeign bytes.now }
     ensures later { IsErrOf result RecallError.LaterVersion → IsOfAnotherVersion bytes.now }

@@ -7,7 +7,8 @@ use history::Entry;
 pub enum Record {
     /// The next message has this number, as `NEXT 1234`.
     Next(u64),
-    /// A message was kept, as `@time=2020-01-02T03:04:05.678Z :bob!b@h PRIVMSG #c :hi all`.
+    /// A message was kept, as `@time=2020-01-02T03:04:05.678Z :bob!b@h PRIVMSG #c :hi all`, or in a
+    /// person's ring, as `@time=2020-01-02T03:04:05.678Z;ring=bob :bob!b@h PRIVMSG me :hi you`.
     Message(Entry),
     /// A client name was admitted, as `NAME laptop`.
     Name(Vec<u8>),

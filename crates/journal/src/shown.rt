@@ -66,7 +66,7 @@ fn push_line(out: &mut Vec<u8>, entry: &Entry) -> Result<(), OutOfMemory>
 
 /// The messages of a history as text, one a line and in their order: the time, the target, the
 /// source and the text, with a space between two of them, as
-/// `2020-01-02T03:04:05.678Z #c bob!b@h hi all`. Bytes below 0x20 and 0x7F stand there as `\xNN`.
+/// `2020-01-02T03:04:05.678Z #c bob!b@h hi all`. Bytes below 0x20 and 0x7F are written as `\xNN`.
 pub fn messages_text(alloc: Global, history: &History) -> Result<Vec<u8>, OutOfMemory>
     ensures { IfOk result (λ text. text.items ≡ text_of_messages history.now) }
 {

@@ -9,7 +9,7 @@ ghost use Rattle.history.specs.Marks.{mark_of};
 ghost use Rattle.history.specs.Messages.{CanComeAgain};
 ghost use Rattle.journal.specs.Kept.{channel_parts};
 ghost use Rattle.journal.specs.Records.{on, parts_of_all, record_parts, text_of};
-ghost use Rattle.journal.specs.Snapshots.{GivesBack, channel_records, first_of, in_capacity};
+ghost use Rattle.journal.specs.Snapshots.{GivesBack, channel_records, first_of, have_rings, in_capacity};
 ghost use Rattle.journal.specs.Snapshots.{message_records, name_record, name_records, next_to};
 ghost use Rattle.journal.specs.Snapshots.{seen_records, snapshot_of};
 
@@ -23,7 +23,24 @@ fn copied(alloc: Global, entry: &Entry) -> Result<Entry, OutOfMemory>
     ensures { IfOk result (λ e. e ≡ entry.now) }
 {
     let (time, source, command) = (entry.time(), entry.source(), entry.command());
-    Entry::make(alloc, time, source, command, entry.target(), entry.text())
+    Entry::make_in(
+        alloc,
+        entry.ring(),
+        time,
+        source,
+        command,
+        entry.target(),
+        entry.text(),
+    )
+}
+
+/// Whether a message is in a person's ring, so that the file of a snapshot begins with the header for
+/// rings (see [`push_header`](crate::push_header)).
+#[tactic(auto, using(crate::proofs::RingsHeld::rings_held))]
+pub fn has_rings(history: &History) -> bool
+    ensures { result ≡ have_rings history.now.kept }
+{
+    history.person_count() != 0
 }
 
 /// Adds the number of the next message, if it is not the one that is expected.
@@ -196,11 +213,12 @@ fn all_records(
     Ok(records)
 }
 
-/// The records that say all that is kept, to be written after a header: the messages, each with its
-/// number, the client names with their marks and with what their sessions were given since
-/// (`latest`, where a name has a mark if its last `SEEN` came after its last `MARK`), and the
-/// channels that we are on. `None` comes exactly if the last number was given, after which no
-/// journal can go on. It takes the memory of the messages once more.
+/// The records that say all that is kept, to be written after a header, which is that for rings if
+/// [`has_rings`] says so: the messages, each with its number, the client names with their marks and
+/// with what their sessions were given since (`latest`; a name has a mark there if its last `SEEN`
+/// came after its last `MARK`), and the channels that we are on. `None` comes exactly if the last
+/// number was given, after which no journal can go on. It takes the memory of the messages once
+/// more.
 #[tactic(auto, using(crate::proofs::Snapshots::given_back, crate::proofs::Capacities::all_fit))]
 pub fn snapshot(
     alloc: Global,

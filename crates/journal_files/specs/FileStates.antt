@@ -44,7 +44,7 @@ sum_within a b = min (a + b) (2 ^ 64 - 1)
 abbrev pub rested : ℕ → FileState → FileState
 rested now s = record s { rest_until = sum_within now fault_pause }
 
--- a file was opened of which so many bytes count: it is not known how many its last snapshot had
+-- a file of which this many bytes count was opened: it is not known how many its last snapshot had
 abbrev pub opened : ℕ → FileState
 opened bytes = record {
   size = bytes;
@@ -54,25 +54,25 @@ opened bytes = record {
   compact_from = 0;
 }
 
--- by what stood in it
+-- by what it contained
 abbrev pub begun : Beginning → ℕ → FileState → FileState
 begun beginning.Fresh bytes s = s
 begun beginning.Whole bytes s = opened bytes
 begun (beginning.Cut damaged) bytes s = opened bytes
 
--- a batch of so many bytes was appended, or not
+-- a batch of this many bytes was appended, or not
 abbrev pub appended : Outcome → ℕ → ℕ → FileState → FileState
 appended outcome.Done bytes now s = record s { size = sum_within s.size bytes }
 appended outcome.NotWritten bytes now s = rested now s
 appended outcome.NotSynced bytes now s = record (rested now s) { is_sound = false }
 
--- where the file is to be cut then: behind its last whole frame, if something may have been written
+-- where the file is to be cut then: after its last whole frame, if something may have been written
 abbrev pub cut_after : Outcome → FileState → Option ℕ
 cut_after outcome.Done s = None
 cut_after outcome.NotWritten s = Some s.size
 cut_after outcome.NotSynced s = None
 
--- a new file of so many bytes took its place
+-- a new file of this many bytes took its place
 abbrev pub replaced : ℕ → FileState
 replaced bytes = record {
   size = bytes;

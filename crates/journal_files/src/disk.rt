@@ -17,7 +17,7 @@ pub struct Lock {
 /// What came of an attempt to append, with the error if it failed.
 #[derive(Drop)]
 pub struct Appending {
-    /// What stands in the file.
+    /// What is in the file.
     pub outcome: Outcome,
     /// Why it is not done.
     pub error: Option<io::Error>,
@@ -25,7 +25,7 @@ pub struct Appending {
 
 /// A disk, as a thread that was started may use it, or a test's own. Paths are texts.
 pub trait Disk {
-    /// Makes a folder that only its owner can read, with those that it stands in, if there is none.
+    /// Makes a folder that only its owner can read, with those that it is in, if there is none.
     fn make_folder(&self, path: &str) -> io::Result<()>;
 
     /// Locks a file, which is made if there is none, for this program alone; `None` if another has

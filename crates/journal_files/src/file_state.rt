@@ -42,7 +42,7 @@ impl FileState {
         }
     }
 
-    /// A file of so many bytes, all of which count.
+    /// A file of this many bytes, all of which count.
     pub fn of_size(size: u64) -> FileState
         ensures { result ≡ opened size }
     {
@@ -83,7 +83,7 @@ impl FileState {
         }
     }
 
-    /// A batch of so many bytes was appended, or was not. Answers where the file is to be cut.
+    /// A batch of this many bytes was appended, or was not. Answers where the file is to be cut.
     pub fn appended(&mut self, outcome: Outcome, bytes: u64, now: u64) -> Option<u64>
         ensures state { self.new ≡ appended outcome bytes now self.old }
         ensures cut { result ≡ cut_after outcome self.old }
@@ -107,14 +107,14 @@ impl FileState {
         }
     }
 
-    /// It could not be cut back: what stands at its end is not known.
+    /// It could not be cut back: what is at its end is not known.
     pub fn not_cut(&mut self)
         ensures { self.new ≡ record self.old { is_sound = false } }
     {
         self.is_sound = false;
     }
 
-    /// A new file with a snapshot of so many bytes took its place.
+    /// A new file with a snapshot of this many bytes took its place.
     pub fn replaced(&mut self, bytes: u64)
         ensures { self.new ≡ replaced bytes }
     {

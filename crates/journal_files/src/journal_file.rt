@@ -51,14 +51,14 @@ pub enum Fault {
     NotReplaced(io::Error),
 }
 
-/// What stood in a file that was opened.
+/// What was in a file that was opened.
 #[derive(Clone, Copy, Debug, PartialEq, Eq)]
 pub enum Beginning {
     /// Nothing of use: it is written anew.
     Fresh,
     /// All of it counts.
     Whole,
-    /// So many bytes after those that count were moved to the file of damaged ends.
+    /// This many bytes after those that count were moved to the file of damaged ends.
     Cut(u64),
 }
 

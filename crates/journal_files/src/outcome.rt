@@ -7,7 +7,7 @@ pub enum Wanted {
     Nothing,
     /// A batch of what changed.
     Batch,
-    /// A snapshot, since a batch can't tell what changed.
+    /// A snapshot, since a batch can't say what changed.
     Snapshot,
 }
 

@@ -23,7 +23,7 @@ fn push_channel(
     Ok(())
 }
 
-/// The key that the network told of for a channel, or else the one by which a client joined it.
+/// The key that the network gave for a channel, or else the one by which a client joined it.
 fn key_or_joined<'a, V: NetworkView + Drop>(
     hub: &'a RingHub<V>,
     name: &[u8],

@@ -9,6 +9,6 @@ mod opening;
 mod writing;
 
 pub use due::Due;
-pub use journal_files::{Disk, Fault, OpenError};
+pub use journal_files::{Disk, Fault, OpenError, Wanted};
 pub use opening::{Found, FoundJournal, NoJournal, Opened, open};
 pub use writing::{Journal, WriteError};

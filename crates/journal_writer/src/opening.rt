@@ -19,7 +19,7 @@ pub enum NoJournal {
     /// The file.
     #[error("{0}")]
     File(OpenError),
-    /// What stands in it.
+    /// What is in it.
     #[error("{0}")]
     Recall(RecallError),
     /// An allocation was refused.
@@ -68,7 +68,7 @@ pub struct Found {
 #[derive(Drop)]
 pub struct FoundJournal {
     file: JournalFile,
-    // what stands in it, and how much of that counts
+    // what is in it, and how much of that counts
     bytes: Vec<u8>,
     used: usize,
     written: Written,
@@ -120,9 +120,15 @@ fn channels_again(alloc: Global, channels: &[Channel]) -> Result<Vec<LostChannel
     Ok(again)
 }
 
-/// What is recalled, for a hub and for what its file holds.
-pub(crate) fn parts(alloc: Global, kept: Kept) -> Result<(Past, Written, Marks), AllocError>
+/// What is recalled, for a hub and for what its file holds, in which messages with rings may be or
+/// not.
+pub(crate) fn parts(
+    alloc: Global,
+    kept: Kept,
+    rings: bool,
+) -> Result<(Past, Written, Marks), AllocError>
     ensures begins { IfOk result (λ r. CanBegin kept.history → CanBegin r.0.history) }
+    ensures rings { IfOk result (λ r. r.1.rings ≡ rings) }
 {
     let Kept {
         history,
@@ -136,6 +142,7 @@ pub(crate) fn parts(alloc: Global, kept: Kept) -> Result<(Past, Written, Marks),
         marks: marked,
         latest: copied(alloc, &marks)?,
         channels,
+        rings,
     };
     let latest = copied(alloc, &marks)?;
     let past = Past {
@@ -146,7 +153,7 @@ pub(crate) fn parts(alloc: Global, kept: Kept) -> Result<(Past, Written, Marks),
     Ok((past, written, latest))
 }
 
-/// How many bytes stand after those that count; none if the file is to be written anew.
+/// How many bytes come after those that count; none if the file is to be written anew.
 fn damaged_bytes(bytes: &[u8], used: usize) -> u64 {
     if used == 0 {
         return 0;
@@ -171,6 +178,7 @@ pub fn open<D: Disk>(
     let recalled = recall(alloc, capacity, 1, &bytes)?;
     let Recalled {
         kept,
+        rings,
         used,
         damage,
         ..
@@ -181,7 +189,7 @@ pub fn open<D: Disk>(
         damaged: damaged_bytes(&bytes, used),
         damage,
     };
-    let (past, written, latest) = parts(alloc, kept)?;
+    let (past, written, latest) = parts(alloc, kept, rings)?;
     Ok(Opened {
         journal: FoundJournal {
             file,

@@ -7,14 +7,14 @@ ghost use Rattle.journal.specs.Kept.{KeptParts};
 ghost use Rattle.journal.specs.Recalls.{CanBegin};
 ghost use Rattle.journal_writer.specs.Dues.{GoesOn, IsDue, written_by};
 
-use crate::due::{Due, batch_bytes, due_by, file_bytes};
+use crate::due::{Due, batch_bytes, due_by, file_bytes, wanted_by};
 use crate::hubs::{channels_of, latest_of};
 use crate::opening::{NoJournal, parts};
 use history::{History, Marks};
 use hub_core::Past;
 use hub_threads::RingHub;
-use journal::{Changes, PushError, RecallError, Recalled, Written, recall, what_changed};
-use journal_files::{Disk, Fault, JournalFile, OpenError, Wanted};
+use journal::{PushError, RecallError, Recalled, Written, recall, what_changed};
+use journal_files::{Disk, Fault, JournalFile, OpenError};
 use net_view::NetworkView;
 use std::alloc::{AllocError, Global};
 use std::marker::Model;
@@ -144,8 +144,8 @@ impl Journal {
             Ok(bytes) => bytes,
             Err(e) => return Err(NoJournal::File(OpenError::Io(e))),
         };
-        let Recalled { kept, .. } = recall(alloc, capacity, 1, &bytes)?;
-        let (past, mut written, latest) = parts(alloc, kept)?;
+        let Recalled { kept, rings, .. } = recall(alloc, capacity, 1, &bytes)?;
+        let (past, mut written, latest) = parts(alloc, kept, rings)?;
         if !with_messages {
             written.next = 0;
         }
@@ -178,13 +178,9 @@ impl Journal {
         let (history, marks) = (hub.history(), hub.marks());
         let latest = &self.latest;
         let change = what_changed(alloc, &self.written, history, marks, latest, &channels)?;
-        let wanted = match &change {
-            Changes::Nothing | Changes::Spent => Wanted::Nothing,
-            Changes::Batch(_) => Wanted::Batch,
-            Changes::Snapshot => Wanted::Snapshot,
-        };
-        let deed = self.file.next(wanted, now);
-        let due = due_by(alloc, deed, change, history, marks, latest, channels)?;
+        let deed = self.file.next(wanted_by(&change), now);
+        let rings = self.written.rings;
+        let due = due_by(alloc, deed, change, rings, history, marks, latest, channels)?;
         Ok((due, is_behind))
     }
 
@@ -206,9 +202,8 @@ impl Journal {
                 let bytes = batch_bytes(alloc, &records)?;
                 (self.file.append(disk, &bytes, now), written)
             }
-            Due::Replace(records, written) => {
-                let bytes = file_bytes(alloc, records)?;
-                let wanted = Wanted::Snapshot;
+            Due::Replace(records, written, wanted) => {
+                let bytes = file_bytes(alloc, records, &written)?;
                 (self.file.replace(disk, &bytes, wanted, now), written)
             }
         };

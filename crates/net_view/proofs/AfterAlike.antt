@@ -16,7 +16,7 @@ pub no_ranks : ranks_that (λ rank. false) ≡ []
 unfolding ranks_that rank_count
 no_ranks = refl
 
--- a member of whom nothing is said
+-- a member about whom nothing is said
 pub member_stays : (ch : Channel) → AreSets ch → (n : Text) → cond (is_some (fin.get ch.members n))
     (Some (ranks_that (λ rank. had_rank rank (fin.get ch.members n)))) None ≡ fin.get ch.members n
 member_stays ch sets n =
@@ -91,19 +91,19 @@ quiet_channel us t c (Some ch) sets q =
     simp q.on (ap Some (channel_is us t c (Some ch) ch (simp q.topic) (λ letter. simp q.mode)
     (λ n. simp (q.name n, q.member n, q.rank n, member_stays ch (sets ch refl) n))))
 
--- all stay, where the item is quiet on all
+-- all stay, if the item is quiet on all
 pub all_channels_stay : (us : Text → Bool) (t : Told) (cs : fin.FinMap bytes_cmp Channel)
     → ((c : Text) → ForSome (fin.get cs c) AreSets) → ((c : Text) → IsQuiet us t c)
     → channels_after us t cs ≡ cs
 all_channels_stay us t cs sets quiet = grind (arith, channels_are, quiet_channel)
 
--- who is seen, where a member of the same channels as another was
+-- who is seen, if a member of the same channels as another was
 pub seen_alike : (cs ds : fin.FinMap bytes_cmp Channel) (n m : Text)
     → ((c : Text) → is_some (old_member (fin.get ds c) n) ≡ is_some (old_member (fin.get cs c) m))
     → is_seen ds n ≡ is_seen cs m
 seen_alike cs ds n m alike = grind look_ups
 
--- and where a channel is put that has the members of before, and this one too, if there is one more
+-- and if a channel is put that has the members of before, and this one too, if there is one more
 pub seen_put : (cs : fin.FinMap bytes_cmp Channel) (c : Text) (is : Channel) (n : Text) (new : Bool)
     → is_some (fin.get is.members n) ≡ (new || is_some (old_member (fin.get cs c) n))
     → is_seen (fin.insert cs c is) n ≡ (new || is_seen cs n)
@@ -122,7 +122,7 @@ module _ (v : View) (sets : HasSets v) (t : Told) (c : Text)
       view_after v t _ ps (λ d.
       grind (arith, quiet_channel (us_of v) t d, sets d, quiet d, is_same d c, made, get_put))
 
-  -- or where it stays as it was, and all persons do
+  -- or if it stays as it was, and all persons do
   pub view_stays : IsKnowing v → channel_after (us_of v) t c (fin.get v.channels c)
       ≡ fin.get v.channels c → ((n : Text) → person_from (us_of v) t v.channels v.people n
       ≡ told_person None None None (fin.get v.people n)) → after_told v t
@@ -132,7 +132,7 @@ module _ (v : View) (sets : HasSets v) (t : Told) (c : Text)
       (λ d. grind (arith, quiet_channel (us_of v) t d, sets d, quiet d, is_same d c, stays))
       (λ n. grind (arith, known n, tells n))
 
--- all stay, where the item tells nothing of them
+-- all stay, if the item says nothing about them
 pub all_persons_stay : (us : Text → Bool) (t : Told) (cs : fin.FinMap bytes_cmp Channel)
     (ps : fin.FinMap bytes_cmp Person) → ((n : Text) → fin.contains_key ps n ≡ is_seen cs n)
     → ((n : Text) → person_from us t cs ps n ≡ told_person None None None (fin.get ps n))

@@ -1,4 +1,4 @@
--- The view after what tells of a person alone, as ACCOUNT and AWAY, or of the settings alone.
+-- The view after what is about a person alone, as ACCOUNT and AWAY, or about the settings alone.
 use Rattle.net_view.proofs.AfterAlike.{HasSets, IsKnowing, all_channels_stay, all_persons_stay}
 use Rattle.net_view.proofs.{AfterAlike.{look_ups, quiet_channel, us_of, view_after}, Words.◌≡◌}
 use Rattle.net_view.proofs.Words.{HasAccount, IsAway, List, Option, Settles, Supports, Text, View}

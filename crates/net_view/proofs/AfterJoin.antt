@@ -1,5 +1,5 @@
 -- The view after a JOIN. One that begins nothing is another's, or our own by a name that is no
--- channel's, though its key may be our channel's: of us it tells what another's tells of the other.
+-- channel's, though its key may be our channel's: of us it says what another's says of the other.
 use Rattle.std.specs.FinMap as fin
 use Rattle.net_view.proofs.AfterAlike.{HasSets, IsKnowing, channel_is, get_put, look_ups}
 use Rattle.net_view.proofs.AfterAlike.{member_stays, no_ranks, seen_put, us_of, view_put}

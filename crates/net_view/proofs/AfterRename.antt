@@ -7,7 +7,7 @@ use Rattle.net_view.{proofs.Words.◌≡◌, specs.Changes.{renamed_channel, ren
 use Rattle.net_view.proofs.Words.{List, Name, None, Some, Text, Told, View, cond, refl, same, true}
 use Rattle.net_view.proofs.Words.{Renamed, bytes_cmp, counts, false, is_seen, is_us, option_map, ℕ}
 
--- what stands under a key after a NICK
+-- what is under a key after a NICK
 renamed_at : {X : Type 0} (change : X → X) (old new : Text) (m : fin.FinMap bytes_cmp X) (n : Text)
     → fin.get (renamed_in change old new m) n
     ≡ cond (same n new) (option_map change (fin.get m old)) (cond (same n old) None (fin.get m n))

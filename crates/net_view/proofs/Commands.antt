@@ -10,7 +10,7 @@ use Rattle.{net_view.specs.StateLines.told_by_end_of_motd, std.specs.Char.to_asc
 use Rattle.net_view.specs.StateLines.{told_by_isupport, told_by_mode_reply, told_by_topic_reply}
 use Rattle.std.{proofs.{Common.get_or, Math.ListN.get_or-map}, specs.Str.str_to_ascii_lowercase}
 
--- a line of a command has each other exactly where the two are one but for the case of letters
+-- a line of a command has each other exactly if the two are one except for the case of letters
 pub has_command-named : (line : Parts) (name : Text) → has_command line name ≡ true → (other : Text)
     → has_command line other ≡ str_eq_ignore_ascii_case name other
 has_command-named line name e other = grind (arith, bytes_eq-Decides)
@@ -45,24 +45,24 @@ unfolding state_commands
 no_state_line line e = search (arith, not_among)
 
 module _ (settings : List Token) (line : Parts) where
-  -- what a line of this command tells
+  -- what a line of this command says
   abbrev told_as : List StateLine → Text → Told
   told_as [] name = Silent
   told_as (s ∷ lines) name =
       cond (str_eq_ignore_ascii_case name s.command) (s.tells settings line) (told_as lines name)
 
-  -- what is no state line tells nothing
+  -- what is no state line says nothing
   pub told-unread : is_state_line line ≡ false → told settings (Received line) ≡ Silent
   unfolding told state_lines
   told-unread e = grind arith
 
-  -- what a line tells that was read to have this command
+  -- what a line says that was read to have this command
   pub told_read : (it : StateCommand) → state_command line ≡ Some it
       → told settings (Received line) ≡ told_as state_lines (command_text it)
   unfolding told state_lines
   told_read it e = simp (has_command-named line (command_text it) (grind (arith, has_found line)))
 
-  -- what a line of each command tells
+  -- what a line of each command says
   abbrev Tells : Text → (List Token → Parts → Told) → Type 0
   Tells name tells =
       has_command line name ≡ true → told settings (Received line) ≡ tells settings line

@@ -10,13 +10,13 @@ use Rattle.std.proofs.lemmas.List.{nil_from_length}
 pub no_keys : fin.keys (fin.empty {X = Channel} {R = bytes_cmp}) ≡ []
 no_keys = grind (arith, fin.len-empty bytes_cmp Channel, fin.len-entries, nil_from_length)
 
--- where there is no channel nobody is known
+-- if there is no channel nobody is known
 pub no_people : (us : Text → Bool) (t : Told) (old : fin.FinMap bytes_cmp Person)
     → people_after us t fin.empty old ≡ fin.empty
 unfolding table
 no_people us t old = simp no_keys
 
--- a view of which the standing alone is left
+-- a view with nothing but the standing left
 abbrev pub alone : Standing → View
 alone s = record empty_view { own = s.own; ready = s.ready; settings = s.settings }
 

@@ -25,7 +25,7 @@ pub of_last : {A B : Type 0} (P : A → Type 0) (Q : B → Type 0) (says : B →
 of_last P Q says h [] e = tt
 of_last P Q says h (b ∷ bs) e = grind (arith, of_last P Q says h bs (e.1))
 
--- of what a line tells, where it is so of what each state line tells whose command it has
+-- of what a line says, if it is so of what each state line says whose command it has
 module _ (P : Told → Type 0) (settings : List Token) (line : Parts) (silent : P Silent) where
   abbrev AreTold : List StateLine → Type 0
   AreTold lines =

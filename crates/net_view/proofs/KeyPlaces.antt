@@ -62,7 +62,7 @@ module _ {K : Type 0} {R : K → K → Ordering} (o : IsTotalOrder R) (exact : f
     abbrev at : ℕ → Option K
     at j = key (slice_get es j)
 
-    -- a map has at its entries' keys what stands beside them
+    -- a map has at its entries' keys what is beside them
     pub entry_at : (j : ℕ) (x : K × X) → slice_get es j ≡ Some x → fin.get m x.0 ≡ Some x.1
     entry_at j x e = grind (arith, fin.get-entries, found_at, fin.entries_sorted)
 

@@ -16,7 +16,7 @@ traced_on (y ∷ front) x n k h = grind (arith, traced_on front)
 -- ---- of a matter
 
 module _ {A : Type 0} (says : (Text → Bool) → Told → Option A) where
-  -- an answer, from where it stands
+  -- an answer, from where it is
   said_at : (items newer older : List Reading) (at : Reading) (answer : A)
       → items ≡ newer ++ at ∷ older → says (ours at) at.told ≡ Some answer
       → ((front : List Reading) (x : Reading) (rest : List Reading) → newer ≡ front ++ x ∷ rest

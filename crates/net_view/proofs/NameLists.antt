@@ -1,4 +1,4 @@
--- A name list tells what its parts tell one after the other.
+-- A name list says what its parts say one after the other.
 use Rattle.std.specs.FinMap as fin
 use Rattle.net_view.proofs.Words
 use Words.{◌&&◌, ◌++◌, ◌||◌, ◌∷◌, ◌≡◌, Arrival, Bool, Channel, IsSound, List, Listing, None, Option}
@@ -19,7 +19,7 @@ last_in-append : {A B : Type 0} (says : B → Option A) (xs ys : List B)
 last_in-append says [] ys = grind arith
 last_in-append says (x ∷ xs) ys = grind (arith, last_in-append says xs ys)
 
--- who is seen, where those of this name on one channel are members too
+-- who is seen, if those of this name on one channel are members too
 seen_more : (cs ds : fin.FinMap bytes_cmp Channel) (c n : Text) (more : Bool)
     → ((d : Text) → is_some (old_member (fin.get ds d) n) ≡ (fin.contains_key cs d
     && ((same d c && more) || is_some (old_member (fin.get cs d) n))))

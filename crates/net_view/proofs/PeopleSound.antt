@@ -19,7 +19,7 @@ pub last_spelled : (n : Text) (ls : List Listing) → is_some (last_in (spelled_
 last_spelled n [] = refl
 last_spelled n (l ∷ ls) = grind (arith, last_spelled n ls)
 
--- whom an item makes a member of a channel that we are on, it spells
+-- somebody whom an item makes a member of a channel that we are on, it spells
 pub new_member_is_spelled : (c : Text) (us on : Text → Bool) (t : Told) (n : Text) → on c ≡ true
     → unwrap_or (says_member c us t n) false ≡ true → is_some (says_spelling us on t n) ≡ true
 new_member_is_spelled c us on t n o h = grind (arith, is_same c, last_spelled n)

@@ -1,9 +1,9 @@
--- Worked rows: what lines tell, and what is found by looking back, by computation.
+-- Worked rows: what lines say, and what is found by looking back, by computation.
 mod Transcripts
 use Transcripts.*
 use Transcripts.{reading}
 
--- what a line tells, under the default settings
+-- what a line says, under the default settings
 abbrev tells : String → Told
 tells line = told [] (Received (parts_of (codes line)))
 
@@ -23,7 +23,7 @@ what_lines_tell : (tells ":s 001 Me :hi" ≡ Welcomed (codes "Me"))
     × (tells ":bob!b@h JOIN #c * :Bob B"
     ≡ Joined (named "#c" "#c") true (named "bob" "bob") (Some None))
     × (tells ":bob!b@h JOIN c" ≡ Joined (named "c" "c") false (named "bob" "bob") None)
-    -- a JOIN fixes the settings also where it tells nothing else
+    -- a JOIN fixes the settings also if it says nothing else
     × (tells ":@bob!b@h JOIN #c" ≡ Settles)
     × (tells ":bob@h PART #C :bye" ≡ Parted (codes "#c") (codes "bob"))
     × (tells ":s KICK #c Bob :out" ≡ Kicked (codes "#c") (codes "bob"))
@@ -81,11 +81,11 @@ who_is_a_member : (members ("bob" ∷ "me" ∷ "rob" ∷ []) renamed ≡ "me" �
     -- a KICK names the nick in any case
     × (members ("bob" ∷ "rob" ∷ "bob2" ∷ "me" ∷ []) (two_nicks ++ ":s KICK #c bOB2 :out" ∷ [])
     ≡ "me" ∷ [])
-    -- another's NICK onto our own nick tells nothing, nor does an actor that is not nameable
+    -- another's NICK onto our own nick says nothing, nor does an actor that is not nameable
     × (members ("bob" ∷ "me" ∷ "@x" ∷ [])
     (with_bob ++ ":bob!b@h NICK Me" ∷ ":@x!u@h JOIN #c" ∷ []) ≡ "bob" ∷ "me" ∷ [])
     × (members ("bob" ∷ "me" ∷ []) joined_anew ≡ "me" ∷ [])
-    -- a name list of a channel that we left tells nothing
+    -- a name list of a channel that we left says nothing
     × (members ("bob" ∷ "me" ∷ [])
     (with_bob ++ ":Me!m@h PART #c" ∷ ":s 353 Me = #c :Me bob" ∷ []) ≡ [])
     -- names are compared by their keys
@@ -113,7 +113,7 @@ ranks_held : (member "#c" "rob" renamed ≡ plain (1 ∷ []) "rob")
 unfolding reading
 ranks_held = assumption
 
--- the name of the channel with this key, where we are on it
+-- the name of the channel with this key, if we are on it
 abbrev on : String → List String → Option Text
 on key lines = name_on (read lines) (codes key)
 
@@ -155,7 +155,7 @@ what_is_known : (topic (joined ++ ":s 332 Me #c :Hello all" ∷ ":s TOPIC #c" �
     ≡ Some (codes "Hello all"))
     × (topic (joined ++ ":s 332 Me #c :Hello all" ∷ ":s 331 Me #c :No topic is set" ∷ []) ≡ None)
     × (topic (joined ++ ":s TOPIC #c :Hello" ∷ ":s TOPIC #c :" ∷ []) ≡ None)
-    -- 324 lists what is on, and all else is off; a change without the parameter that it needs tells
+    -- 324 lists what is on, and all else is off; a change without the parameter that it needs says
     -- nothing
     × (modes "klnt" (joined ++ ":s MODE #c +ntl 5" ∷ ":s 324 Me #c +kl key 9" ∷ ":s MODE #c -k"
     ∷ []) ≡ Some (Some (codes "key")) ∷ Some (Some (codes "9")) ∷ None ∷ None ∷ [])
@@ -175,13 +175,13 @@ what_is_known : (topic (joined ++ ":s 332 Me #c :Hello all" ∷ ":s TOPIC #c" �
     -- an account is forgotten when the last channel is left
     × (member "#c" "bob" (joined ++ ":bob!b@h JOIN #c bobacc :Bob" ∷ ":bob!b@h PART #c"
     ∷ ":bob!b@h JOIN #c" ∷ []) ≡ plain [] "bob")
-    -- what is told of somebody out of sight is not known later
+    -- what is said about somebody out of sight is not known later
     × (member "#c" "bob" (joined ++ ":bob!b@h ACCOUNT bobacc" ∷ ":bob!b@h JOIN #x bobacc :Bob"
     ∷ ":bob!b@h JOIN #c" ∷ []) ≡ plain [] "bob")
     -- a spelling is that of the last JOIN, name list or NICK
     × (member "#c" "bob" (joined ++ ":bob!b@h JOIN #c" ∷ ":s 353 Me = #c :@BOB" ∷ [])
     ≡ plain (0 ∷ []) "BOB")
-    -- an AWAY without a text ends it; ACCOUNT without a word tells nothing
+    -- an AWAY without a text ends it; ACCOUNT without a word says nothing
     × (member "#c" "bob" (joined ++ ":bob!b@h JOIN #c bobacc :Bob" ∷ ":bob!b@h AWAY :lunch"
     ∷ ":bob!b@h away" ∷ ":bob!b@h ACCOUNT :a b" ∷ [])
     ≡ Some ([], Some (codes "bob"), Some (codes "bobacc"), None))
@@ -193,7 +193,7 @@ abbrev caps : Bool → Bool → Bool → Bool → HeldCaps
 caps ranks join note away =
     record { multi_prefix = ranks; extended_join = join; account_notify = note; away_notify = away }
 
--- which ranks a client with these capabilities is shown that came before the last k lines, where
+-- which ranks a client with these capabilities is shown that came before the last k lines, if
 -- the lines come after a name list that gives bob two ranks
 abbrev seen_by : HeldCaps → ℕ → String → List String → List ℕ
 seen_by held k key lines =
@@ -233,7 +233,7 @@ what_is_seen : (seen 0 "bob" [] ≡ 0 ∷ [])
     × (seen 3 "bob" (":bob!b@h PART #c" ∷ ":bob!b@h JOIN #c" ∷ ":s MODE #c +v bob" ∷ []) ≡ 1 ∷ [])
     × (seen 3 "bob" (":bob!b@h PART #c" ∷ ":bob!b@h JOIN #c" ∷ ":s 353 Me = #c :Me @+bob" ∷ [])
     ≡ 0 ∷ [])
-    -- one of the capabilities that tell of accounts keeps none
+    -- one of the capabilities that report accounts keeps none
     × (account (caps true true false true) ≡ None)
     × (account (caps true false true true) ≡ None)
     × (account (caps false true true false) ≡ Some (codes "bobacc"))

@@ -1,4 +1,4 @@
--- What each line tells is well formed, whichever lines views read; only 005 tells more settings.
+-- What each line says is well formed, whichever lines views read; only 005 gives more settings.
 use Rattle.{irc_support.specs.Ranking.rank_of_letter, net_view.proofs.Holds.of_told}
 use Rattle.net_view.proofs.PartsSound.{Each, IsSoundListing, IsSoundMode, IsSoundTold, each_found}
 use Rattle.net_view.proofs.{PartsSound.listing_sound, Words.{◌<◌, ◌∷◌, ◌≡◌, Arrival, IfSome}}
@@ -13,7 +13,7 @@ module _ (settings : List Token) where
   listings_sound [] = tt
   listings_sound (text ∷ texts) = grind (arith, listing_sound settings text, listings_sound texts)
 
-  -- what any item tells is well formed
+  -- what any item says is well formed
   pub told_sound : (x : Arrival) → IsSoundTold settings (told settings x)
   unfolding told state_lines words
   told_sound (Received line) =
@@ -26,7 +26,7 @@ module _ (settings : List Token) where
       (search (arith, letters, modes, listings_sound))
   told_sound Lost = tt
 
-  -- only 005 tells more settings
+  -- only 005 gives more settings
   pub supports_said : (line : Parts) (params : List Text)
       → told settings (Received line) ≡ Supports params → has_command line (codes "005") ≡ true
   unfolding state_lines

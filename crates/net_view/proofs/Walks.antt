@@ -1,4 +1,4 @@
--- Walks through what a view shows of a channel: what is left behind a place.
+-- Walks through what a view shows of a channel: what is left after a place.
 use Rattle.std.specs.FinMap as fin
 use Rattle.net_view.proofs.Words.{◌+◌, ◌∷◌, ◌≡◌, IfSome, List, None, Option, Some, Text, View, []}
 use Rattle.net_view.proofs.Words.{arith, nat_cmp, option_map, slice_get, suc, true, ℕ}
@@ -8,7 +8,7 @@ use Rattle.std.proofs.{Common.{◌≤◌, add-one, drop, zero}, lemmas.Option.sl
 use Rattle.std.{proofs.Math.{ListN.drop_of_length-le, Seq.drop-cons}, specs.Iterator.YieldsFirstBy}
 use Rattle.std.proofs.lemmas.Option.{get_or_from_slice_get, slice_get-map, slice_get_cases}
 
--- what stands at a place comes first of what is left, and behind the last place nothing is left
+-- what is at a place comes first of what is left, and after the last place nothing is left
 pub first_left : {A B : Type 0} (view : A → B) (xs : List B) (j : ℕ) (r : Option A)
     → option_map view r ≡ slice_get xs j
     → YieldsFirstBy view (λ (left : List B). left) (drop j xs) r (drop (j + 1) xs)
@@ -23,7 +23,7 @@ module _ (v : View) (i j : ℕ) where
   pub member_here : member_shown v i j ≡ slice_get (member_parts_at v i) j
   member_here = grind (arith, slice_get-map)
 
--- ---- letters rise, so none stands at a place above it
+-- ---- letters rise, so none is at a place above it
 
 rises : (k : ℕ) (es : List (ℕ × Option Text)) (j : ℕ) (x : ℕ × Option Text)
     → IfSome (slice_get es 0) (λ e. k ≤ e.0) → fin.is_sorted nat_cmp es ≡ true

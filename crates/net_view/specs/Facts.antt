@@ -17,12 +17,12 @@ use Rattle.net_view.specs.Named.{named, channels_in}
 abbrev pub in_sight : List Reading → Text → Bool
 in_sight items n = list_any (λ c. is_member items c n) (named channels_in items)
 
--- What an item says of persons: who we are, the channels that we are on after it, what it tells,
+-- What an item says about persons: who we are, the channels that we are on after it, what it says,
 -- the person's key after it. Some None: that there is nothing.
 abbrev pub Says : Type 0
 Says = (Text → Bool) → (Text → Bool) → Told → Text → Option (Option Text)
 
--- what was said last of the person, followed back under the earlier names, where the person has
+-- what was said last about the person, followed back under the earlier names, if the person has
 -- been in sight at every boundary since
 abbrev pub known : Says → List Reading → Text → Option Text
 known says [] n = None
@@ -36,7 +36,7 @@ known says (x ∷ older) n =
 abbrev pub spelled_in : Text → Listing → Option Text
 spelled_in n l = if same n l.person.key then Some l.person.spelled else None
 
--- JOIN and 353 of a channel that we are on, and NICK, tell a spelling
+-- JOIN and 353 of a channel that we are on, and NICK, give a spelling
 abbrev pub says_spelling : Says
 says_spelling us on (Joined channel valid who account) n =
     if on channel.key && same n who.key then Some (Some who.spelled) else None
@@ -46,7 +46,7 @@ says_spelling us on (Renamed old new) n =
     if counts us old new.key && same n new.key then Some (Some new.spelled) else None
 says_spelling us on _ n = None
 
--- JOIN of a channel that we are on and ACCOUNT tell an account (IRCv3 extended-join,
+-- JOIN of a channel that we are on and ACCOUNT give an account (IRCv3 extended-join,
 -- account-notify)
 abbrev pub says_account : Says
 says_account us on (Joined channel valid who account) n =
@@ -54,7 +54,7 @@ says_account us on (Joined channel valid who account) n =
 says_account us on (HasAccount who account) n = if same n who then Some account else None
 says_account us on _ n = None
 
--- AWAY tells an away text (IRCv3 away-notify)
+-- AWAY gives an away text (IRCv3 away-notify)
 abbrev pub says_away : Says
 says_away us on (IsAway who text) n = if same n who then Some text else None
 says_away us on _ n = None

@@ -1,4 +1,4 @@
--- Looking back, in a reader's words: where an answer stands, and what is silent since.
+-- Looking back, in a reader's words: where an answer is, and what is silent since.
 use Rattle.std.specs.Prelude.{◌≡◌, true, Bool, List, ◌∷◌, ◌++◌}
 use Rattle.std.proofs.Common.{Option, Some, None}
 use Rattle.irc_support.specs.Text.{Text}

@@ -10,12 +10,12 @@ use Rattle.net_view.specs.Text.{Text}
 use Rattle.net_view.specs.Tokens.{Token}
 use Rattle.net_view.specs.Names.{bytes_cmp}
 
--- above this key; where there is none, any key is
+-- above this key; if there is none, any key is
 abbrev pub above_by : {K : Type 0} → (K → K → Ordering) → Option K → K → Bool
 above_by R None k = true
 above_by R (Some a) k = is_lt (R a k)
 
--- the least key that passes the test and is above the given one, where there is one
+-- the least key that passes the test and is above the given one, if there is one
 pub record IsNextBy {K : Type 0} (R : K → K → Ordering) (there : K
     → Bool) (after best : Option K) : Type 0 where
   pub found : IfSome best (λ b. (there b ≡ true) × (above_by R after b ≡ true))
@@ -27,7 +27,7 @@ abbrev pub improves_by : {K : Type 0} → (K → K → Ordering) → Option K �
 improves_by R None k = true
 improves_by R (Some b) k = is_lt (R k b)
 
--- the best so far, or this key, where it is there, above the given one and less than the best
+-- the best so far, or this key, if it is there, above the given one and less than the best
 abbrev pub better_by : {K : Type 0} → (K → K → Ordering) → (K → Bool) → Option K → Option K → K
     → Option K
 better_by R there after best c =

@@ -7,7 +7,7 @@ use Rattle.net_view.specs.Names.{same}
 use Rattle.net_view.specs.Told.{Told, Welcomed, Quits, Renamed, Disconnected}
 use Rattle.net_view.specs.Transcript.{Reading, ours}
 
--- what the last item that speaks of a matter says of it. What an item says may depend on who we
+-- what the last item that speaks of a matter says about it. What an item says may depend on who we
 -- are.
 abbrev pub last : {A : Type 0} → ((Text → Bool) → Told → Option A) → List Reading → Option A
 last says [] = None
@@ -23,7 +23,7 @@ last_in says (b ∷ bs) = option_or (last_in says bs) (says b)
 abbrev pub counts : (Text → Bool) → Text → Text → Bool
 counts us old new = us old || not (us new)
 
--- the key that a person had before an item, who has this key after it; none where nobody of before
+-- the key that a person had before an item, who has this key after it; none if nobody of before
 -- is that person
 abbrev pub name_before : (Text → Bool) → Told → Text → Option Text
 name_before us (Renamed old new) n =

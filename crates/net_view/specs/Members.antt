@@ -47,11 +47,11 @@ is_member items c n = is_on items c && unwrap_or (last_of (says_member c) items 
 
 -- ---- which ranks a member holds
 
--- what a word of a name list decides of a rank, where it is this person
+-- what a word of a name list decides about a rank, if it is this person
 abbrev pub rank_in_listing : Text → ℕ → Listing → Option Bool
 rank_in_listing n rank l = if same n l.person.key then Some (has_rank l.ranks rank) else None
 
--- what a change decides of a rank, where it is this rank of this person
+-- what a change decides about a rank, if it is this rank of this person
 abbrev pub rank_in_change : Text → ℕ → LetterChange → Option Bool
 rank_in_change n rank l = if nat_eq rank l.rank && same n l.person then Some l.plus else None
 

@@ -10,7 +10,7 @@ use Rattle.net_view.specs.Transcript.{Reading}
 use Rattle.net_view.specs.LookBack.{last, last_in}
 use Rattle.net_view.specs.Presence.{anew_or}
 
--- what a change decides of a letter, where it is this letter
+-- what a change decides about a letter, if it is this letter
 abbrev pub setting_of : ℕ → ModeChange → Option (Option (Option Text))
 setting_of letter change =
     if eq_by_cmp nat_cmp letter change.letter then Some change.setting else None
@@ -28,7 +28,7 @@ said_of_mode c letter _ = None
 abbrev pub says_mode : Text → ℕ → (Text → Bool) → Told → Option (Option (Option Text))
 says_mode c letter us t = anew_or c us t None (said_of_mode c letter t)
 
--- what the last MODE or 324 of the channel decided of a letter since our own JOIN. None: it is off;
--- Some of its parameter, where it has one: it is on
+-- what the last MODE or 324 of the channel decided about a letter since our own JOIN. None: it is
+-- off; Some of its parameter, if it has one: it is on
 abbrev pub mode_of : List Reading → Text → ℕ → Option (Option Text)
 mode_of items c letter = unwrap_or (last (says_mode c letter) items) None

@@ -20,7 +20,7 @@ letters_in (Changed channel letters modes) = map (λ m. m.letter) modes
 letters_in (Listed channel modes) = map (λ m. m.letter) modes
 letters_in _ = []
 
--- the persons whom an item makes members, or names anew
+-- the persons that an item makes members, or names anew
 abbrev pub people_in : Told → List Text
 people_in (Joined channel valid who account) = who.key ∷ []
 people_in (Renamed old new) = new.key ∷ []

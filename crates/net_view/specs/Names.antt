@@ -26,6 +26,6 @@ pub record Name : Type 0 where
 abbrev pub name_of : List Token → Text → Name
 name_of settings spelled = record { key = key_by settings spelled; spelled = spelled }
 
--- a nick, where something is told of it
+-- a nick, if it is nameable
 abbrev pub nameable : List Token → Text → Option Name
 nameable settings nick = if is_nameable nick then Some (name_of settings nick) else None

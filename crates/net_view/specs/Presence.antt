@@ -28,7 +28,7 @@ ends us _ c = false
 abbrev pub says_on : Text → (Text → Bool) → Told → Option (Option Text)
 says_on c us t = if ends us t c then Some None else option_map Some (begins us t c)
 
--- the name of the channel, as spelled in our own last JOIN, where we are on it
+-- the name of the channel, as spelled in our own last JOIN, if we are on it
 abbrev pub name_on : List Reading → Text → Option Text
 name_on items c = unwrap_or (last (says_on c) items) None
 

@@ -18,7 +18,7 @@ abbrev pub channel_shown : View → ℕ → Option Channel
 channel_shown v i = option_map (λ e. e.1) (slice_get (map.entries v.channels) i)
 
 -- the mode at place j of the channel at place i, in the order of the letters' bytes: the letter and
--- its parameter, where it has one
+-- its parameter, if it has one
 abbrev pub mode_shown : View → ℕ → ℕ → Option (ℕ × Option Text)
 mode_shown v i j =
     option_and_then (λ (ch : Channel). slice_get (map.entries ch.modes) j) (channel_shown v i)
@@ -60,7 +60,7 @@ member_shown v i j =
     (λ (ch : Channel). option_map (member_parts v) (slice_get (map.entries ch.members) j))
     (channel_shown v i)
 
--- the account of the person of this nick, where one is known; of a name that is not nameable
+-- the account of the person of this nick, if one is known; of a name that is not nameable
 -- nothing is, though its key may be a person's: under rfc1459 `~x` folds to the key of `^x`
 abbrev pub account_shown : View → Text → Option Text
 account_shown v nick =

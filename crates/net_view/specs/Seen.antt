@@ -29,7 +29,7 @@ abbrev pub all_caps : HeldCaps
 all_caps =
     record { multi_prefix = true; extended_join = true; account_notify = true; away_notify = true }
 
--- Accounts are kept with both capabilities that tell of them, since one alone misses some; away
+-- Accounts are kept with both capabilities that report them, since one alone misses some; away
 -- texts with theirs (our own choice).
 abbrev pub kept_person : HeldCaps → Person → Person
 kept_person caps p = record {

@@ -44,7 +44,7 @@ IsKept C param = IsSomeAnd param (λ word. IsTrue (is_word word))
 IsKept D param = param ≡ None
 IsKept Unknown param = ⊥
 
--- Where we are on a channel we are ready and a member of it; its name is a channel's and folds to
+-- If we are on a channel we are ready and a member of it; its name is a channel's and folds to
 -- its key; each member is spelled by a nameable nick that folds to the member's key, and holds
 -- ranks that there are.
 pub record IsSoundChannel (v : View) (c : Text) (ch : Channel) : Type 0 where
@@ -77,7 +77,7 @@ pub record IsSound (v : View) : Type 0 where
   -- who is known is a member of some channel, and the other way round
   pub known : (n : Text) → map.contains_key v.people n ≡ is_seen v.channels n
 
--- What is written of a view is read back as it is: the tokens in force are of their form and stand
+-- What is written of a view is read back as it is: the tokens in force are of their form and occur
 -- once each, a mode's letter is no sign, and the ranks of a member are a set, the highest first.
 pub record IsWellFormed (v : View) : Type 0 where
   pub tokens : AreTokens v.settings

@@ -56,7 +56,7 @@ state_commands =
     ∷ Away
     ∷ []
 
--- the command of a line, where it is one of these
+-- the command of a line, if it is one of these
 abbrev pub state_command : Parts → Option StateCommand
 state_command line = find (λ command. has_command line (command_text command)) state_commands
 

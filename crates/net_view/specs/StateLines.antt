@@ -1,6 +1,6 @@
--- What each line tells, read by the settings in force before it. Only this file knows commands and
--- parameters; parameters count from 0. A nick that is not nameable is told nothing of, and an actor
--- that is not is dropped before its key is asked (our own choice).
+-- What each line says, read by the settings in force before it. Only this file knows commands and
+-- parameters; parameters count from 0. Nothing is said about a nick that is not nameable, and an
+-- actor that is not is dropped before its key is asked (our own choice).
 use Rattle.std.specs.Prelude.{ℕ, suc, Bool, true, false, drop, List, [], ◌∷◌, slice_get}
 use Rattle.std.specs.Prelude.{if◌then◌else◌}
 use Rattle.std.specs.List.{filter_map, list_any}
@@ -25,11 +25,11 @@ use Rattle.net_view.specs.Arrival.{Arrival, Received, Lost}
 
 -- ---- parts of a line
 
--- what the parameter at a place gives, where it is there
+-- what the parameter at a place gives, if it is there
 abbrev pub with : {A : Type 0} → Parts → ℕ → (Text → Option A) → Option A
 with line i give = option_and_then give (slice_get line.params i)
 
--- the nick of the source, where it is nameable
+-- the nick of the source, if it is nameable
 abbrev pub actor_nick : Parts → Option Text
 actor_nick line =
     option_and_then (λ source. if is_nameable (nick_of source) then Some (nick_of source) else None)
@@ -39,7 +39,7 @@ actor_nick line =
 abbrev pub actor : List Token → Parts → Option Name
 actor settings line = option_map (name_of settings) (actor_nick line)
 
--- where nothing is found, nothing is told
+-- if nothing is found, nothing is said
 abbrev pub or_silent : Option Told → Told
 or_silent told = unwrap_or told Silent
 
@@ -55,7 +55,7 @@ account_said text =
 
 -- ---- changes of modes (RFC 2812, section 3.2.3; CHANMODES of the isupport draft, section 3.3)
 
--- a change of a rank's letter, where it names a nick
+-- a change of a rank's letter, if it names a nick
 abbrev pub letter_change : List Token → ChangeParts → Option LetterChange
 letter_change settings change = option_and_then (λ rank.
     option_map (λ (nick : Name). record {
@@ -69,7 +69,7 @@ letter_change settings change = option_and_then (λ rank.
 abbrev pub word_param : Option Text → Option (Option Text)
 word_param param = option_and_then (λ text. if is_word text then Some (Some text) else None) param
 
--- on with that parameter, or off; where no parameter was found nothing is told
+-- on with that parameter, or off; if no parameter was found nothing is said
 abbrev pub switched : Bool → Option (Option Text) → Option (Option (Option Text))
 switched true param = option_map Some param
 switched false param = option_map (λ _. None) param
@@ -86,7 +86,7 @@ setting_by C false param = Some None
 setting_by D plus param = switched plus (Some None)
 setting_by Unknown plus param = None
 
--- a change of a mode, where it is kept
+-- a change of a mode, if it is kept
 abbrev pub mode_change : List Token → ChangeParts → Option ModeChange
 mode_change settings change =
     option_map (λ setting. record {
@@ -94,7 +94,7 @@ mode_change settings change =
       setting = setting;
     }) (setting_by (kind_of settings change.letter) change.plus change.param)
 
--- a word of a name list, where its nick is nameable
+-- a word of a name list, if its nick is nameable
 abbrev pub listing : List Token → Word → Option Listing
 listing settings word =
     option_map (λ nick. record { person = nick; ranks = word.ranks }) (nameable settings word.nick)
@@ -168,7 +168,7 @@ told_by_mode_reply settings line =
     (Listed (key_by settings c)
     (filter_map (mode_change settings) (changes settings (drop 2 line.params))))))
 
--- a topic with its channel at a place; an empty one is none, and without one nothing is told
+-- a topic with its channel at a place; an empty one is none, and without one nothing is said
 abbrev pub told_by_topic_at : ℕ → List Token → Parts → Told
 told_by_topic_at i settings line =
     or_silent
@@ -219,7 +219,7 @@ told_by_away settings line =
     (option_map (λ (who : Name). IsAway who.key (with line 0 unless_empty))
     (actor settings line))
 
--- a command, and what a line of it tells
+-- a command, and what a line of it says
 pub record StateLine : Type 0 where
   pub command : Text
   pub tells : List Token → Parts → Told
@@ -250,7 +250,7 @@ state_lines =
     ∷ state_line (codes "AWAY") told_by_away
     ∷ []
 
--- what the first of these with the line's command tells
+-- what the first of these with the line's command says
 abbrev pub told_by : List StateLine → List Token → Parts → Told
 told_by [] settings line = Silent
 told_by (s ∷ lines) settings line =
@@ -260,11 +260,11 @@ told_by (s ∷ lines) settings line =
 abbrev pub is_of : List StateLine → Parts → Bool
 is_of lines line = list_any (λ s. has_command line s.command) lines
 
--- whether a line can tell something: whether it is a state line
+-- whether a line can say something: whether it is a state line
 abbrev pub is_state_line : Parts → Bool
 is_state_line = is_of state_lines
 
--- whether an item can tell something: a state line, and a loss
+-- whether an item can say something: a state line, and a loss
 abbrev pub is_state_item : Arrival → Bool
 is_state_item (Received line) = is_state_line line
 is_state_item Lost = true
@@ -274,7 +274,7 @@ abbrev pub may_need_memory : Arrival → Bool
 may_need_memory (Received line) = is_state_line line
 may_need_memory Lost = false
 
--- what an item tells
+-- what an item says
 unfoldable pub told : List Token → Arrival → Told
 told settings (Received line) = told_by state_lines settings line
 told settings Lost = Disconnected

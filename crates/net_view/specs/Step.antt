@@ -71,7 +71,7 @@ channel_from us t c old name = record {
       (member_after us t c old);
 }
 
--- a channel after the item, where we are on it
+-- a channel after the item, if we are on it
 abbrev pub channel_after : (Text → Bool) → Told → Text → Option Channel → Option Channel
 channel_after us t c old =
     option_map (channel_from us t c old)
@@ -115,7 +115,7 @@ person_from us t cs old n = record {
   away = known_after says_away (λ p. p.away) us t cs old n;
 }
 
--- a person after the item, where in sight
+-- a person after the item, if in sight
 abbrev pub person_after : (Text → Bool) → Told → FinMap bytes_cmp Channel → FinMap bytes_cmp Person
     → Text → Option Person
 person_after us t cs old n = if is_seen cs n then Some (person_from us t cs old n) else None
@@ -127,7 +127,7 @@ people_after us t cs old = table bytes_cmp (everyone cs) (person_after us t cs o
 
 -- ---- the whole
 
--- the view after what an item tells
+-- the view after what an item says
 abbrev pub after_told : View → Told → View
 after_told v t =
     let s = standing_after t (standing_of v) in

@@ -1,4 +1,4 @@
--- What a line tells, with names as they are spelled, and what it means.
+-- What a line says, with names as they are spelled, and what it means.
 use Rattle.std.specs.Prelude.{List}
 use Rattle.std.specs.List.{filter_map}
 use Rattle.std.specs.Option.{option_map, unwrap_or}
@@ -48,6 +48,6 @@ meant settings (IsAway who text) =
 meant settings (Titled channel text) =
     spec.Titled (key_by settings channel.now) (option_map (λ t. t.now) text)
 
--- the same of what may not be told: then the settings are fixed
+-- the same if there may be none: then the settings are fixed
 abbrev pub meant_or_settles : {A : Type 0} → List Token → Option (Telling A) → spec.Told
 meant_or_settles settings found = unwrap_or (option_map (meant settings) found) spec.Settles

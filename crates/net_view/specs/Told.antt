@@ -1,4 +1,4 @@
--- What one item tells. Names of channels and persons are keys, but where a spelling is told.
+-- What one item says. Names of channels and persons are keys, except where a spelling is given.
 use Rattle.std.specs.Prelude.{ℕ, Bool, List}
 use Rattle.std.proofs.Common.{Option}
 use Rattle.irc_support.specs.Text.{Text}
@@ -11,7 +11,7 @@ pub record LetterChange : Type 0 where
   pub rank : ℕ
   pub person : Text
 
--- a mode of a channel: None where it is off; else on, with its parameter where it has one
+-- a mode of a channel: None if it is off; else on, with its parameter if it has one
 pub record ModeChange : Type 0 where
   pub letter : ℕ
   pub setting : Option (Option Text)
@@ -21,17 +21,17 @@ pub record Listing : Type 0 where
   pub person : Name
   pub ranks : List ℕ
 
--- what an item tells
+-- what an item says
 pub data Told : Type 0 where
   -- nothing
   Silent : Told
-  -- the network takes us in under this nick: all starts anew
+  -- the network takes us in under this nick: all starts again
   Welcomed : Text → Told
   -- 005, with these parameters: more settings
   Supports : List Text → Told
   -- the settings are fixed from here on
   Settles : Told
-  -- channel; whether it is a channel name; person; the account, where the line tells one or that
+  -- channel; whether it is a channel name; person; the account, if the line gives one or says that
   -- there is none
   Joined : Name → Bool → Name → Option (Option Text) → Told
   -- channel and person

@@ -18,6 +18,6 @@ said_of_topic c _ = None
 abbrev pub says_topic : Text → (Text → Bool) → Told → Option (Option Text)
 says_topic c us t = anew_or c us t None (said_of_topic c t)
 
--- what the last TOPIC, 332 or 331 of the channel says since our own JOIN; none where there was none
+-- what the last TOPIC, 332 or 331 of the channel says since our own JOIN; none if there was none
 abbrev pub topic_of : List Reading → Text → Option Text
 topic_of items c = unwrap_or (last (says_topic c) items) None

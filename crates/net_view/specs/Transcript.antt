@@ -11,7 +11,7 @@ use Rattle.net_view.specs.Told.{Told, Welcomed, Supports, Settles, Joined, Renam
 use Rattle.net_view.specs.Arrival.{Arrival}
 use Rattle.net_view.specs.StateLines.{told}
 
--- our own nick, where we were welcomed; whether we are ready; the settings in force
+-- our own nick, if we were welcomed; whether we are ready; the settings in force
 pub record Standing : Type 0 where
   pub own : Option Text
   pub ready : Bool
@@ -42,7 +42,7 @@ settings_after (Supports params) s =
     if is_some s.own && not s.ready then set_tokens s.settings params else s.settings
 settings_after _ s = s.settings
 
--- where what an item tells leaves us
+-- where what an item says leaves us
 abbrev pub standing_after : Told → Standing → Standing
 standing_after t s =
     record { own = own_after t s; ready = ready_after t s; settings = settings_after t s }
@@ -68,12 +68,12 @@ is_ready items = (standing items).ready
 abbrev pub settings_of : List Arrival → List Token
 settings_of items = (standing items).settings
 
--- an item as it is read: where we stood before it, and what it tells
+-- an item as it is read: our standing before it, and what it says
 pub record Reading : Type 0 where
   pub before : Standing
   pub told : Told
 
--- an item, read from where we stand
+-- an item, read with this standing
 abbrev pub reading_of : Arrival → Standing → Reading
 reading_of x s = record { before = s; told = told s.settings x }
 

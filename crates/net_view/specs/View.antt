@@ -78,7 +78,7 @@ channel_named items c name = record {
   members = members_of items c;
 }
 
--- the channel of this key, where we are on it
+-- the channel of this key, if we are on it
 abbrev pub channel_of : List Reading → Text → Option Channel
 channel_of items c = option_map (channel_named items c) (name_on items c)
 
@@ -94,7 +94,7 @@ known_of items n = record {
   away = away_of items n;
 }
 
--- the person of this key, where in sight
+-- the person of this key, if in sight
 abbrev pub person_of : List Reading → Text → Option Person
 person_of items n = if in_sight items n then Some (known_of items n) else None
 

@@ -20,7 +20,7 @@ members_at v i = option_map_or (λ (ch : Channel). fin.entries ch.members) (chan
 abbrev pub member_parts_at : View → ℕ → List MemberParts
 member_parts_at v i = map (member_parts v) (members_at v i)
 
--- a member, from what is lent of it
+-- a member, from its lent parts
 abbrev pub parts_of : Member → MemberParts
 parts_of member = record {
   nick = member.nick.now;

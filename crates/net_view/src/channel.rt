@@ -7,7 +7,7 @@ use irc_support::Ranks;
 pub struct Channel<'a> {
     /// The name, as spelled in our own last JOIN.
     pub name: &'a [u8],
-    /// The topic, not empty; `None` where there is none.
+    /// The topic, not empty; `None` if there is none.
     pub topic: Option<&'a [u8]>,
 }
 
@@ -18,9 +18,9 @@ pub struct Member<'a> {
     pub nick: &'a [u8],
     /// The ranks held on this channel, as that of an operator.
     pub ranks: Ranks,
-    /// The account, where one is known; never empty, and not `*` (IRCv3 extended-join,
+    /// The account, if one is known; never empty, and not `*` (IRCv3 extended-join,
     /// account-notify).
     pub account: Option<&'a [u8]>,
-    /// The away text, where the person is known to be away; never empty (IRCv3 away-notify).
+    /// The away text, if the person is known to be away; never empty (IRCv3 away-notify).
     pub away: Option<&'a [u8]>,
 }

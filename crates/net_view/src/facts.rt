@@ -37,7 +37,7 @@ pub fn the_last_word<A>()
 {}
 
 /// What every network view is like; that what is written of it is read back as it is; and that all
-/// its texts can stand in lines, where those of the transcript can be written. A channel that we
+/// its texts can be in lines, if those of the transcript can be written. A channel that we
 /// are on has the name of our own JOIN, and nothing since took us off it.
 pub fn views_are_sound()
     ensures sound { (items : List Arrival) → IsSound (view_of items) }
@@ -58,8 +58,8 @@ pub fn settings_stay()
         (view_of (items ++ x ∷ [])).settings ≡ (view_of items).settings }
 {}
 
-/// What a name is worth. An account is known under a nameable nick alone, of who is a member of a
-/// channel that we are on. A NICK that counts and its way back are inverse, but for who held the
+/// What a name is worth. An account is known only under a nameable nick, of a member of a
+/// channel that we are on. A NICK that counts and its way back are inverse, except for who held the
 /// new name. After a QUIT nobody of that name is there, and after a welcome nobody at all (after a
 /// loss neither: `a_loss_empties_the_view`).
 pub fn a_name_is_a_person()
@@ -87,7 +87,7 @@ pub fn all_capabilities_see_all()
     ensures { (items : List Arrival) (a : ℕ) → seen_since items a all_caps ≡ view_of items }
 {}
 
-/// Name lists add up: a list tells what two tell that have its words, one list after the other. So
+/// Name lists add up: a list says what two say that have its words, one list after the other. So
 /// it can be cut into lines between any words.
 #[tactic(auto, using(crate::proofs::NameLists::lists_add_up, crate::proofs::NameLists::words_add_up))]
 pub fn name_lists_add_up()

@@ -33,7 +33,7 @@ pub fn only_state_items_count()
         view_of (items ++ x ∷ []) ≡ view_of items }
 {}
 
-/// Whether a line is a state line is read off any spelling of its command: it is where that is one
+/// Whether a line is a state line is read off any spelling of its command: it is if that is one
 /// of the seventeen. So no message, no `PING`, `PONG`, `ERROR`, `CAP`, `BATCH` and `AUTHENTICATE`,
 /// and none of the replies `002`, `003`, `004` and `366` is one.
 #[tactic(auto, using(crate::proofs::Commands::is_state_by_name, crate::proofs::Commands::no_state_line))]

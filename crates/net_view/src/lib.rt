@@ -1,4 +1,5 @@
-//! The network view: what a network's lines say of it, defined by looking back through all of them.
+//! The network view: what a network's lines say about it, defined by looking back through all of
+//! them.
 #![tactic(auto)]
 
 mod channel;

@@ -16,7 +16,7 @@ use crate::item::Item;
 use irc_support::Support;
 use std::alloc::Allocator;
 
-/// A network as its lines tell of it. Its meaning, `view`, is a function of the whole transcript:
+/// A network as its lines describe it. Its meaning, `view`, is a function of the whole transcript:
 /// of all items that were taken, in order. Names are compared by the network's case mapping, and
 /// places are counted from 0 in the order of the names' keys, byte by byte.
 ///
@@ -68,7 +68,7 @@ pub trait NetworkView {
         ensures topic { option_map (λ channel. option_map (λ topic. topic.now) channel.topic) result
             ≡ option_map (λ channel. channel.topic) (channel_shown (view self.now) i) };
 
-    /// The mode at place `j` of the channel at place `i`: its letter, and its parameter, where it
+    /// The mode at place `j` of the channel at place `i`: its letter, and its parameter, if it
     /// has one. Modes are ordered by the bytes of their letters; `None` after the last one.
     fn mode_at(&self, i: usize, j: usize) -> Option<(u8, Option<&[u8]>)>
         ensures { option_map mode_parts result ≡ mode_shown (view self.now) i j };
@@ -88,7 +88,7 @@ pub trait NetworkView {
         ensures away { option_map (λ member. option_map (λ text. text.now) member.away) result
             ≡ option_map (λ member. member.away) (member_shown (view self.now) i j) };
 
-    /// The account of the person of this nick, where one is known: that of somebody who is a member
+    /// The account of the person of this nick, if one is known: the account of a member
     /// of a channel that we are on.
     fn account_of(&self, nick: &[u8]) -> Option<&[u8]>
         ensures { option_map (λ name. name.now) result ≡ account_shown (view self.now) nick.now };

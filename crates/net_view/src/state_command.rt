@@ -8,8 +8,9 @@ ghost use Rattle.net_view.specs.StateCommands.{command_text, state_command};
 use irc_line::Line;
 use std::alloc::Allocator;
 
-/// The command of a line that can tell something of the network (RFC 2812, sections 3.1, 3.2 and 5;
-/// IRCv3 account-notify and away-notify). What each tells is said at [`Telling`](crate::Telling).
+/// The command of a line that can say something about the network (RFC 2812, sections 3.1, 3.2 and
+/// 5; IRCv3 account-notify and away-notify). What each says is given at
+/// [`Telling`](crate::Telling).
 #[derive(Clone, Copy, Debug, PartialEq, Eq)]
 pub enum StateCommand {
     /// `001` RPL_WELCOME.
@@ -50,7 +51,7 @@ pub enum StateCommand {
 
 impl StateCommand {
     /// The command of the line, read once and without regard to the case of ASCII letters; `None`
-    /// where the line can tell nothing, as a `PRIVMSG`.
+    /// if the line can say nothing, as a `PRIVMSG`.
     pub fn of<A: Allocator>(line: &Line<A>) -> Option<StateCommand>
         ensures value { result ≡ state_command line.now }
         // Whatever line it is, it can be written.

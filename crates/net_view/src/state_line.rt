@@ -1,4 +1,4 @@
-//! What one line tells.
+//! What one line says.
 
 ghost use Rattle.std.specs.Prelude.{◌≡◌, ◌≤◌, true, Some, List, codes, option_map};
 ghost use Rattle.irc_line.specs.Line.{has_command};
@@ -19,8 +19,8 @@ use irc_line::Line;
 use irc_names::is_nameable;
 use std::alloc::Allocator;
 
-/// What a line tells, with names as they are spelled: a channel's name need not be one, and a nick
-/// is nameable. What is read by the network's settings, as the letters of a MODE, stands in the
+/// What a line says, with names as they are spelled: a channel's name need not be one, and a nick
+/// is nameable. What is read by the network's settings, as the letters of a MODE, stays in the
 /// line.
 #[derive(Drop)]
 pub enum Telling<'a, A: Allocator> {
@@ -33,7 +33,7 @@ pub enum Telling<'a, A: Allocator> {
     },
     /// `:s 005 Me PREFIX=(ov)@+ :are supported`: more settings.
     Supports {
-        /// The line, whose parameters are the settings, but for the first one and the last.
+        /// The line, whose parameters are the settings, except the first one and the last.
         line: &'a Line<A>,
     },
     /// `:s 376 Me :End of /MOTD command.`, `:s 422 Me :MOTD File is missing`, and a JOIN without a
@@ -45,7 +45,7 @@ pub enum Telling<'a, A: Allocator> {
         channel: &'a [u8],
         /// The person.
         who: &'a [u8],
-        /// The account, or that there is none (`*`); `None` where the line tells nothing of it.
+        /// The account, or that there is none (`*`); `None` if the line says nothing about it.
         account: Option<Option<&'a [u8]>>,
     },
     /// `:bob!b@h PART #c :bye`: a person leaves a channel.
@@ -94,7 +94,7 @@ pub enum Telling<'a, A: Allocator> {
     Titled {
         /// The channel.
         channel: &'a [u8],
-        /// The topic, not empty; `None` where there is none.
+        /// The topic, not empty; `None` if there is none.
         topic: Option<&'a [u8]>,
     },
     /// `:s 353 Me = #c :Me @+bob`: persons are members of a channel.
@@ -109,19 +109,19 @@ pub enum Telling<'a, A: Allocator> {
     HasAccount {
         /// The person.
         who: &'a [u8],
-        /// The account; `None` where there is none (`*`).
+        /// The account; `None` if there is none (`*`).
         account: Option<&'a [u8]>,
     },
     /// `:bob!b@h AWAY :lunch`: whether a person is away.
     IsAway {
         /// The person.
         who: &'a [u8],
-        /// The away text, not empty; `None` where the person is back.
+        /// The away text, not empty; `None` if the person is back.
         text: Option<&'a [u8]>,
     },
 }
 
-/// Whether the line can tell something, that is, whether a view keeps it.
+/// Whether the line can say something, that is, whether a view keeps it.
 #[tactic(auto, using(crate::proofs::Commands::is_read))]
 pub fn is_state_line<A: Allocator>(line: &Line<A>) -> bool
     ensures { result ≡ is_state_line line.now }
@@ -129,7 +129,7 @@ pub fn is_state_line<A: Allocator>(line: &Line<A>) -> bool
     StateCommand::of(line).is_some()
 }
 
-/// The nick of the source, where it is nameable.
+/// The nick of the source, if it is nameable.
 fn actor<A: Allocator>(line: &Line<A>) -> Option<&[u8]>
     ensures { option_map (λ nick. nick.now) result ≡ actor_nick line.now }
 {
@@ -137,7 +137,7 @@ fn actor<A: Allocator>(line: &Line<A>) -> Option<&[u8]>
     if is_nameable(nick) { Some(nick) } else { None }
 }
 
-/// Whether the text can stand as a parameter with others after it: not empty, no `:` at its head,
+/// Whether the text can be a parameter with others after it: not empty, no `:` at its head,
 /// no space (RFC 2812, section 2.3.1: middle).
 pub fn is_word(text: &[u8]) -> bool
     ensures { result ≡ is_word text.now }
@@ -148,7 +148,7 @@ pub fn is_word(text: &[u8]) -> bool
     }
 }
 
-/// The account that a parameter tells, where it is a word; `*` tells that there is none.
+/// The account that a parameter gives, if it is a word; `*` says that there is none.
 #[tactic(auto, using(crate::proofs::Keys::texts_ties))]
 fn account_said(text: &[u8]) -> Option<Option<&[u8]>>
     ensures { option_map (option_map (λ name. name.now)) result ≡ account_said text.now }
@@ -163,7 +163,7 @@ fn account_said(text: &[u8]) -> Option<Option<&[u8]>>
     }
 }
 
-/// The text, where it is not empty.
+/// The text, if it is not empty.
 fn unless_empty(text: &[u8]) -> Option<&[u8]>
     ensures { option_map (λ t. t.now) result ≡ unless_empty text.now }
 {
@@ -173,7 +173,7 @@ fn unless_empty(text: &[u8]) -> Option<&[u8]>
     }
 }
 
-/// What a `001` tells.
+/// What a `001` says.
 fn told_by_welcome<A: Allocator>(line: &Line<A>) -> Option<Telling<'_, A>>
     ensures { (settings : List Token) →
         or_silent (option_map (meant settings) result) ≡ told_by_welcome settings line.now }
@@ -186,7 +186,7 @@ fn told_by_welcome<A: Allocator>(line: &Line<A>) -> Option<Telling<'_, A>>
     }
 }
 
-/// What a JOIN tells, where it names a channel and has a nameable actor.
+/// What a JOIN says, if it names a channel and has a nameable actor.
 fn told_by_join<A: Allocator>(line: &Line<A>) -> Option<Telling<'_, A>>
     ensures { (settings : List Token) →
         meant_or_settles settings result ≡ told_by_join settings line.now }
@@ -204,7 +204,7 @@ fn told_by_join<A: Allocator>(line: &Line<A>) -> Option<Telling<'_, A>>
     })
 }
 
-/// What a PART tells.
+/// What a PART says.
 fn told_by_part<A: Allocator>(line: &Line<A>) -> Option<Telling<'_, A>>
     ensures { (settings : List Token) →
         or_silent (option_map (meant settings) result) ≡ told_by_part settings line.now }
@@ -214,7 +214,7 @@ fn told_by_part<A: Allocator>(line: &Line<A>) -> Option<Telling<'_, A>>
     Some(Telling::Parted { channel, who })
 }
 
-/// What a KICK tells.
+/// What a KICK says.
 fn told_by_kick<A: Allocator>(line: &Line<A>) -> Option<Telling<'_, A>>
     ensures { (settings : List Token) →
         or_silent (option_map (meant settings) result) ≡ told_by_kick settings line.now }
@@ -228,7 +228,7 @@ fn told_by_kick<A: Allocator>(line: &Line<A>) -> Option<Telling<'_, A>>
     }
 }
 
-/// What a QUIT tells.
+/// What a QUIT says.
 fn told_by_quit<A: Allocator>(line: &Line<A>) -> Option<Telling<'_, A>>
     ensures { (settings : List Token) →
         or_silent (option_map (meant settings) result) ≡ told_by_quit settings line.now }
@@ -237,7 +237,7 @@ fn told_by_quit<A: Allocator>(line: &Line<A>) -> Option<Telling<'_, A>>
     Some(Telling::Quits { who })
 }
 
-/// What a NICK tells.
+/// What a NICK says.
 fn told_by_nick<A: Allocator>(line: &Line<A>) -> Option<Telling<'_, A>>
     ensures { (settings : List Token) →
         or_silent (option_map (meant settings) result) ≡ told_by_nick settings line.now }
@@ -251,7 +251,7 @@ fn told_by_nick<A: Allocator>(line: &Line<A>) -> Option<Telling<'_, A>>
     }
 }
 
-/// What a MODE tells.
+/// What a MODE says.
 fn told_by_mode<A: Allocator>(line: &Line<A>) -> Option<Telling<'_, A>>
     requires { has_command line.now (codes "MODE") ≡ true }
     ensures { (settings : List Token) →
@@ -261,7 +261,7 @@ fn told_by_mode<A: Allocator>(line: &Line<A>) -> Option<Telling<'_, A>>
     Some(Telling::Changed { channel, line })
 }
 
-/// What a 324 tells.
+/// What a 324 says.
 fn told_by_mode_reply<A: Allocator>(line: &Line<A>) -> Option<Telling<'_, A>>
     requires { has_command line.now (codes "324") ≡ true }
     ensures { (settings : List Token) →
@@ -271,7 +271,7 @@ fn told_by_mode_reply<A: Allocator>(line: &Line<A>) -> Option<Telling<'_, A>>
     Some(Telling::Listed { channel, line })
 }
 
-/// What a line tells that has a channel at this place, and its topic after it.
+/// What a line says that has a channel at this place, and its topic after it.
 fn told_by_topic_at<A: Allocator>(line: &Line<A>, place: usize) -> Option<Telling<'_, A>>
     requires { place ≤ 1 }
     ensures { (settings : List Token) →
@@ -285,7 +285,7 @@ fn told_by_topic_at<A: Allocator>(line: &Line<A>, place: usize) -> Option<Tellin
     })
 }
 
-/// What a 331 tells.
+/// What a 331 says.
 fn told_by_no_topic<A: Allocator>(line: &Line<A>) -> Option<Telling<'_, A>>
     ensures { (settings : List Token) →
         or_silent (option_map (meant settings) result) ≡ told_by_no_topic settings line.now }
@@ -297,7 +297,7 @@ fn told_by_no_topic<A: Allocator>(line: &Line<A>) -> Option<Telling<'_, A>>
     })
 }
 
-/// What a 353 tells.
+/// What a 353 says.
 fn told_by_names<A: Allocator>(line: &Line<A>) -> Option<Telling<'_, A>>
     requires { has_command line.now (codes "353") ≡ true }
     ensures { (settings : List Token) →
@@ -307,7 +307,7 @@ fn told_by_names<A: Allocator>(line: &Line<A>) -> Option<Telling<'_, A>>
     Some(Telling::Present { channel, line })
 }
 
-/// What an ACCOUNT tells.
+/// What an ACCOUNT says.
 fn told_by_account<A: Allocator>(line: &Line<A>) -> Option<Telling<'_, A>>
     ensures { (settings : List Token) →
         or_silent (option_map (meant settings) result) ≡ told_by_account settings line.now }
@@ -317,7 +317,7 @@ fn told_by_account<A: Allocator>(line: &Line<A>) -> Option<Telling<'_, A>>
     Some(Telling::HasAccount { who, account })
 }
 
-/// What an AWAY tells.
+/// What an AWAY says.
 fn told_by_away<A: Allocator>(line: &Line<A>) -> Option<Telling<'_, A>>
     ensures { (settings : List Token) →
         or_silent (option_map (meant settings) result) ≡ told_by_away settings line.now }
@@ -330,7 +330,7 @@ fn told_by_away<A: Allocator>(line: &Line<A>) -> Option<Telling<'_, A>>
     Some(Telling::IsAway { who, text })
 }
 
-/// What the line tells, whose command is known already.
+/// What a line says whose command is known already.
 pub fn told_as<A: Allocator>(command: StateCommand, line: &Line<A>) -> Telling<'_, A>
     requires { state_command line.now ≡ Some command }
     ensures { (settings : List Token) → meant settings result ≡ told settings (Received line.now) }
@@ -356,7 +356,7 @@ pub fn told_as<A: Allocator>(command: StateCommand, line: &Line<A>) -> Telling<'
     telling.unwrap_or(Telling::Silent)
 }
 
-/// What the line tells; a line that is no state line tells nothing.
+/// What the line says; a line that is no state line says nothing.
 pub fn told<A: Allocator>(line: &Line<A>) -> Telling<'_, A>
     ensures { (settings : List Token) → meant settings result ≡ told settings (Received line.now) }
 {

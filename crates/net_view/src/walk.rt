@@ -10,7 +10,7 @@ use crate::network_view::NetworkView;
 use std::marker::Model;
 
 /// The modes of a channel, in the order of their letters' bytes: each its letter, and its parameter
-/// where it has one.
+/// if it has one.
 #[derive(Drop)]
 pub struct Modes<'v, V: NetworkView> {
     view: &'v V,
@@ -29,7 +29,7 @@ impl<'v, V: NetworkView> Model for Modes<'v, V> {
     ghost view = { λ s. drop s.place (modes_at (V.view s.view.now) s.channel) };
 }
 
-/// The place after that of a mode. Letters rise from place to place, so none stands at a place
+/// The place after that of a mode. Letters rise from place to place, so none is at a place
 /// above it.
 fn place_behind(letter: u8, place: usize) -> usize
     requires { place ≤ letter }

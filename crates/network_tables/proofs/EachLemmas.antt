@@ -38,11 +38,11 @@ module _ {A : Type 0} (change : Channel → Channel) (xs : List (Text × Channel
   within : i < length xs
   within = omega (arith, length-map s room_entry, ap length e, long as_changed xs i)
 
-  -- what stands there is not changed yet
+  -- what is there is not changed yet
   not_yet : room_entry x ≡ get_or xs i (room_entry x)
   not_yet = cc (get_or-map room_entry s i x (room_entry x) l, here as_changed xs i (room_entry x))
 
-  -- the copies for what stands there and behind it
+  -- the copies for what is there and after it
   pub copies_left : (key n : Text) → copies_of key n (drop i xs)
       ≡ copy_for key n x.entry.value.value.members.all ∷ copies_of key n (drop (i + 1) xs)
   copies_left key n = cc (ap (copies_of key n) (drop_more xs i (room_entry x) within), not_yet)

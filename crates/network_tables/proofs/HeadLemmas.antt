@@ -1,4 +1,4 @@
--- Keys stand as their heads do where these differ.
+-- Keys compare as their heads do if these differ.
 use Rattle.{irc_support.specs.Text.Text, network_tables.specs.Head.{AreBytesTo, head_at, head_of}}
 use Rattle.{net_view.specs.Names.bytes_cmp, std.specs.Cmp.Lexicographic.nat_list_cmp_total}
 use Rattle.std.proofs.{Common.{arith, drop, refl, sym}, Math.Nat.{mul-le-mul_right, pow-succ'}}
@@ -24,7 +24,7 @@ head_small (suc n) [] h =
 head_small (suc n) (b ∷ xs) h =
     rw (pow-succ' 256 n) (small (256 ^ n) b (head_at n xs) h.0 (head_small n xs h.1))
 
--- numbers of two digits stand as their first digits do, and where these are one as the others do
+-- numbers of two digits compare as their first digits do, and if these are one as the others do
 first_less : (p x y a b : ℕ) (r : Ordering) → b < p → (a < b → r ≡ Less) → x * p + a < y * p + b
     → ordering_then (nat_cmp x y) r ≡ Less
 first_less p x y a b r m next l = grind (arith, apart p x y b a m)
@@ -54,7 +54,7 @@ by_heads a b h k r e differ = by r (rw e (ranks (head_of a) (head_of b))) differ
     by Equal m differ = absurd (differ refl)
     by Greater m differ = rw (nat_list_cmp_total.antisymm a b, less 8 b a h m)
 
--- keys of one head, by what stands behind it
+-- keys of one head, by what comes after it
 pub behind : (n : ℕ) (a b : Text) → n ≤ length a → n ≤ length b → AreBytesTo n a → AreBytesTo n b
     → head_at n a ≡ head_at n b → bytes_cmp (drop n a) (drop n b) ≡ bytes_cmp a b
 behind zero a b l m h k e = refl
@@ -68,6 +68,6 @@ behind (suc n) (x ∷ xs) (y ∷ ys) l m h k e =
 pub level : (x y : ℕ) → Equal ≡ nat_cmp x y → x ≡ y
 level x y e = rw (← e) at (ranks x y)
 
--- what stands the other way round
+-- what is the other way round
 pub turned : (a b : Text) → ordering_reverse (bytes_cmp a b) ≡ bytes_cmp b a
 turned a b = sym (nat_list_cmp_total.antisymm b a)

@@ -25,7 +25,7 @@ module _ {K X Y : Type 0} {R : K → K → Ordering} (o : IsTotalOrder R) (f : X
       let up = rise R (map f xs) h k (k + 1) (f d) (omega arith) n in
       ap is_lt (turned o _ _ Less (rw (at xs k d (omega arith), at xs (k + 1) d high) at up))
 
-  -- where the key is new
+  -- if the key is new
   pub free_place : (xs : List X) (key : K) (i : ℕ) → T (fin.is_sorted R (map f xs))
       → i ≤ length xs → IsBinarySearchResult (λ x. R (f x).0 key) xs (Err i)
       → IsPlace R (map f xs) key i

@@ -3,7 +3,7 @@ use Rattle.std.{proofs.Common.{arith, drop, get_or, take}, specs.List.{filter, r
 use Rattle.std.specs.Prelude.{Bool, List, [], false, length, suc, zero, ℕ, ◌++◌, ◌<◌, ◌∷◌, ◌≡◌, ◌≤◌}
 
 module _ {X : Type 0} (p : X → Bool) where
-  -- what is left where all from a place on have been looked at
+  -- what is left if all from a place on have been looked at
   abbrev pub left : ℕ → List X → List X
   left i xs = take i xs ++ filter p (drop i xs)
 

@@ -98,7 +98,7 @@ module _ {K X : Type 0} {R : K → K → Ordering} (o : IsTotalOrder R) where
   put_at (e ∷ es) h (suc i) d v l =
       grind (arith, above_first e es h i d, put_at es)
 
-  -- nobody is lost where no key ties
+  -- nobody is lost if no key ties
   kept_all : (k : K) (es : List (K × X))
       → ((i : ℕ) (d : K × X) → i < length es → eq_by_cmp R k (get_or es i d).0 ≡ false)
       → where_key R (λ x. not (eq_by_cmp R k x)) es ≡ es

@@ -57,14 +57,14 @@ module _ {E K X : Type 0} {R : K → K → Ordering} (order : IsKeyOrder R) (f :
         let found = find_at order.total es h i (f e) within in
         cc (found, at e, is_key e, fin.get-from_sorted R es key h)
 
-    -- whatever stood there, n has the key
+    -- whatever was there, n has the key
     pub put_there : (n : E) → (f n).0 ≡ key
         → AreOf (map f (set xs i n)) (fin.insert all key (f n).1)
     put_there n same =
         rw (map-set f xs i n, ← same)
         (rw (is_key n ∙ sym same) at (written order.total es h i (f n) (f n).1 within))
 
-    -- n has the key of e, which stood there
+    -- n has the key of e, which was there
     pub written_there : (e n : E) → e ≡ get_or xs i e → (f n).0 ≡ (f e).0
         → AreOf (map f (set xs i n)) (fin.insert all key (f n).1)
     written_there e n is same = put_there n (cc (order.exact _ key (found e)))
@@ -74,7 +74,7 @@ module _ {E K X : Type 0} {R : K → K → Ordering} (order : IsKeyOrder R) (f :
         rw (map_remove f xs i)
         (rw (is_key d) at (removed order.total es h order.exact i (f d) within))
 
-  -- the place where it would stand
+  -- the place where it would be
   module _ {key : K} {i : ℕ} (l : i ≤ length xs)
       (found : IsBinarySearchResult (λ (e : E). R (f e).0 key) xs (Err i)) where
     place : IsPlace R es key i
@@ -99,7 +99,7 @@ pub none_sorted : {K X : Type 0} (R : K → K → Ordering)
     → fin.from_sorted {X = X} {R = R} [] ≡ fin.empty
 none_sorted R = (no_entries R).is
 
--- for an attribute `using`: what stands at a place of the entries
+-- for an attribute `using`: what is at a place of the entries
 pub ruleset entry_places =
     (fin.entries-from_sorted, slice_get-map, length-map, slice_get-get_or, slice_get_past)
 

@@ -4,7 +4,7 @@ use Rattle.std.proofs.Common.{refl}
 use Rattle.std.proofs.Math.Bridge.{le_prop}
 use Rattle.irc_support.specs.Text.{Text}
 
--- the first n bytes as one number, the first of them the highest; as if zeros stood behind the end
+-- the first n bytes as one number, the first of them the highest; as if zeros came after the end
 abbrev pub head_at : ℕ → Text → ℕ
 head_at zero key = 0
 head_at (suc n) [] = 0

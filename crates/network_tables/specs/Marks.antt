@@ -1,4 +1,4 @@
--- Marks by which most keys that a table does not hold are told without a search (our own choice).
+-- Marks by which most keys that a table lacks are recognised without a search (our own choice).
 use Rattle.std.specs.Prelude.{◌≡◌, ℕ, ◌%◌, Bool, true, List}
 use Rattle.std.specs.FinMap as fin
 use Rattle.std.proofs.Common.{get_or}
@@ -10,7 +10,7 @@ use Rattle.network_tables.specs.Head.{head_of}
 abbrev pub mark_of : ℕ → ℕ
 mark_of head = head % 1021
 
--- whether it is up; where there are no marks, each is
+-- whether it is up; if there are no marks, each is
 abbrev pub is_marked : List Bool → ℕ → Bool
 is_marked marks head = get_or marks (mark_of head) true
 

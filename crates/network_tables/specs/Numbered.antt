@@ -45,7 +45,7 @@ abbrev pub value_out : {X A : Type 0} → Option (Keyed X A) → X → X
 value_out {X} {A} known value =
     unwrap_or (option_map {T = Keyed X A} (λ known. known.value) known) value
 
--- what a cell holds, where its key is one of these
+-- what a cell holds, if its key is one of these
 abbrev pub seen_in : {X A : Type 0} → (Text → Bool) → Option (Keyed X A) → Option (Keyed X A)
 seen_in is_seen None = None
 seen_in is_seen (Some known) = if is_seen known.key.items then Some known else None

@@ -21,7 +21,7 @@ abbrev pub people_of : {A : Type 0} → fin.FinMap bytes_cmp (Person A) → fin.
     view.Person
 people_of people = shown known_of people
 
--- the value of this key changed, where there is one
+-- the value of this key changed, if there is one
 abbrev pub changed_at : {X : Type 0} → fin.FinMap bytes_cmp X → Text → (X → X) → fin.FinMap
     bytes_cmp X
 changed_at m k change = option_map_or (λ x. fin.insert m k (change x)) (fin.get m k) m

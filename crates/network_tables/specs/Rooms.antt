@@ -36,7 +36,7 @@ each_changed change entries = map (λ e. (e.0, change e.1)) entries
 abbrev pub is_in : Text → Text × Channel → Bool
 is_in n entry = fin.contains_key entry.1.members n
 
--- a copy of the key for a channel of these members, where the person is one
+-- a copy of the key for a channel of these members, if the person is one
 abbrev pub copy_for : Text → Text → fin.FinMap bytes_cmp (List ℕ) → Option Text
 copy_for key n members = if fin.contains_key members n then Some key else None
 
@@ -54,7 +54,7 @@ with_modes modes ch = record {
       ch.members;
 }
 
--- members after one got another key; whoever stood under that one is gone, where it may be taken
+-- members after one got another key; whoever had that key is gone, if it may be taken
 abbrev pub moved_in : Bool → Text → Text → fin.FinMap bytes_cmp (List ℕ) → fin.FinMap bytes_cmp
     (List ℕ)
 moved_in taken old new m =

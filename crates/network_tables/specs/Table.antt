@@ -37,7 +37,7 @@ abbrev pub IsTabled : {X A : Type 0} → Shelf (Slot X A) → List Bool → Type
 IsTabled entries marks =
     T (fin.is_sorted bytes_cmp (map entry_of entries.items)) × AreMarked marks (tabled entries).all
 
--- a value in the place of another, where there is one
+-- a value in the place of another, if there is one
 abbrev pub swapped_in : {X : Type 0} → fin.FinMap bytes_cmp X → Text → X → fin.FinMap bytes_cmp X
 swapped_in m key value = if fin.contains_key m key then fin.insert m key value else m
 

@@ -21,7 +21,7 @@ fn mark_of(head: u64) -> usize
     (head % COUNT) as usize
 }
 
-/// Whether the mark of a head is up; it is where there are no marks.
+/// Whether the mark of a head is up; it is if there are no marks.
 pub(crate) fn is_up<A: Allocator>(marks: &Vec<bool, A>, head: u64) -> bool
     ensures { result ≡ is_marked marks.now.items head }
 {

@@ -45,7 +45,7 @@ impl<A: Allocator> Model for Modes<A> {
     ghost invariant = { λ m. AreModes m.modes.items };
 }
 
-/// Where the mode of this letter stands, or would stand.
+/// Where the mode of this letter is, or would be.
 fn place_of<A: Allocator>(modes: &[Mode<A>], letter: u8) -> Result<usize, usize>
     ensures bound { IsSearchInRange result (length modes.now) }
     ensures place { IsBinarySearchResult (λ mode. nat_cmp mode.letter letter) modes.now result }
@@ -120,7 +120,7 @@ impl<A: Allocator + Copy> Modes<A> {
         }
     }
 
-    /// The mode at a place: its letter, and its parameter, where it has one.
+    /// The mode at a place: its letter, and its parameter, if it has one.
     #[tactic(auto, using(crate::proofs::TableLemmas::entry_places))]
     pub fn at(&self, place: usize) -> Option<(u8, Option<&[u8]>)>
         ensures { option_map mode_parts result ≡ slice_get (fin.entries self.now) place }

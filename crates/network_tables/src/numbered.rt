@@ -17,7 +17,7 @@ use std::alloc::Allocator;
 use std::marker::Model;
 use std::mem;
 
-/// What a cell holds: a value, and the key that tells whose it is.
+/// What a cell holds: a value, and the key that says whose it is.
 #[derive(Drop)]
 pub struct Keyed<V, A: Allocator> {
     pub key: Vec<u8, A>,
@@ -32,8 +32,8 @@ pub struct Fresh<V, A: Allocator> {
     ghost same: { number.value.key.items ≡ known.key.items },
 }
 
-/// Values by key. Each stands in a cell, whose number stays as long as the value is kept. Who has
-/// the number from before finds it in one step, and in a search where the cell holds another by
+/// Values by key. Each is in a cell, whose number stays as long as the value is kept. A caller that
+/// has the number from before finds it in one step, and in a search if the cell holds another by
 /// now.
 #[derive(Drop)]
 pub struct Numbered<V, A: Allocator> {
@@ -56,7 +56,7 @@ impl<V, A: Allocator> Model for Numbered<V, A> {
 }
 
 /// The number of the cell of what is looked for. It is first looked for in the cell in which it
-/// stood last, if that is known.
+/// was last, if that is known.
 fn number_of<V, A: Allocator>(
     index: &Table<usize, A>,
     cells: &Slab<Keyed<V, A>, A>,
@@ -113,7 +113,7 @@ impl<V, A: Allocator> Numbered<V, A> {
         self.get_near(None, sought)
     }
 
-    /// The same, which is first looked for in the cell in which it stood last.
+    /// The same, which is first looked for in the cell in which it was last.
     #[tactic(auto, using(crate::proofs::NumberedLemmas::get_joined))]
     pub fn get_near(&self, near: Option<usize>, sought: Sought<'_>) -> Option<&V>
         ensures { option_map (λ value. value.now) result ≡ fin.get self.now.all (sought_key
@@ -152,7 +152,7 @@ impl<V: Drop, A: Allocator> Numbered<V, A> {
         Ok(())
     }
 
-    /// Changes the value that is looked for, first in the cell in which it stood last, and this
+    /// Changes the value that is looked for, first in the cell in which it was last, and this
     /// one, each into the other's place; whether there is one.
     pub fn swap(&mut self, near: &mut Option<usize>, sought: Sought<'_>, value: &mut V) -> bool
         ensures found { result ≡ fin.contains_key self.old.all (sought_key sought.entry) }
@@ -170,7 +170,7 @@ impl<V: Drop, A: Allocator> Numbered<V, A> {
         }
     }
 
-    /// Puts a value in a cell, where there is none of its key; the cell's number.
+    /// Puts a value in a cell, if there is none of its key; the cell's number.
     pub fn put(&mut self, fresh: Fresh<V, A>) -> usize
         requires room { 0 < self.old.spare }
         requires none { fin.get self.old.all fresh.known.key.items ≡ None }
@@ -200,7 +200,7 @@ impl<V: Drop, A: Allocator> Numbered<V, A> {
         Some((known, number))
     }
 
-    /// Takes out what is looked for, where there is one.
+    /// Takes out what is looked for, if there is one.
     pub fn remove(&mut self, sought: Sought<'_>)
         ensures all { self.new.all ≡ fin.remove self.old.all (sought_key sought.entry) }
         ensures room { self.old.spare ≤ self.new.spare }

@@ -37,7 +37,7 @@ pub struct Person<A: Allocator> {
 /// The persons in sight, by the keys of their nicks.
 pub type People<A> = Numbered<Person<A>, A>;
 
-/// Nobody, of whom nothing is known.
+/// Nobody, with nothing known.
 pub fn nobody<A: Allocator>(alloc: A) -> Person<A>
     ensures account { result.account ≡ None }
     ensures away { result.away ≡ None }
@@ -49,7 +49,7 @@ pub fn nobody<A: Allocator>(alloc: A) -> Person<A>
     }
 }
 
-/// A person of this name of whom nothing else is known, as it is to be kept.
+/// A person of this name with nothing else known, as it is to be kept.
 pub fn new_person<A: Allocator + Copy>(
     alloc: A,
     mapping: CaseMapping,
@@ -73,7 +73,7 @@ pub fn new_person<A: Allocator + Copy>(
     })
 }
 
-/// Names a person, who may come into sight, and tells the account, if one is known. What else is
+/// Names a person, who may come into sight, and gives the account, if one is known. What else is
 /// known of the person stays. The person is first looked for in the cell `near`, if that is known.
 /// Answers the number of the person's cell.
 #[tactic(auto, using(crate::proofs::SwapLemmas::swaps))]
@@ -107,7 +107,7 @@ pub fn name_person<A: Allocator + Copy>(
     }
 }
 
-/// Changes a person's account, where the person is in sight.
+/// Changes a person's account, if the person is in sight.
 #[tactic(auto, using(crate::proofs::SwapLemmas::swaps))]
 pub fn set_account<A: Allocator + Copy>(
     alloc: A,
@@ -127,7 +127,7 @@ pub fn set_account<A: Allocator + Copy>(
     }
 }
 
-/// Changes a person's away text, where the person is in sight.
+/// Changes a person's away text, if the person is in sight.
 #[tactic(auto, using(crate::proofs::SwapLemmas::swaps))]
 pub fn set_away<A: Allocator + Copy>(
     alloc: A,
@@ -147,7 +147,7 @@ pub fn set_away<A: Allocator + Copy>(
     }
 }
 
-/// Gives a person another key, of which there are two copies, and another nick. Whoever stood under
+/// Gives a person another key, of which there are two copies, and another nick. Whoever had
 /// that key is gone.
 #[tactic(auto, using(crate::proofs::SwapLemmas::renames))]
 pub fn rename_person<A: Allocator>(

@@ -58,7 +58,7 @@ pub type Rooms<A> = Table<Room<A>, A>;
 /// For each of the channels, in the order of their keys, a copy of a member's key or none.
 pub type Copies<A> = VecDeque<Option<Vec<u8, A>>, A>;
 
-/// A channel without a name, a mode or a member, which stands for one that is being changed.
+/// A channel without a name, a mode or a member, in place of one that is being changed.
 pub fn no_room<A: Allocator + Copy>(alloc: A) -> Room<A>
     ensures name { result.name.items ≡ [] }
     ensures topic { result.topic ≡ None }
@@ -87,7 +87,7 @@ pub fn new_member<A: Allocator + Copy>(
     new_entry(alloc, key, ranks)
 }
 
-/// A channel of this name, of which somebody is the one member, as it is to be kept.
+/// A channel of this name with somebody as the one member, as it is to be kept.
 pub fn fresh_room<A: Allocator + Copy>(
     alloc: A,
     mapping: CaseMapping,
@@ -113,7 +113,7 @@ pub fn fresh_room<A: Allocator + Copy>(
     new_entry(alloc, key, value)
 }
 
-/// Changes a channel's topic, where we are on it.
+/// Changes a channel's topic, if we are on it.
 #[tactic(auto, using(crate::proofs::SwapLemmas::swaps))]
 pub fn set_topic<A: Allocator + Copy>(
     alloc: A,
@@ -133,7 +133,7 @@ pub fn set_topic<A: Allocator + Copy>(
     }
 }
 
-/// Changes a channel's modes, where we are on it.
+/// Changes a channel's modes, if we are on it.
 #[tactic(auto, using(crate::proofs::SwapLemmas::swaps))]
 pub fn set_modes<A: Allocator + Copy>(
     alloc: A,
@@ -167,7 +167,7 @@ fn add_member<A: Allocator + Copy>(
     Ok(())
 }
 
-/// Makes somebody a member of a channel, near the place where it stood last, where we are on it.
+/// Makes somebody a member of a channel, near the place where it was last, if we are on it.
 #[tactic(auto, using(crate::proofs::SwapLemmas::swaps))]
 pub fn seat<A: Allocator + Copy>(
     alloc: A,
@@ -227,8 +227,8 @@ fn unseat_each<A: Allocator>(rooms: &mut Blocks<Slot<Room<A>, A>, A>, who: Sough
     }
 }
 
-/// Gives a member another key, of which this is a copy where there is the member. Whoever stood
-/// under that key is gone, where it may be taken.
+/// Gives a member another key, of which this is a copy if there is the member. Whoever had
+/// that key is gone, if it may be taken.
 fn rename_member<A: Allocator>(
     members: &mut Members<A>,
     head: u64,
@@ -350,8 +350,8 @@ impl<A: Allocator> Table<Room<A>, A> {
         copies_in(alloc, &self.entries, who, key, copies)
     }
 
-    /// Gives a member another key in all channels, by the copies of it that are for them. Where the
-    /// other key may be taken, whoever stood under it is gone.
+    /// Gives a member another key in all channels, by the copies of it that are for them. If the
+    /// other key may be taken, whoever had it is gone.
     pub fn rename_all(&mut self, old: Sought<'_>, taken: bool, new: &[u8], copies: &mut Copies<A>)
         requires { map (option_map (λ k. k.items)) copies.old.items
             ≡ copies_of new.now (sought_key old) (fin.entries (rooms_of self.old.all)) }

@@ -15,7 +15,7 @@ pub struct Entry<V, A: Allocator> {
     pub near: usize,
 }
 
-/// A value under its key, of which nothing is known elsewhere.
+/// A value under its key; nothing about it is known elsewhere.
 pub(crate) fn new_entry<V: Drop, A: Allocator + Copy>(
     alloc: A,
     key: Vec<u8, A>,

@@ -18,7 +18,7 @@ pub enum Sought<'a> {
     Name(CaseMapping, &'a [u8]),
 }
 
-/// How a key stands to what is looked for.
+/// How a key compares to what is looked for.
 #[tactic(auto, using(crate::proofs::HeadLemmas::turned))]
 pub(crate) fn order(key: &[u8], sought: Sought<'_>) -> Ordering
     ensures { result ≡ bytes_cmp key.now (sought_key sought.entry) }
@@ -29,8 +29,8 @@ pub(crate) fn order(key: &[u8], sought: Sought<'_>) -> Ordering
     }
 }
 
-/// How a key stands to what is looked for, where their heads are one: what follows the first
-/// eight bytes tells, where there is so much of both.
+/// How a key compares to what is looked for, if their heads are equal: what follows the first
+/// eight bytes decides, if both are that long.
 pub(crate) fn order_behind(key: &[u8], sought: Sought<'_>) -> Ordering
     ensures { AreBytesTo 8 key.now → AreBytesTo 8 (sought_key sought.entry) →
         head_of key.now ≡ head_of (sought_key sought.entry) →
@@ -73,8 +73,8 @@ fn name_byte_at(mapping: CaseMapping, name: &[u8], place: usize) -> u8
     }
 }
 
-/// The head of a key: its first eight bytes as one number, so that keys stand as their heads do
-/// where these differ.
+/// The head of a key: its first eight bytes as one number, so that keys are ordered as their
+/// heads are if these differ.
 pub(crate) fn key_head(key: &[u8]) -> u64
     ensures head { result ≡ head_of key.now }
     ensures bytes { AreBytesTo 8 key.now }
@@ -91,8 +91,8 @@ pub(crate) fn key_head(key: &[u8]) -> u64
     ])
 }
 
-/// The head of a name's key: the key's first eight bytes as one number, so that keys stand as their
-/// heads do where these differ.
+/// The head of a name's key: the key's first eight bytes as one number, so that keys are ordered
+/// as their heads are if these differ.
 pub fn name_head(mapping: CaseMapping, name: &[u8]) -> u64
     ensures head { result ≡ head_of (key_of mapping name.now) }
     ensures bytes { AreBytesTo 8 (key_of mapping name.now) }
@@ -109,7 +109,7 @@ pub fn name_head(mapping: CaseMapping, name: &[u8]) -> u64
     ])
 }
 
-/// The head of the key under which it stands that is looked for.
+/// The head of the key of what is looked for.
 pub(crate) fn head(sought: Sought<'_>) -> u64
     ensures head { result ≡ head_of (sought_key sought.entry) }
     ensures bytes { AreBytesTo 8 (sought_key sought.entry) }

@@ -24,7 +24,7 @@ use std::mem;
 /// How many entries a table has at least that has marks.
 const FEWEST_MARKED: usize = 64;
 
-/// How many entries come at least before its marks are made anew, so that those of entries that
+/// How many entries come at least before its marks are made again, so that those of entries that
 /// went are taken down.
 const FEWEST_NEW: usize = 256;
 
@@ -50,7 +50,7 @@ impl<V, A: Allocator> Model for Table<V, A> {
     ghost invariant = { λ t. IsTabled t.entries t.marks.items };
 }
 
-/// How an entry stands to what is looked for, whose head is this.
+/// How an entry compares to what is looked for, whose head is this.
 #[tactic(auto, using(crate::proofs::HeadLemmas::by_heads, crate::proofs::HeadLemmas::level))]
 fn order_by_head<V, A: Allocator>(slot: &Slot<V, A>, head: u64, sought: Sought<'_>) -> Ordering
     ensures { head ≡ head_of (sought_key sought.entry) → AreBytesTo 8 (sought_key sought.entry) →
@@ -62,7 +62,7 @@ fn order_by_head<V, A: Allocator>(slot: &Slot<V, A>, head: u64, sought: Sought<'
     }
 }
 
-/// Where the entry that is looked for stands, or would stand, by its head.
+/// Where the entry that is looked for is, or would be, by its head.
 fn place_of<V, A: Allocator>(
     slots: &Blocks<Slot<V, A>, A>,
     head: u64,
@@ -84,8 +84,8 @@ fn place_of<V, A: Allocator>(
     )
 }
 
-/// Where the entry that is looked for stands, or would stand. It is first looked for at the place
-/// near which it stood last, if there is one; that place is then where it was found.
+/// Where the entry that is looked for is, or would be. It is first looked for at the place
+/// near which it was last, if there is one; that place is then where it was found.
 fn place_near<V, A: Allocator>(
     slots: &Blocks<Slot<V, A>, A>,
     near: &mut Option<usize>,
@@ -194,7 +194,7 @@ impl<V, A: Allocator> Table<V, A> {
         }
     }
 
-    /// The same, near the place where it stood last.
+    /// The same, near the place where it was last.
     pub fn get_near(&self, near: &mut Option<usize>, sought: Sought<'_>) -> Option<&V>
         ensures { option_map (λ value. value.now) result ≡ fin.get self.now.all (sought_key
             sought.entry) }
@@ -214,7 +214,7 @@ impl<V, A: Allocator> Table<V, A> {
         is_up(&self.marks, head) && self.get_by(head, sought).is_some()
     }
 
-    /// Whether it has grown enough to have marks, or so much has come that they tell little.
+    /// Whether it has grown enough to have marks, or so much has come that they say little.
     fn needs_marks(&self) -> bool {
         let len = self.entries.len();
         if self.marks.is_empty() {
@@ -224,14 +224,14 @@ impl<V, A: Allocator> Table<V, A> {
         }
     }
 
-    /// The same, near the place where it stood last.
+    /// The same, near the place where it was last.
     pub fn contains_near(&self, near: &mut Option<usize>, sought: Sought<'_>) -> bool
         ensures { result ≡ fin.contains_key self.now.all (sought_key sought.entry) }
     {
         self.get_near(near, sought).is_some()
     }
 
-    /// Where to look first for what belongs to the entry at a place; nothing else is said of it.
+    /// Where to look first for what belongs to the entry at a place; nothing else is said about it.
     pub fn near_at(&self, place: usize) -> Option<usize> {
         if place < self.entries.len() {
             Some(self.entries.at(place).entry.near)
@@ -281,7 +281,7 @@ impl<V: Drop, A: Allocator> Table<V, A> {
         self.insert_near(&mut near, entry);
     }
 
-    /// The same, near the place where the one of the same key stood last.
+    /// The same, near the place where the one of the same key was last.
     pub fn insert_near(&mut self, near: &mut Option<usize>, entry: Box<Entry<V, A>, A>)
         requires { 0 < self.old.spare }
         ensures all { self.new.all
@@ -299,7 +299,7 @@ impl<V: Drop, A: Allocator> Table<V, A> {
         }
     }
 
-    /// Changes the value that is looked for, near the place where it stood last, and this one, each
+    /// Changes the value that is looked for, near the place where it was last, and this one, each
     /// into the other's place; whether there is one.
     pub fn swap(&mut self, near: &mut Option<usize>, sought: Sought<'_>, value: &mut V) -> bool
         ensures found { result ≡ fin.contains_key self.old.all (sought_key sought.entry) }
@@ -346,7 +346,7 @@ impl<V: Drop, A: Allocator> Table<V, A> {
         }
     }
 
-    /// Takes out the entry of a key, where there is one.
+    /// Takes out the entry of a key, if there is one.
     pub fn forget(&mut self, key: &[u8])
         ensures { self.new.all ≡ fin.remove self.old.all key.now }
     {

@@ -6,7 +6,7 @@ ghost use Rattle.std.specs.Option.{option_map};
 use crate::OutOfMemory;
 use std::alloc::Allocator;
 
-/// The bytes of a text, where there is one.
+/// The bytes of a text, if there is one.
 pub fn bytes<A: Allocator>(text: &Option<Vec<u8, A>>) -> Option<&[u8]>
     ensures { option_map (λ t. t.now) result ≡ option_map (λ t. t.items) text.now }
 {
@@ -17,7 +17,7 @@ pub fn bytes<A: Allocator>(text: &Option<Vec<u8, A>>) -> Option<&[u8]>
     }
 }
 
-/// A copy of a text, where there is one.
+/// A copy of a text, if there is one.
 pub fn copy_of<A: Allocator>(
     alloc: A,
     text: Option<&[u8]>,

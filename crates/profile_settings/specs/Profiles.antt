@@ -6,12 +6,13 @@ use Rattle.history.specs.Keeping.{Kept}
 use Rattle.welcome.specs.Offset.{offset_apart}
 use Rattle.welcome.specs.declared.playing.Playing.{Playing}
 
--- which messages are kept
+-- which messages are kept, and in whose rings
 abbrev pub kept_of : MessagesSettings → Kept
 kept_of messages = record {
   ctcp = messages.ctcp;
   server_notices = messages.server_notices;
   to_self = messages.to_self;
+  by_person = messages.by_person;
   never = messages.never;
 }
 

@@ -21,7 +21,7 @@ fn copies_of(alloc: Global, names: &[Text]) -> Result<Vec<Vec<u8>>, AllocError>
     Ok(copies)
 }
 
-/// Which messages are kept.
+/// Which messages are kept, and in whose rings.
 pub fn keeping_of(alloc: Global, messages: &MessagesConfig) -> Result<Keeping, AllocError>
     ensures { IfOk result (λ keeping. kept_by keeping ≡ kept_of messages.now) }
 {
@@ -29,6 +29,7 @@ pub fn keeping_of(alloc: Global, messages: &MessagesConfig) -> Result<Keeping, A
         ctcp: messages.ctcp(),
         server_notices: messages.server_notices(),
         to_self: messages.to_self(),
+        by_person: messages.by_person(),
         never: copies_of(alloc, messages.never())?,
     })
 }

@@ -1,4 +1,4 @@
--- Whom the words of a line name.
+-- The client that the words of a line name.
 use Rattle.std.proofs.Common.{Bool, IfNone, IfSome, List, None, Option, Some, [], ap, arith, codes, drop}
 use Rattle.std.proofs.Common.{false, length, refl, subst, sym, true, ℕ, ◌-◌, ◌==◌, ◌∙◌, ◌∷◌, ◌≡◌, ◌≤◌}
 use Rattle.std.specs.{List.list_any, Net.Addr.is_ipv4}
@@ -8,7 +8,7 @@ use Rattle.proxy_line.specs.ProxyLine.{text_of, word_of}
 use Rattle.proxy_line.specs.declared.line.Origin.{Origin}
 use Rattle.proxy_line.specs.declared.line.Origin.TheVariants.{Address, Unknown}
 
--- the first two words of a text, and what stands behind them
+-- the first two words of a text, and what comes after them
 pub record IsCut (text proxy rest family ends : List ℕ) : Type 0 where
   pub proxy_is : proxy ≡ word_of text
   pub rest_is : rest ≡ behind text

@@ -4,7 +4,7 @@ use Rattle.std.specs.Char.{is_ascii_digit}
 use Rattle.std.specs.List.{list_all}
 use Rattle.std.specs.Str.Parse.{digits_value}
 
--- something stands there, and no zero in front of other bytes
+-- there is something, and no zero in front of other bytes
 abbrev pub begins_well : List ℕ → Bool
 begins_well [] = false
 begins_well (b ∷ []) = true

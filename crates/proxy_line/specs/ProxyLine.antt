@@ -1,4 +1,4 @@
--- A PROXY line, version 1, and whom it names (The PROXY protocol, section 2.1).
+-- A PROXY line, version 1, and the client that it names (The PROXY protocol, section 2.1).
 use Rattle.std.specs.Prelude.{◌≡◌, ℕ, ◌-◌, ◌≤◌, ◌==◌, Bool, true, false, List, [], ◌∷◌}
 use Rattle.std.specs.Prelude.{Option, Some, None, codes, drop, length, take}
 use Rattle.std.specs.List.{after_first, before_first, list_any}
@@ -16,8 +16,8 @@ use Rattle.proxy_line.specs.declared.reading.ProxyFault.TheVariants.{TooLong}
 abbrev pub is_space : ℕ → Bool
 is_space b = b == 32
 
--- what stands before the first space of a text, or all of it where there is none; and what stands
--- behind that space
+-- the text before the first space, or all of the text if there is none; and the text after that
+-- space
 abbrev pub word_of : List ℕ → List ℕ
 word_of text = before_first is_space text
 
@@ -38,7 +38,7 @@ abbrev pub family_name : Bool → List ℕ
 family_name true = codes "TCP4"
 family_name false = codes "TCP6"
 
--- a text without CR LF names this client; where it is unknown, what stands behind that does not
+-- a text without CR LF names this client; if it is unknown, the text after that does not
 -- count
 abbrev pub NamesClient : List ℕ → Origin → Type 0
 NamesClient text (Address address) =
@@ -64,7 +64,7 @@ abbrev pub bytes_in : Option ℕ → List ℕ
 bytes_in None = []
 bytes_in (Some b) = b ∷ []
 
--- why no client was named, where these bytes were read
+-- why no client was named, if these bytes were read
 abbrev pub IsCauseOf : List ℕ → ProxyFault → Type 0
 IsCauseOf bytes Silent = bytes ≡ []
 IsCauseOf bytes Cut = list_any (λ b. b == 10) bytes ≡ false

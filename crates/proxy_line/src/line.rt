@@ -1,4 +1,4 @@
-//! A line of a proxy, and whom it names.
+//! A line of a proxy, and the client that it names.
 
 ghost use Rattle.std.specs.Prelude.{◌≡◌, ◌↔◌, ◌==◌, Bool, IfNone, IfSome, IsTrue, false, true};
 ghost use Rattle.std.specs.List.{list_any};
@@ -25,7 +25,7 @@ pub enum Origin {
     Unknown,
 }
 
-/// What stands before the first space, or all if there is none; and what follows that space.
+/// The text before the first space, or all if there is none; and the text after that space.
 fn split_word(text: &[u8]) -> (&[u8], &[u8])
     ensures word { result.0.now ≡ word_of text.now }
     ensures behind { result.1.now ≡ behind text.now }
@@ -110,7 +110,7 @@ fn family_of(word: &[u8]) -> Option<bool>
     None
 }
 
-/// Whom a line names, without its CR LF.
+/// The client that a line names, without its CR LF.
 fn named_in(text: &[u8]) -> Option<Origin>
     ensures some { IfSome result (NamesClient text.now) }
     ensures none { IfNone result ((client : Named) → NamesClient text.now client → ⊥) }
@@ -128,8 +128,8 @@ fn named_in(text: &[u8]) -> Option<Origin>
     Some(Origin::Address(address))
 }
 
-/// Whom a line names; `None` if it is no line of the PROXY protocol, version 1: at most 107 bytes
-/// with CR LF at its end, as
+/// The client that a line names; `None` if it is no line of the PROXY protocol, version 1: at most
+/// 107 bytes with CR LF at its end, as
 ///
 /// ```text
 /// PROXY TCP4 192.0.2.7 198.51.100.1 40004 6668

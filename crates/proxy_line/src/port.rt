@@ -12,7 +12,7 @@ fn are_digits(text: &[u8]) -> bool
     text.iter().all(|byte| byte.is_ascii_digit())
 }
 
-/// Whether something stands there, without a zero in front of other bytes.
+/// Whether there is something, without a zero in front of other bytes.
 fn begins_well(text: &[u8]) -> bool
     ensures { result ≡ begins_well text.now }
 {

@@ -45,7 +45,7 @@ fn cause_of_end(line: &[u8]) -> ProxyFault
     }
 }
 
-/// Whom a whole line names.
+/// The client that a whole line names.
 fn named_by(line: &[u8]) -> Result<Origin, ProxyFault>
     ensures ok { IfOk result (IsProxyLine line.now) }
     ensures err { IfErr result (IsCauseOf line.now) }
@@ -56,8 +56,8 @@ fn named_by(line: &[u8]) -> Result<Origin, ProxyFault>
     }
 }
 
-/// Whom the line at the front of an input names. It is read byte by byte: what follows its LF
-/// is left.
+/// The client that the line at the front of an input names. It is read byte by byte: what follows
+/// its LF is left.
 pub fn read_origin<R: Read>(alloc: Global, input: &mut R) -> Result<Origin, ProxyFault>
     ensures ok { IfOk result (λ client. (line : List ℕ)
         × Consumes (R.remaining input.old) (R.remaining input.new) line

@@ -38,7 +38,7 @@ pub ruleset letter_maps = (letter_put, letter_out, mode_put)
 
 -- ---- ranks
 
--- what a change tells of a rank
+-- what a change says about a rank
 pub change_said : (s : List Token) (x : ChangeParts) (rank : ℕ) (nick : Text) (m : CaseMapping)
     → Some rank ≡ rank_of_letter s x.letter → Some nick ≡ x.param → true ≡ is_nameable nick
     → m ≡ mapping_of s

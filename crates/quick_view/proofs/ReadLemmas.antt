@@ -9,7 +9,7 @@ use Rattle.network_tables.specs.{Rooms.{channel_of, rooms_of}, declared.room.Roo
 use Rattle.quick_view.specs.{FromLines.ComesFromLines, Kept.view_kept, declared.state.State.State}
 use Rattle.std.{proofs.lemmas.List.length-map, specs.Cmp.Lexicographic.nat_list_cmp_total}
 
--- for an attribute `using`: what stands at a place, and what is known by a key
+-- for an attribute `using`: what is at a place, and what is known by a key
 pub ruleset places = (entries-shown, length-map, slice_get-map, get_shown)
 
 -- a member is in sight

@@ -21,7 +21,7 @@ pub view_none : {A : Type 0} (o : Option (Vec ℕ A))
     → is_some (option_map (λ t. t.items) o) ≡ is_some o
 view_none o = grind arith
 
--- we are a member where we are on a channel
+-- we are a member if we are on a channel
 pub own_there : (v : View) → IsSound v → (c n : Text) (ch : Channel)
     → fin.get v.channels c ≡ Some ch → is_us (standing_of v) n ≡ true
     → is_some (fin.get ch.members n) ≡ true
@@ -50,7 +50,7 @@ pub names_set : (s : List Token) (line : Parts)
 names_set s line =
     each_listed (λ (l : Listing). IsSet l.ranks) s (λ text. grind (arith, set_of)) line
 
--- ---- what tells nothing
+-- ---- what says nothing
 
 pub after_silent : (v : View) → HasSets v → IsKnowing v → after_told v Silent ≡ v
 after_silent v sets known = search (arith, all_channels_stay, all_persons_stay)

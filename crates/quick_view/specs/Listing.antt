@@ -43,7 +43,7 @@ people_listed m (l ∷ ls) =
     l.person.key)))
     ls
 
--- the view after a list of a channel's members, where we are on the channel
+-- the view after a list of a channel's members, if we are on the channel
 abbrev pub listed_view : View → Text → List told.Listing → View
 listed_view v c ls =
     option_map_or (λ (ch : Channel). record {

@@ -25,7 +25,7 @@ modes_in settings line = filter_map (mode_change settings) (changes_in settings 
 abbrev pub letters_in : List Token → Parts → List LetterChange
 letters_in settings line = filter_map (letter_change settings) (changes_in settings line)
 
--- a member's ranks after a change, where it is one of a rank
+-- a member's ranks after a change, if it is one of a rank
 abbrev pub rank_after : Option LetterChange → Text → List ℕ → List ℕ
 rank_after None n ranks = ranks
 rank_after (Some l) n ranks =

@@ -22,10 +22,10 @@ use net_view::is_word;
 use network_tables::{Members, Modes, Room, Sought, copy_of};
 use std::alloc::Allocator;
 
-/// A mode: `None` where it is off, else on, with its parameter, where it has one.
+/// A mode: `None` if it is off, else on, with its parameter, if it has one.
 type Setting<'a> = Option<Option<&'a [u8]>>;
 
-/// What a change of a letter of this kind sets; `None` where that is not kept.
+/// What a change of a letter of this kind sets; `None` if that is not kept.
 fn setting_by<'a>(kind: Kind, plus: bool, param: Option<&'a [u8]>) -> Option<Setting<'a>>
     ensures { option_map (option_map (option_map (λ text. text.now))) result
         ≡ setting_by kind plus (option_map (λ text. text.now) param.entry) }

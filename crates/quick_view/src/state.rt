@@ -22,7 +22,7 @@ pub(crate) struct State<A: Allocator> {
     pub(crate) support: Support<A>,
     pub(crate) rooms: Rooms<A>,
     pub(crate) people: People<A>,
-    /// Where the copies stand that a NICK makes before it changes anything.
+    /// The copies that a NICK makes before it changes anything.
     pub(crate) copies: Copies<A>,
 }
 
@@ -72,7 +72,7 @@ impl<A: Allocator + Copy> State<A> {
         }
     }
 
-    /// `001`: all starts anew.
+    /// `001`: all starts again.
     #[tactic(auto, using(crate::proofs::ViewLemmas::tables))]
     pub(crate) fn welcome(&mut self, nick: &[u8]) -> Result<(), OutOfMemory>
         ensures welcomed { OnOk result (view_kept self.new ≡ welcomed_view nick.now) }
@@ -208,8 +208,8 @@ impl<A: Allocator + Copy> State<A> {
         let _ = self.people.remove(who);
     }
 
-    /// Our own PART of a channel, or that we were kicked off it. Where we are not on it nothing
-    /// changes, so long as who is in sight is a member of some channel.
+    /// Our own PART of a channel, or that we were kicked off it. If we are not on it nothing
+    /// changes, so long as everybody in sight is a member of some channel.
     #[tactic(auto, using(crate::proofs::ViewLemmas::tables, crate::proofs::ViewLemmas::left_stays))]
     pub(crate) fn leave(&mut self, channel: &[u8])
         ensures { IsKnowing (view_kept self.old) → view_kept self.new
@@ -253,7 +253,7 @@ impl<A: Allocator + Copy> State<A> {
         Ok(())
     }
 
-    /// A NICK that counts, ours or another's. Who is not in sight is a member of no channel.
+    /// A NICK that counts, ours or another's. Somebody not in sight is a member of no channel.
     #[tactic(auto, using(crate::proofs::ViewLemmas::tables, network_tables::proofs::SwapLemmas::freely_moved))]
     pub(crate) fn rename(&mut self, ours: bool, old: &[u8], new: &[u8]) -> Result<(), OutOfMemory>
         ensures taken { OnOk result (IsKnowing (view_kept self.old) → view_kept self.new

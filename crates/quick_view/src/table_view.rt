@@ -1,4 +1,4 @@
-//! A view that keeps what the lines tell.
+//! A view that keeps what the lines say.
 
 ghost use Rattle.std.specs.Prelude.{IfOk};
 
@@ -14,9 +14,9 @@ use std::marker::Model;
 /// A view by tables in the order of keys: persons by the keys of their nicks, channels by those of
 /// their names, and in each channel the members. It keeps no line.
 ///
-/// A reader by place takes one step. A line takes a few binary searches, and a move of what stands
+/// A reader by place takes one step. A line takes a few binary searches, and a move of what comes
 /// after the place where a table changes; QUIT, NICK and a member's leaving do so in each channel.
-/// Only `take` of a line that tells something to keep may need memory: a loss, PART, KICK and QUIT
+/// Only `take` of a line that says something to keep may need memory: a loss, PART, KICK and QUIT
 /// never do.
 pub struct TableView<A: Allocator = Global> {
     state: State<A>,

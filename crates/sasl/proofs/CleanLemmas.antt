@@ -1,4 +1,4 @@
--- A text in base64 can stand in a line.
+-- A text in base64 can be in a line.
 use Rattle.base64.proofs.Tables.{are_tables_alphabet, is_alphabet_printable}
 use Rattle.base64.specs.{Engines.standard, GeneralPurpose.{IsBytes, encode_of}}
 use Rattle.base64.specs.{Rfc4648.{encode_symbols, padding_len}, Tables.is_printable}

@@ -35,11 +35,11 @@ is_acknowledged lines = list_any (λ line. is_acknowledgement (said line)) lines
 abbrev pub is_logged_in : List Parts → Bool
 is_logged_in lines = list_any (λ line. is_success (said line)) lines
 
--- the line, behind these, asks for the response, and the network has acknowledged `sasl` before
+-- the line, after these, asks for the response, and the network has acknowledged `sasl` before
 abbrev pub asks_behind : List Parts → Parts → Bool
 asks_behind before line = is_acknowledged before && is_request (said line)
 
--- one of the lines, behind those before it, asked for the response
+-- one of the lines, after those before it, asked for the response
 abbrev pub asked_behind : List Parts → List Parts → Bool
 asked_behind before [] = false
 asked_behind before (line ∷ lines) =
@@ -75,7 +75,7 @@ answer_by account before line says.LoggedIn = sends (cap_end ∷ [])
 answer_by account before line says.Failed = fails
 answer_by account before line says.Other = nothing
 
--- the answer to a line behind these
+-- the answer to a line after these
 abbrev pub answer_to : Account → List Parts → Parts → Answer
 answer_to account before line = answer_by account before line (said line)
 

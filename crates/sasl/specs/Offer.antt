@@ -6,7 +6,7 @@ use Rattle.std.specs.Option.{option_map_or}
 use Rattle.std.specs.Str.{bytes_eq}
 use Rattle.sasl.specs.Said.{has_item}
 
--- where the value of a word begins is its first `=`
+-- the value of a word begins at its first `=`
 abbrev pub value_mark : List ℕ → Option ℕ
 value_mark word = position (λ b. b == 61) word
 

@@ -15,7 +15,7 @@ abbrev pub mechanism_of : Account → List ℕ
 mechanism_of None = codes "EXTERNAL"
 mechanism_of (Some login) = codes "PLAIN"
 
--- PLAIN's message: NUL, the account, NUL, its password. Nothing stands before the first NUL, so we
+-- PLAIN's message: NUL, the account, NUL, its password. Nothing comes before the first NUL, so we
 -- act as that account and as no other.
 abbrev pub message_of : List ℕ → List ℕ → List ℕ
 message_of user password = 0 ∷ (user ++ 0 ∷ password)
@@ -44,6 +44,6 @@ abbrev pub pieces_to : List ℕ → ℕ → List Parts
 pieces_to text zero = []
 pieces_to text (suc n) = pieces_to text n ++ piece_line (piece_at text n) ∷ []
 
--- a text in pieces, of which the last is shorter than 400 bytes, and so may be empty
+-- a text in pieces; the last is shorter than 400 bytes, and so may be empty
 abbrev pub response_lines : List ℕ → List Parts
 response_lines text = pieces_to text (length text / 400 + 1)

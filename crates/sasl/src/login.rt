@@ -154,7 +154,7 @@ impl Login {
         Ok(LoginStep::Send(lines))
     }
 
-    /// Takes a line of the network, and tells what follows from it. The response, which has the
+    /// Takes a line of the network, and says what follows from it. The response, which has the
     /// password, is sent once, for the first `AUTHENTICATE +` after the network has acknowledged
     /// `sasl`. After a refused allocation the login is as it was.
     pub fn line(&mut self, line: &Line) -> Result<LoginStep, OutOfMemory>

@@ -73,7 +73,7 @@ fn front(text: &[u8]) -> &[u8]
     }
 }
 
-/// A text in pieces of at most 400 bytes, of which the last is shorter.
+/// A text in pieces of at most 400 bytes; the last is shorter.
 pub(crate) fn response_lines(alloc: Global, text: &[u8]) -> Result<Vec<Line>, OutOfMemory>
     requires { IsTrue (is_clean text.now) }
     ensures { IfOk result (λ lines. lines.items ≡ response_lines text.now) }

@@ -51,7 +51,7 @@ module _ {A : Type 0} {tape older : Heard} {said : Said A} (line : IsLast tape s
         ≡ unwrap_or answer (unwrap_or (last (says older.settings) older.readings) none)
     asked none answer read = grind arith
 
-    -- where the line says nothing of a matter that our own JOIN begins anew
+    -- if the line says nothing of a matter that our own JOIN begins anew
     pub unsaid : (none : X) (c : Text) {whole : X}
         → ((us : Text → Bool) (t : Told) → says tape.settings us t ≡ None
         → begins us t (key tape c) ≡ None) → IsRead said (meaning said) None (says said.support.now)
@@ -75,12 +75,12 @@ module _ {A : Type 0} {tape older : Heard} {said : Said A} (line : IsLast tape s
         name) none)
     asked_of answer name read named = grind arith
 
-    -- where the line answers
+    -- if the line answers
     pub asked_here : (answer : X) → IsRead said (meaning said) (Some answer) of_nick
         → unwrap_or (last_of (says tape.settings) tape.readings (key tape nick)) none ≡ answer
     asked_here answer read = grind arith
 
-    -- where it says nothing of a matter that our own JOIN begins anew
+    -- if it says nothing of a matter that our own JOIN begins anew
     pub unsaid_of : (c : Text) {whole : X} (name : Bor Text)
         → ((us : Text → Bool) (t : Told) → says tape.settings us t (key tape nick) ≡ None
         → begins us t (key tape c) ≡ None)

@@ -41,12 +41,12 @@ rank_set s n rank change = option_and_then (rank_in_change n rank) (letter_chang
 abbrev pub listed_count : List Token → List Word → ℕ
 listed_count s ws = length (filter_map (listing s) ws)
 
--- the word, where it names the person of this key
+-- the word, if it names the person of this key
 abbrev pub word_said : List Token → Text → Word → Option Word
 word_said s n word = cond (names_person s n word) (Some word) None
 
 module _ (s : List Token) (n : Text) where
-  -- what a listing says, where it is this person's, is read off the word
+  -- what a listing says, if it is this person's, is read off the word
   pub found_in_words : {X : Type 0} (says : Listing → Option X) (f : Word → X) →
       ((word : Word)
       → says (record { person = name_of s word.nick; ranks = word.ranks })

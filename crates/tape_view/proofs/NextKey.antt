@@ -6,14 +6,14 @@ use Rattle.std.specs.FinMap as fin
 use Rattle.std.specs.{Option.IfSome, Option.MatchOption, Ordering.is_lt}
 use Rattle.net_view.specs.Least.{above_by, better_by}
 
--- what IsNextBy says, where the least is sought only among the keys that were seen
+-- what IsNextBy says, if the least is sought only among the keys that were seen
 pub record IsNextOf {K : Type 0} (R : K → K → Ordering) (there seen : K → Bool)
     (after best : Option K) : Type 0 where
   pub found : IfSome best (λ b. (there b ≡ true) × (above_by R after b ≡ true))
   pub least : (c : K) → seen c ≡ true → there c ≡ true → above_by R after c ≡ true
       → MatchOption best ⊥ (λ b. is_lt (R c b) ≡ false)
 
--- and where those of a tape were seen that are not among those of what is left of it
+-- and if those of a tape were seen that are not among those of what is left of it
 pub record IsNextSoFar {K : Type 0} (R : K → K → Ordering) (has : Heard → K → Bool)
     (tape left : Heard) (after best : Option K) : Type 0 where
   pub same_settings : left.settings ≡ tape.settings

@@ -26,7 +26,7 @@ pub letter_places : (tape : Heard) (channel : Text)
 letter_places tape channel =
     places nat_cmp_total fin.nat_cmp-IsAntisymmetric _ _ (λ letter. simp modes_get)
 
--- ---- there are at most as many as names are brought up
+-- ---- there are no more than the names that are brought up
 
 put_len : {X : Type 0} (m : fin.FinMap bytes_cmp X) (k : Text) (o : Option X) (n : ℕ)
     → fin.len m ≤ n → fin.len (put_some m k o) ≤ suc n
@@ -49,7 +49,7 @@ made_member : (x : Reading) (older : List Reading) (c n : Text) → is_member (x
     → is_member older c n ≡ false → list_any (same n) (people_in x.told) ≡ true
 made_member x older c n here gone = grind (arith, stays_member, says_member_none, name_stays)
 
--- where we are on no channel, no table has anything
+-- if we are on no channel, no table has anything
 pub gone : (tape : Heard) (table : Table) → ((c : Text) → is_on tape.readings c ≡ false)
     → (c : Text) → is_there tape table c ≡ false
 gone tape table off c = grind arith
@@ -88,7 +88,7 @@ module _ {A : Type 0} {tape older : Heard} {said : Said A} (line : IsLast tape s
       → (letter : ℕ) → is_set tape.readings (key tape c) letter ≡ false
   begun_off answer read some letter = grind arith
 
-  -- and where it does not speak of it, we were on it before
+  -- and if it does not speak of it, we were on it before
   pub unsaid_on : (answer : Option (Option Text))
       → IsRead said (meaning said) answer (says_on (key_there said c))
       → is_some answer ≡ false → is_on older.readings (key older c) ≡ true

@@ -1,4 +1,4 @@
--- What a view shows at a place, by the key that stands there on the tape.
+-- What a view shows at a place, by the key that is there on the tape.
 use Rattle.std.specs.FinMap as fin
 use Rattle.net_view.proofs.{Channels.{channels_get, members_get, modes_get}, Holds.mapped}
 use Rattle.net_view.proofs.{KeyPlaces.entry_at, Keys.bytes_exact, People.account_field}
@@ -17,7 +17,7 @@ abbrev pub member_key : List Reading → Text → ℕ → Option Text
 member_key rs k j =
     option_map (λ (x : Text × List ℕ). x.0) (slice_get (fin.entries (members_of rs k)) j)
 
--- what stands at the place of a key
+-- what is at the place of a key
 found : {K X : Type 0} {R : K → K → Ordering} (o : IsTotalOrder R) (exact : fin.IsAntisymmetric R)
     (m : fin.FinMap R X) (j : ℕ) (k : K)
     → Some k ≡ option_map (λ (e : K × X). e.0) (slice_get (fin.entries m) j)
@@ -33,7 +33,7 @@ shown_on tape i k here =
     let at = found nat_list_cmp_total bytes_exact (channels_of tape.readings) i k here in
     grind (arith, at.2, channels_get)
 
--- the channel whose key stands at a place
+-- the channel whose key is at a place
 module _ (items : List Arrival) {tape : Heard} (i : ℕ) {k : Text} (is : tape ≡ heard items)
     (here : Some k ≡ key_at tape Channels i) where
   pub shown : (name : Text) × (name_on tape.readings k ≡ Some name)

@@ -21,7 +21,7 @@ pub sees : (items : List Reading) (c n : Text) → is_member items c n ≡ true
 sees items c n m = grind (arith, met_at, in_named)
 
 module _ (x : Reading) (older : List Reading) where
-  -- a member whom an item neither makes one nor names anew was one before it
+  -- a member that an item neither makes one nor names anew was one before it
   pub stays_member : (c n : Text) → (unwrap_or (says_member c (ours x) x.told n) false ≡ true → ⊥)
       → ((m : Text) → name_before (ours x) x.told n ≡ Some m → m ≡ n)
       → is_member (x ∷ older) c n ≡ true → is_member older c n ≡ true
@@ -48,7 +48,7 @@ pub record AreOn (tape left : Heard) (nick : Text) : Type 0 where
 pub all_on : (tape : Heard) (nick : Text) → AreOn tape tape nick
 all_on tape nick = grind arith
 
--- where we are on none of them, nobody is in sight
+-- if we are on none of them, nobody is in sight
 pub none_seen : (tape left : Heard) (nick : Text) → AreOn tape left nick
     → ((c : Text) → is_on left.readings c ≡ false) → in_sight tape.readings (key tape nick) ≡ false
 none_seen tape left nick h off = grind (arith, any_false, no_true)
@@ -59,14 +59,14 @@ begins_unless : (us : Text → Bool) (t : Told) (c : Text) → (joined_to us t �
 begins_unless us t c other = grind (arith, is_same c)
 
 module _ {A : Type 0} {tape older : Heard} {said : Said A} (line : IsLast tape said older) where
-  -- where the line joins us to no channel that has the person
+  -- if the line joins us to no channel that has the person
   pub left_on : (whole : Heard) (nick : Text) (joined : Option Text)
       → IsRead said (meaning said) joined joined_to
       → ((c : Text) → joined ≡ Some c → is_member whole.readings c (key whole nick) ≡ false)
       → AreOn whole tape nick → AreOn whole older nick
   left_on whole nick joined read gone old = grind (arith, begins_unless, no_true, said_here)
 
-  -- where it joins us to a channel that does not have the person
+  -- if it joins us to a channel that does not have the person
   pub one_joined : (whole : Heard) (nick channel : Text)
       → IsRead said (meaning said) (Some (key_there said channel)) joined_to
       → is_member whole.readings (key whole channel) (key whole nick) ≡ false
@@ -84,7 +84,7 @@ module _ {A : Type 0} {tape older : Heard} {said : Said A} (line : IsLast tape s
         (option_and_then (λ n. known says older.readings (key older n.now)) name)
     known_line says answer name read named = grind arith
 
-    -- whom the line does not spell was in sight before it
+    -- a person whom the line does not spell was in sight before it
     pub seen_before : (name : Bor Text) → IsRead said (meaning_in tape said) None
         (λ us t. says_spelling us (is_on tape.readings) t (key tape nick))
         → IsNamed said nick (Some name) → in_sight older.readings (key older name.now) ≡ true

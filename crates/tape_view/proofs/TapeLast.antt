@@ -10,7 +10,7 @@ use Rattle.{net_view.specs.Transcript.is_ready, std.proofs.Math.ListN.drop_of_le
 use Rattle.std.proofs.lemmas.List.{set_split, take_all, take_more}
 use Rattle.tape_view.specs.{Kept.IsReadable, Marks.own_said, Tape.read_by}
 
--- the line is told as this
+-- the line says this
 abbrev pub IsTold : {A : Type 0} → Telling A → Parts → Type 0
 IsTold r l = (s : List Token) → meant s r ≡ told s (Received l)
 
@@ -28,7 +28,7 @@ pub tape_none : (A : Type 0) → tape_of {A = A} [] ≡ []
 unfolding tape_of
 tape_none A = refl
 
--- where we are on a channel the settings are fixed
+-- if we are on a channel the settings are fixed
 ready_on : (items : List Arrival) (c name : Text) → name_on (readings_of items) c ≡ Some name
     → is_ready items ≡ true
 ready_on items c name on =

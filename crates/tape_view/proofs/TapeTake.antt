@@ -38,7 +38,7 @@ back_lost : (older : List Arrival) → view_back (Lost ∷ older) ≡ lost_view 
 unfolding after told
 back_lost older = simp (view_back_step, emptied)
 
--- a second loss tells nothing new
+-- a second loss says nothing new
 lost_again : (b : Bool) (items : List Arrival)
     → view_back (Lost ∷ items) ≡ lost_view (view_back (with_lost b items))
 lost_again b items = grind (arith, back_lost)
@@ -56,7 +56,7 @@ marked_push : {A : Type 0} (front : List (Kept A)) (k : Kept A) → IsMarkedLine
 unfolding tape_of IsMarkedTape
 marked_push front k here marked = grind (arith, reverse-append)
 
--- more settings, where they count
+-- more settings, if they count
 pub supports_settings : {B : Type 0} (settings new : List Token) (l : Parts) (r : Telling B)
     (x : Bor Parts) (s : Standing) → IsTold r l → r ≡ telling.Supports x → s.settings ≡ settings
     → is_some s.own ≡ true → s.ready ≡ false → new ≡ line.settings_after settings l

@@ -1,4 +1,4 @@
--- What is known of persons, as lines tell it.
+-- What is known of persons, as lines say it.
 use Rattle.std.specs.Prelude.{Bool, if◌then◌else◌}
 use Rattle.std.proofs.Common.{Option, Some, None}
 use Rattle.irc_support.specs.Text.{Text}

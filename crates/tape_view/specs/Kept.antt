@@ -17,7 +17,7 @@ abbrev pub played_back : {A : Type 0} → List (Kept A) → List Arrival
 played_back [] = []
 played_back (k ∷ older) = with_lost k.lost (Received k.line ∷ played_back older)
 
--- the same of kept lines that stand in the order in which they came
+-- the same of kept lines that are in the order in which they came
 unfoldable pub tape_of : {A : Type 0} → List (Kept A) → List Arrival
 tape_of kept = played_back (reverse kept)
 
@@ -33,7 +33,7 @@ abbrev pub AreMarked : {A : Type 0} → List (Kept A) → Type 0
 AreMarked [] = Unit {0}
 AreMarked (k ∷ older) = IsMarkedLine (played_back older) k × AreMarked older
 
--- the same of kept lines that stand in the order in which they came
+-- the same of kept lines that are in the order in which they came
 unfoldable pub IsMarkedTape : {A : Type 0} → List (Kept A) → Type 0
 IsMarkedTape kept = AreMarked (reverse kept)
 

@@ -1,4 +1,4 @@
--- What a line tells of us: who does it, whom it names, and our nick.
+-- What a line says about us: who does it, whom it names, and our nick.
 use Rattle.std.specs.Prelude.{◌≡◌, Bool, false, List, if◌then◌else◌}
 use Rattle.std.specs.Option.{option_map_or}
 use Rattle.std.proofs.Common.{Option, Some, None}
@@ -13,7 +13,7 @@ use Rattle.tape_view.specs.declared.kept.Marks.{Marks}
 abbrev pub us_of : List Token → Option Text → Text → Bool
 us_of settings own key = elim own [ None ↦ false | Some nick ↦ same (key_by settings nick) key ]
 
--- the person that a line comes from, where it turns on that
+-- the person that a line comes from, if the line depends on that
 abbrev pub doer : spec.Told → Option Text
 doer (spec.Joined channel valid who account) = Some who.key
 doer (spec.Parted channel who) = Some who
@@ -21,7 +21,7 @@ doer (spec.Quits who) = Some who
 doer (spec.Renamed old new) = Some old
 doer _ = None
 
--- the person that a line names, where it turns on that
+-- the person that a line names, if the line depends on that
 abbrev pub person_named : spec.Told → Option Text
 person_named (spec.Kicked channel who) = Some who
 person_named (spec.Renamed old new) = Some new.key
@@ -32,7 +32,7 @@ pub record IsMarked (us : Text → Bool) (t : spec.Told) (marks : Marks) : Type 
   pub by_us : marks.by_us ≡ option_map_or us (doer t) false
   pub names_us : marks.names_us ≡ option_map_or us (person_named t) false
 
--- the nick that is ours from here on, where it says one
+-- the nick that is ours from here on, if it says one
 abbrev pub own_said : (Text → Bool) → spec.Told → Option Text
 own_said us (spec.Welcomed nick) = Some nick
 own_said us (spec.Renamed old new) = if us old then Some new.spelled else None

@@ -8,7 +8,7 @@ use Rattle.tape_view.specs.Kept.{tape_of, IsMarkedTape}
 use Rattle.tape_view.specs.NameCount.{IsCounted}
 
 -- each is marked by what was before it, these settings are in force after them, they bring up at
--- most so many names, and each can be written
+-- most this many names, and each can be written
 pub record IsWhole {A : Type 0} (kept : List (Kept A)) (settings : List Token) (names : ℕ) : Type 0
   where
     pub marked : IsMarkedTape kept

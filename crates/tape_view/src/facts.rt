@@ -62,7 +62,7 @@ impl<'a, A: Allocator> Tape<'a, A> {
         false
     }
 
-    /// This person's nick, where the last line spells it.
+    /// This person's nick, if the last line spells it.
     fn spelled(&self, said: &Said<'a, A>, nick: &[u8]) -> Option<&'a [u8]>
         ensures { (us : Text → Bool) →
             IsMarked us (meaning_in self.now said.now) said.now.marks →
@@ -101,7 +101,7 @@ impl<'a, A: Allocator> Tape<'a, A> {
         }
     }
 
-    /// What the last line, which tells this, says of a person's account: nothing, that there is
+    /// What the last line, which says this, says of a person's account: nothing, that there is
     /// none, or the account.
     fn says_account(&self, telling: &Telling<'a, A>, nick: &[u8]) -> Option<Option<&'a [u8]>>
         ensures { (us : Text → Bool) → option_map (option_map (λ name. name.now)) result
@@ -119,7 +119,7 @@ impl<'a, A: Allocator> Tape<'a, A> {
         }
     }
 
-    /// What a line, which tells this, says of a person's being away: nothing, that it ended, or the
+    /// What a line, which says this, says of a person's being away: nothing, that it ended, or the
     /// text.
     fn says_away(&self, telling: &Telling<'a, A>, nick: &[u8]) -> Option<Option<&'a [u8]>>
         ensures { (us on : Text → Bool) → option_map (option_map (λ text. text.now)) result
@@ -149,7 +149,7 @@ impl<'a, A: Allocator> Tape<'a, A> {
         }
     }
 
-    /// What is known of a person: what was said last, where the person has been in sight ever
+    /// What is known of a person: what was said last, if the person has been in sight ever
     /// since. The person is followed back under earlier names. Whoever is in sight after a line
     /// that does not spell the nick was in sight before it.
     #[tactic(auto, using(net_view::proofs::People::unseen_none))]

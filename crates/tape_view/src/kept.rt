@@ -1,4 +1,4 @@
-//! The kept state lines: each with what it tells of us, and of the settings.
+//! The kept state lines: each with what it says about us, and about the settings.
 
 ghost use Rattle.std.specs.Prelude.{◌≡◌, Bool, false, List, OnOk, OnErr, option_map};
 ghost use Rattle.std.specs.Option.{option_map_or};
@@ -57,7 +57,7 @@ fn is_us<S: Allocator>(support: &Support<S>, own: Option<&[u8]>, nick: Option<&[
     }
 }
 
-/// The person that the line comes from, where it turns on that.
+/// The person that the line comes from, if the line depends on that.
 fn doer<'a, A: Allocator>(telling: &Telling<'a, A>) -> Option<&'a [u8]>
     ensures { (settings : List Token) →
         option_map (λ nick. key_by settings nick.now) result ≡ doer (meant settings telling.now) }
@@ -71,7 +71,7 @@ fn doer<'a, A: Allocator>(telling: &Telling<'a, A>) -> Option<&'a [u8]>
     }
 }
 
-/// The person that the line names, where it turns on that.
+/// The person that the line names, if the line depends on that.
 fn person_named<'a, A: Allocator>(telling: &Telling<'a, A>) -> Option<&'a [u8]>
     ensures { (settings : List Token) →
         option_map (λ nick. key_by settings nick.now) result
@@ -83,7 +83,7 @@ fn person_named<'a, A: Allocator>(telling: &Telling<'a, A>) -> Option<&'a [u8]>
     }
 }
 
-/// Whether what a line tells comes from us, and whether it names us, where this was our nick before
+/// Whether what a line says comes from us, and whether it names us, if this was our nick before
 /// it.
 pub(crate) fn marks_of<S: Allocator, A: Allocator>(
     support: &Support<S>,
@@ -99,7 +99,7 @@ pub(crate) fn marks_of<S: Allocator, A: Allocator>(
     }
 }
 
-/// Whether the settings are fixed after a line that tells this, where this was our nick before it.
+/// Whether the settings are fixed after a line that says this, if this was our nick before it.
 pub(crate) fn fixed_after<A: Allocator>(
     telling: &Telling<'_, A>,
     own: Option<&[u8]>,
@@ -116,7 +116,7 @@ pub(crate) fn fixed_after<A: Allocator>(
     }
 }
 
-/// The nick that is ours from here on, where the line says one.
+/// The nick that is ours from here on, if the line says one.
 fn own_told<'a, A: Allocator>(telling: &Telling<'a, A>, marks: Marks) -> Option<&'a [u8]>
     ensures { (settings : List Token) (us : Text → Bool) →
         IsMarked us (meant settings telling.now) marks →
@@ -157,7 +157,7 @@ pub(crate) fn ready_in<A: Allocator>(kept: &[Kept<A>]) -> bool
     }
 }
 
-/// Makes these settings, which were in force after these lines, the ones after a line that tells
+/// Makes these settings, which were in force after these lines, the ones after a line that says
 /// this. `OutOfMemory` comes before a change.
 pub(crate) fn take_settings<A: Allocator + Copy, B: Allocator>(
     alloc: A,

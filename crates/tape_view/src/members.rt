@@ -1,4 +1,4 @@
-//! Who is a member of a channel on which we are.
+//! The members of a channel that we are on.
 
 ghost use Rattle.std.specs.Prelude.{◌≡◌, ◌&&◌, ℕ, Bool, true, false};
 ghost use Rattle.std.specs.Prelude.{is_some, option_map, unwrap_or};

@@ -22,10 +22,10 @@ use irc_support::{Kind, Support, changes};
 use net_view::{Telling, is_word};
 use std::alloc::Allocator;
 
-/// A mode: `None` where it is off, else on, with its parameter, where it has one.
+/// A mode: `None` if it is off, else on, with its parameter, if it has one.
 type Setting<'a> = Option<Option<&'a [u8]>>;
 
-/// What a change of a letter of this kind sets; `None` where that is not kept.
+/// What a change of a letter of this kind sets; `None` if that is not kept.
 fn setting_by<'a>(kind: Kind, plus: bool, param: Option<&'a [u8]>) -> Option<Setting<'a>>
     ensures { option_map (option_map (option_map (λ text. text.now))) result
         ≡ setting_by kind plus (option_map (λ text. text.now) param.entry) }
@@ -62,7 +62,7 @@ fn last_setting<'a, A: Allocator, B: Allocator>(
     last
 }
 
-/// Whether a letter stands above the one that was given, if any.
+/// Whether a letter comes after the one that was given, if any.
 fn is_above(after: Option<u8>, letter: u8) -> bool
     ensures { result ≡ above_by nat_cmp after letter }
 {
@@ -72,7 +72,7 @@ fn is_above(after: Option<u8>, letter: u8) -> bool
     }
 }
 
-/// Whether a letter stands before the best so far, if any.
+/// Whether a letter comes before the best so far, if any.
 fn is_better(best: Option<u8>, letter: u8) -> bool
     ensures { result ≡ improves_by nat_cmp best letter }
 {
@@ -136,7 +136,7 @@ impl<'a, A: Allocator> Tape<'a, A> {
         self.mode(channel, letter).is_some()
     }
 
-    /// The best so far, or this letter, where it is on, above the given one and before the best.
+    /// The best so far, or this letter, if it is on, above the given one and before the best.
     fn better_letter(
         &self,
         channel: &[u8],

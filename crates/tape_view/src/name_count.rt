@@ -13,7 +13,7 @@ use irc_support::{Support, names};
 use net_view::Telling;
 use std::alloc::Allocator;
 
-/// The number of names with those of a 353; `None` where a `usize` can't hold it.
+/// The number of names with those of a 353; `None` if a `usize` can't hold it.
 #[tactic(auto, using(crate::proofs::LineParts::listed_count))]
 fn with_listed<S: Allocator, A: Allocator>(
     support: &Support<S>,
@@ -33,7 +33,7 @@ fn with_listed<S: Allocator, A: Allocator>(
     Some(sum)
 }
 
-/// The number of names with those that a line brings up; `None` where a `usize` can't hold it.
+/// The number of names with those that a line brings up; `None` if a `usize` can't hold it.
 pub(crate) fn with_named<S: Allocator, A: Allocator>(
     support: &Support<S>,
     telling: &Telling<'_, A>,

@@ -1,4 +1,4 @@
-//! What stands at a place: the channels that we are on, and the members of one, in the order of
+//! What is at a place: the channels that we are on, and the members of one, in the order of
 //! their keys.
 
 ghost use Rattle.std.specs.Prelude.{◌≡◌, ◌<◌, ◌^◌, length, option_map};
@@ -35,14 +35,14 @@ impl<'a, A: Allocator> Tape<'a, A> {
         }
     }
 
-    /// Whether a name's key stands before another's.
+    /// Whether a name's key comes before another's.
     fn is_before(&self, a: &[u8], b: &[u8]) -> bool
         ensures { result ≡ is_lt (bytes_cmp (key self.now a.now) (key self.now b.now)) }
     {
         self.support().mapping().order(a, b).is_lt()
     }
 
-    /// Whether a name's key stands above that of the one that was given, if any.
+    /// Whether a name's key comes after that of the one that was given, if any.
     fn is_above(&self, after: Option<&[u8]>, name: &[u8]) -> bool
         ensures { result
             ≡ above (key_in self.now.settings (option_map (λ a. a.now) after.entry))
@@ -54,7 +54,7 @@ impl<'a, A: Allocator> Tape<'a, A> {
         }
     }
 
-    /// Whether a name's key stands before that of the best so far, if any.
+    /// Whether a name's key comes before that of the best so far, if any.
     fn is_better(&self, best: Option<&[u8]>, name: &[u8]) -> bool
         ensures { result
             ≡ improves (key_in self.now.settings (option_map (λ b. b.now) best.entry))
@@ -66,7 +66,7 @@ impl<'a, A: Allocator> Tape<'a, A> {
         }
     }
 
-    /// The best so far, or this name, where it is there, above the given one and before the best.
+    /// The best so far, or this name, if it is there, above the given one and before the best.
     fn better(
         &self,
         table: Table<'_>,
@@ -109,7 +109,7 @@ impl<'a, A: Allocator> Tape<'a, A> {
         best
     }
 
-    /// The best so far, or the best of what a line, which tells this, names.
+    /// The best so far, or the best of what a line, which says this, names.
     fn best_told(
         &self,
         table: Table<'_>,

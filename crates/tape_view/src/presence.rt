@@ -34,7 +34,7 @@ impl<'a, A: Allocator> Said<'a, A> {
 }
 
 impl<'a, A: Allocator> Tape<'a, A> {
-    /// The name of a channel, where we are on it.
+    /// The name of a channel, if we are on it.
     pub(crate) fn name_on(&self, channel: &[u8]) -> Option<&'a [u8]>
         ensures { option_map (λ name. name.now) result
             ≡ name_on self.now.readings (key self.now channel.now) }

@@ -109,7 +109,7 @@ impl<'a, A: Allocator> Said<'a, A> {
 }
 
 impl<'a, A: Allocator> Tape<'a, A> {
-    /// Whether the person holds the rank on the channel, on which we are, by the last line that
+    /// Whether the person holds the rank on the channel, which we are on, by the last line that
     /// says so. The person is followed back under earlier names.
     fn has_rank(&self, channel: &[u8], nick: &[u8], rank: u8) -> bool
         requires { is_on self.now.readings (key self.now channel.now) ≡ true }

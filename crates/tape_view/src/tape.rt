@@ -15,7 +15,7 @@ use net_view::{Telling, told_as};
 use std::alloc::Allocator;
 use std::marker::Model;
 
-/// A line of a tape: the settings that it is read by, what it tells, and whether it comes from us
+/// A line of a tape: the settings that it is read by, what it says, and whether it comes from us
 /// or names us.
 #[derive(Drop)]
 pub(crate) struct Said<'a, A: Allocator> {
@@ -25,7 +25,7 @@ pub(crate) struct Said<'a, A: Allocator> {
 }
 
 impl<'a, A: Allocator> Said<'a, A> {
-    /// The name that a person had before the line; `None` where nobody of before is that person.
+    /// The name that a person had before the line; `None` if nobody of before is that person.
     pub(crate) fn name_before(&self, nick: &'a [u8]) -> Option<&'a [u8]>
         ensures { (us : Text → Bool) → IsBy us self.now →
             option_map (λ name. key_there self.now name.now) result

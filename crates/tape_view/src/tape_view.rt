@@ -78,7 +78,7 @@ impl<A: Allocator + Copy> TapeView<A> {
         Tape::new(&self.support, &self.kept)
     }
 
-    /// A state line of this command, which tells this, as it is to be kept.
+    /// A state line of this command, which says this, as it is to be kept.
     fn to_keep<B: Allocator>(
         &self,
         command: StateCommand,

@@ -1,4 +1,4 @@
--- What the entries of a map tell one after the other: keys rise, so the last word on a key is the
+-- What the entries of a map say one after the other: keys rise, so the last word on a key is the
 -- only one.
 use Rattle.std.specs.FinMap as fin
 use Rattle.{std.specs.Ordering.eq_by_cmp, welcome.proofs.Words.{◌∷◌, ◌≡◌, List, None, Option}}

@@ -1,25 +1,29 @@
--- Entries are put into groups by their keys, each group where its first entry stands.
-use Rattle.irc_support.specs.Text as support
+-- Entries are put into groups by their keys, each group where its first entry is.
 use Rattle.std.proofs.Common.{subst, zero}
 use Rattle.std.proofs.lemmas.{List.Sums.fold_push, Map.Text.is_eq-slice_cmp}
 use Rattle.std.specs.Str.{bytes_eq}
 use Rattle.indexmap.specs.IndexSet.{insert_key}
 use Rattle.std.proofs.Common.{Vec}
-use Rattle.client_caps.proofs.PartsWritten.{same_words}
-use Rattle.welcome.proofs.PlaybackWhole.{all_now, lent_mapped, pushed}
+use Rattle.welcome.proofs.PlaybackWhole.{all_now, pushed}
 use Rattle.welcome.proofs.Words
 use Rattle.std.proofs.lemmas.List.{map_more}
 use Words.{◌++◌, ◌+◌, ◌<◌, ◌||◌, ◌∙◌, ◌∷◌, ◌≡◌, ◌≤◌, AllByRecursion, Bool, EntryParts, List, Text, [], ap, append-nil, arith}
 use Words.{append_assoc, cond, false, filter, filter-append, fold, is_same, length, length-append, length-map, list_any}
-use Rattle.irc_line.specs.Writing.{is_word}
 use Rattle.welcome.specs.declared.others.Sort.{Sort}
-use Rattle.welcome.specs.Playing.{group_lines, name_by}
-use Words.{Bor, Caps, Some, View, backlog_of, entry_line, flat_map, slice_get, written, map, map-append, map-map, nat_tests, take_all, position_or_len, refl, same, same_refl, slice_index_or, suc, sym, true, ℕ}
+use Rattle.welcome.specs.Playing.{around, can_name, group_lines, name_by}
+use Words.{Bor, Caps, None, Option, Parts, Some, View, backlog_of, entry_line, flat_map, slice_get, written, map, map-append, map-map, nat_tests, take_all, position_or_len, refl, same, same_refl, slice_index_or, suc, sym, true, ℕ}
 use Rattle.welcome.specs.{Arranged.{push_at, put_at}, Playing.{firsts, groups_by}}
+use Rattle.welcome.proofs.Stamps.{stamped_nil}
+use Rattle.welcome.specs.Times.{stamped, stamped_entry, stamped_from}
+unfoldable use Rattle.welcome.specs.Times.{shown_at}
+use Rattle.welcome.specs.declared.others.Sort.TheVariants.{Channels, Persons, Visits}
+use Rattle.welcome.specs.declared.playing.Offset.{Offset}
+use Rattle.welcome.specs.declared.times.Day.{Day}
+use Rattle.welcome.specs.declared.times.Minute.{Minute}
 
 -- ---- one more in a group
 
--- behind the last group it begins one
+-- after the last group it begins one
 pub put_last : {X : Type 0} (place : ℕ) (x : X) (gs : List (List X)) → length gs ≤ place
     → put_at place x gs ≡ gs ++ (x ∷ []) ∷ []
 put_last place x [] behind = refl
@@ -27,7 +31,7 @@ put_last zero x (g ∷ gs) behind = absurd (omega arith)
 put_last (suc place) x (g ∷ gs) behind =
     ap (λ rest. g ∷ rest) (put_last place x gs (omega (behind, arith)))
 
--- before it, it stands in the group that is there
+-- before it, it is in the group that is there
 pub put_within : {X : Type 0} (place : ℕ) (x : X) (gs : List (List X)) → place < length gs
     → put_at place x gs ≡ push_at place x gs
 put_within place x [] within = absurd (omega arith)
@@ -46,7 +50,7 @@ no_symmetry a b e = by (same b a) refl where
   by true h = grind (arith, is_same b a h, same_refl, e)
   by false h = h
 
--- no key stands twice
+-- no key occurs twice
 abbrev pub AreDistinct : List Text → Type 0
 AreDistinct [] = Unit {0}
 AreDistinct (k ∷ ks) = (list_any (same k) ks ≡ false) × AreDistinct ks
@@ -75,7 +79,7 @@ module _ (key : EntryParts → Text) where
   abbrev in_groups : List Text → List EntryParts → List (List EntryParts)
   in_groups ks es = map (λ k. filter (of_key k) es) ks
 
-  -- of another key it stands in none of these groups
+  -- of another key it is in none of these groups
   elsewhere : (ks : List Text) (es : List EntryParts) (e : EntryParts)
       → list_any (same (key e)) ks ≡ false → in_groups ks (es ++ e ∷ []) ≡ in_groups ks es
   elsewhere [] es e none = refl
@@ -225,40 +229,76 @@ pub ruleset chosen_steps = (filter-append, map_more, take_all, append-nil, map-a
 
 -- ---- the lines of a group
 
-module _ (sort : Sort) (v : View) (caps : Caps) (place : ℕ) (group : List (Bor EntryParts))
-    (first : Bor EntryParts) (name old now : Text) where
-  pub group_in_batch : Some first ≡ slice_get group 0 → name ≡ name_by sort v first.now
-      → support.is_word name ≡ true
-      → now ≡ old ++ flat_map written (backlog_of caps place name (all_now group))
-      → now ≡ old ++ flat_map written (group_lines sort v caps place (all_now group))
-  group_in_batch at named word said = by group at said where
-    by : (es : List (Bor EntryParts)) → Some first ≡ slice_get es 0
-        → now ≡ old ++ flat_map written (backlog_of caps place name (all_now es))
-        → now ≡ old ++ flat_map written (group_lines sort v caps place (all_now es))
-    by [] at said = cc
-    by (e ∷ es) at said =
-        let is : first ≡ e = cc in
-        let so : name ≡ name_by sort v e.now =
-        named ∙ ap (λ (f : Bor EntryParts). name_by sort v f.now) is in
-        let fit : is_word (name_by sort v e.now) ≡ true =
-        sym (ap is_word so) ∙ (sym (same_words name) ∙ word) in
-        rw fit (subst (λ m. now ≡ old ++ flat_map written (backlog_of caps place m
-        (all_now (e ∷ es)))) so said)
+-- by a name
+abbrev pub named_lines : Sort → View → Caps → ℕ → Text → List EntryParts → List Parts
+named_lines sort v caps place name es =
+    cond (can_name name) (around sort v caps name (backlog_of caps place name es))
+    (map (entry_line caps []) es)
 
-  pub group_plain : Some first ≡ slice_get group 0 → name ≡ name_by sort v first.now
-      → support.is_word name ≡ false
-      → now ≡ old ++ flat_map written (map (λ (e : Bor EntryParts). entry_line caps [] e.now) group)
-      → now ≡ old ++ flat_map written (group_lines sort v caps place (all_now group))
-  group_plain at named word said = by group at said where
-    by : (es : List (Bor EntryParts)) → Some first ≡ slice_get es 0
-        → now ≡ old ++ flat_map written (map (λ (e : Bor EntryParts). entry_line caps [] e.now) es)
-        → now ≡ old ++ flat_map written (group_lines sort v caps place (all_now es))
-    by [] at said = cc
-    by (e ∷ es) at said =
-        let is : first ≡ e = cc in
-        let so : name ≡ name_by sort v e.now =
-        named ∙ ap (λ (f : Bor EntryParts). name_by sort v f.now) is in
-        let fit : is_word (name_by sort v e.now) ≡ false =
-        sym (ap is_word so) ∙ (sym (same_words name) ∙ word) in
-        rw fit (subst (λ lines. now ≡ old ++ flat_map written lines)
-        (lent_mapped (entry_line caps []) (e ∷ es)) said)
+-- with its time in its text an entry has the name that it has
+name_kept : (sort : Sort) (v : View) (before : Option Day) (at : Option Minute) (e : EntryParts)
+    → name_by sort v (stamped_entry before at e) ≡ name_by sort v e
+name_kept sort v before None e = refl
+name_kept Channels v before (Some at) e = refl
+name_kept Persons v before (Some at) e = refl
+name_kept Visits v before (Some at) e = refl
+
+group_named : (sort : Sort) (v : View) (caps : Caps) (place : ℕ) (times : Option Offset)
+    (e : EntryParts) (es : List EntryParts) → group_lines sort v caps place
+    (stamped times caps (e ∷ es)) ≡ named_lines sort v caps place (name_by sort v e) (stamped times caps (e ∷ es))
+group_named sort v caps place None e es = refl
+group_named sort v caps place (Some offset) e es = by caps.server_time where
+  by : (b : Bool) → group_lines sort v caps place (cond b (e ∷ es) (stamped_from offset None (e ∷ es)))
+      ≡ named_lines sort v caps place (name_by sort v e) (cond b (e ∷ es) (stamped_from offset None (e ∷ es)))
+  by true = refl
+  by false =
+      ap (λ name. named_lines sort v caps place name (stamped_from offset None (e ∷ es)))
+      (name_kept sort v None (shown_at offset e.time) e)
+
+module _ (sort : Sort) (v : View) (times : Option Offset) (caps : Caps) (place : ℕ) where
+  pub no_group : (group : List (Bor EntryParts)) → None ≡ slice_get group 0
+      → group_lines sort v caps place (stamped times caps (all_now group)) ≡ []
+  no_group [] h = ap (λ es. group_lines sort v caps place es) (stamped_nil times caps)
+  no_group (e ∷ group) h = cc
+
+  module _ (group : List (Bor EntryParts)) (first : Bor EntryParts) (name old now : Text) where
+    -- the name of the first is that of the group
+    by_name : Some first ≡ slice_get group 0 → name ≡ name_by sort v first.now
+        → named_lines sort v caps place name (stamped times caps (all_now group))
+        ≡ group_lines sort v caps place (stamped times caps (all_now group))
+    by_name at named = by group at where
+      by : (es : List (Bor EntryParts)) → Some first ≡ slice_get es 0
+          → named_lines sort v caps place name (stamped times caps (all_now es))
+          ≡ group_lines sort v caps place (stamped times caps (all_now es))
+      by [] at = cc
+      by (e ∷ es) at =
+          let is : first ≡ e = cc in
+          let so : name ≡ name_by sort v e.now =
+          named ∙ ap (λ (f : Bor EntryParts). name_by sort v f.now) is in
+          ap (λ m. named_lines sort v caps place m (stamped times caps (all_now (e ∷ es)))) so
+          ∙ sym (group_named sort v caps place times e.now (all_now es))
+
+    pub group_in_batch : Some first ≡ slice_get group 0 → name ≡ name_by sort v first.now
+        → can_name name ≡ true → now ≡ old ++ flat_map written (around sort v caps name
+        (backlog_of caps place name (stamped times caps (all_now group)))) → now
+        ≡ old ++ flat_map written (group_lines sort v caps place (stamped times caps (all_now group)))
+    group_in_batch at named word said =
+        let chosen : around sort v caps name
+        (backlog_of caps place name (stamped times caps (all_now group)))
+        ≡ named_lines sort v caps place name (stamped times caps (all_now group)) =
+        ap (λ b. cond b (around sort v caps name
+        (backlog_of caps place name (stamped times caps (all_now group))))
+        (map (entry_line caps []) (stamped times caps (all_now group)))) (sym word) in
+        subst (λ lines. now ≡ old ++ flat_map written lines) (chosen ∙ by_name at named) said
+
+    pub group_plain : Some first ≡ slice_get group 0 → name ≡ name_by sort v first.now
+        → can_name name ≡ false → now ≡ old ++ flat_map written
+        (map (entry_line caps []) (stamped times caps (all_now group))) → now
+        ≡ old ++ flat_map written (group_lines sort v caps place (stamped times caps (all_now group)))
+    group_plain at named word said =
+        let chosen : map (entry_line caps []) (stamped times caps (all_now group))
+        ≡ named_lines sort v caps place name (stamped times caps (all_now group)) =
+        ap (λ b. cond b (around sort v caps name
+        (backlog_of caps place name (stamped times caps (all_now group))))
+        (map (entry_line caps []) (stamped times caps (all_now group)))) (sym word) in
+        subst (λ lines. now ≡ old ++ flat_map written lines) (chosen ∙ by_name at named) said

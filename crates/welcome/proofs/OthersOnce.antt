@@ -8,14 +8,13 @@ use Rattle.std.proofs.lemmas.List.Sorted.{IsPermutation-trans}
 use Rattle.std.specs.List.Sorted.{IsPermutation}
 use Rattle.welcome.proofs.{OthersGrouped.groups_more, PlaybackWhole.{left_over, messages_of, played_once}}
 use Rattle.welcome.proofs.Words
-use Words.{◌++◌, ◌∷◌, ◌≡◌, Bool, Caps, EntryParts, List, Text, View, [], append-nil, append_assoc, cond, false}
-use Words.{filter, flat_map, flat_map-append, not, position_or_len, refl, same, suc, sym, true, ℕ}
+use Words.{◌++◌, ◌∷◌, Bool, Caps, EntryParts, List, Text, View, [], append-nil, append_assoc, cond, false}
+use Words.{filter, flat_map, flat_map-append, position_or_len, refl, same, suc, true, ℕ}
 use Rattle.welcome.specs.Arranged.{put_at}
-use Rattle.welcome.specs.declared.others.Sort.{Sort}
 use Rattle.welcome.specs.declared.others.Sort.TheVariants.{Channels, Persons}
 use Rattle.welcome.specs.declared.playing.Playing.{Playing}
 use Rattle.welcome.specs.Playing.{apart_groups, firsts, group_key, groups_by, is_of, is_private}
-use Rattle.welcome.specs.Playing.{other_groups, others_played, played_by}
+use Rattle.welcome.specs.Playing.{is_visiting, other_groups, others_played, played_by}
 
 -- all of some groups
 abbrev all_of : {X : Type 0} → List (List X) → List X
@@ -55,12 +54,23 @@ module _ (v : View) where
       IsPermutation-trans es _ _ parts
       (rw flat_map-append both)
 
+  visits_once : (es : List EntryParts)
+      → IsPermutation es (all_of (other_groups Channels v es) ++ filter (is_of Persons v) es)
+  visits_once es =
+      let channels = filter (is_of Channels v) es in
+      let persons = filter (is_of Persons v) es in
+      IsPermutation-trans es _ _
+      (IsPermutation-filter_both (is_of Channels v) (is_of Persons v) (λ e. refl) es)
+      (IsPermutation-append_left persons channels _ (groups_once (group_key Channels v) channels))
+
   others_once : (playing : Playing) (caps : Caps) (es : List EntryParts)
       → IsPermutation es (others_played playing v caps es)
-  others_once playing caps es = by (is_private playing caps) where
-    by : (b : Bool) → IsPermutation es (cond b (all_of (apart_groups v es)) es)
-    by true = apart_once es
-    by false = IsPermutation-refl es
+  others_once playing caps es = by (is_private playing caps) (is_visiting playing v) where
+    by : (b c : Bool) → IsPermutation es (cond b (all_of (apart_groups v es))
+        (cond c (all_of (other_groups Channels v es) ++ filter (is_of Persons v) es) es))
+    by true c = apart_once es
+    by false true = visits_once es
+    by false false = IsPermutation-refl es
 
   pub once_by : (playing : Playing) (caps : Caps) (es : List EntryParts)
       → IsPermutation es (played_by playing v caps es)

@@ -195,7 +195,7 @@ module _ (v : View) where
         in grind (arith, found, found_as n ps known, there n)) in
         rw (once, is, ← one, fin.entries-from_sorted bytes_cmp es in_order) (simp map-map)
 
--- ---- persons in the order of their heads stand in the order of their keys
+-- ---- persons in the order of their heads are in the order of their keys
 
 -- the order by head and key is that by key
 by_head_is : (mapping : CaseMapping) (a b : Lent) → HasHead mapping a → HasHead mapping b
@@ -207,7 +207,7 @@ by_head_is mapping a b h k =
     then_is : (r s : Ordering) → ((r ≡ Equal → ⊥) → r ≡ s) → ordering_then r s ≡ s
     then_is r s h = grind (arith, h)
 
--- what is sorted by head and key is sorted by key, where the heads are those of the keys
+-- what is sorted by head and key is sorted by key, if the heads are those of the keys
 pub sorted_by_key : (mapping : CaseMapping) (old new : List Lent)
     → AllByRecursion (HasHead mapping) old → IsPermutation old new
     → IsSorted (by_head mapping) new → IsSorted (lent.by_key mapping) new

@@ -1,4 +1,4 @@
--- What stands before a place, and the next; the channels, place by place.
+-- What comes before a place, and the next; the channels, place by place.
 use Rattle.net_view.specs.declared.channel.Channel as lend
 pub use Rattle.net_view.proofs.Walks.{letter_at_place, mode_here}
 use Rattle.welcome.proofs.Words
@@ -56,7 +56,7 @@ channels_all lines v i e = rw (take_all i (entries v.channels) (omega arith))
 -- a loop over the channels
 pub ruleset channel_steps = (channels_begin, channels_next, channels_all, append_assoc, append-nil)
 
--- ---- one channel's lines, from what is lent of it
+-- ---- one channel's lines, from its lent parts
 
 -- the members of what is lent of a channel, and their end
 abbrev pub listing_lent : View → Caps → Channel → List (Text × List ℕ) → List Parts

@@ -1,8 +1,11 @@
 -- The playback has each entry once, in order.
 pub mod Grouping
 unfoldable pub use Grouping.*
+use Rattle.welcome.proofs.Stamps.{stamped_nil}
+use Rattle.welcome.specs.Playing.{is_visiting}
+use Rattle.welcome.specs.Times.{stamped}
 
--- ---- what the lines tell
+-- ---- what the lines say
 
 module _ (caps : Caps) where
   pub entries_told : (tags : List Text) (es : List EntryParts) → Each IsMessage es
@@ -139,14 +142,19 @@ module _ (v : View) where
       let none = none_of_channels es (fin.entries v.channels) there in
       simp (filter-append, none, twice other other other (λ e. grind arith) es)
 
-  -- where nothing was missed, the burst is the state part
+  -- if nothing was missed, the burst is the state part
   pub nothing_missed : (playing : Playing) (caps : Caps)
       → burst_by playing v caps [] ≡ state_part_of v caps
   unfolding playback_by
   nothing_missed playing caps =
+      let nil = stamped_nil playing.times caps in
       let none : others_lines playing v caps (length (fin.entries v.channels)) [] ≡ [] =
-      either_way (is_private playing caps) [] in
-      simp (none, untold _ (enumerate_from 0 (fin.entries v.channels)) (λ at. refl), append-nil)
+      rw nil (ap (cond (is_private playing caps) []) (either_way (is_visiting playing v) [])
+      ∙ either_way (is_private playing caps) []) in
+      let said : ℕ × (Text × Channel) → List Parts = λ at. backlog_of caps at.0 at.1.1.name
+      (stamped playing.times caps []) in
+      let untimed = λ (at : ℕ × (Text × Channel)). ap (λ es. backlog_of caps at.0 at.1.1.name es) nil in
+      simp (none, untold said (enumerate_from 0 (fin.entries v.channels)) untimed, append-nil)
 
 -- the playback of no profile is that of the whole one
 pub whole_played : (playing : Playing) (v : View) (caps : Caps) (entries : List EntryParts)
@@ -154,7 +162,7 @@ pub whole_played : (playing : Playing) (v : View) (caps : Caps) (entries : List 
 unfolding playback_by playback_of
 whole_played playing v caps entries e = rw e refl
 
--- a list that is told to be empty
+-- a list that is said to be empty
 pub empty_list : {A : Type 0} (xs : List A) → true ≡ (length xs == 0) → xs ≡ []
 empty_list xs e = nil_from_length xs (grind (arith, nat_tests, e))
 

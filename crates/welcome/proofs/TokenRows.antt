@@ -17,7 +17,7 @@ pub join_on : (row : List Text) (r w : Text)
 join_on [] r w = refl
 join_on (s ∷ row) r w = rw (join_on row s w, append_assoc)
 
--- there is room where the bytes are few
+-- there is room if the bytes are few
 pub short_on : (row : List Text) (r w : Text) → is_short
     ((r ∷ row) ++ w ∷ []) ≡ nat_le (length (join_with_byte 32 (r ∷ row)) + 1 + length w) 400
 short_on row r w =
@@ -95,7 +95,7 @@ abbrev pub rows_on : List Text → List Text → List (List Text)
 rows_on [] words = rows_of is_token_row words
 rows_on (r ∷ row) words = rows_from is_token_row (r ∷ row) words
 
--- whether a word goes onto a row of so many tokens that take so many bytes
+-- whether a word goes onto a row of this many tokens that take this many bytes
 abbrev pub has_room : ℕ → ℕ → Text → Bool
 has_room count len w =
     cond (nat_eq count 0) true (nat_le (len + 1 + length w) 400 && nat_lt count 12)

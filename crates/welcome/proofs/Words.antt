@@ -40,7 +40,8 @@ pub use Rattle.welcome.specs.Burst.{member_word, mode_lines, names_end, names_li
 pub use Rattle.welcome.specs.Burst.{person_lines, reply, settings_lines, topic_lines}
 pub use Rattle.welcome.specs.{Catchup.fact_lines, Filling.name_row, Lent.{HasHead, by_head, lent}}
 pub use Rattle.welcome.specs.Lent.{members_at, modes_at, person_lent, person_shown}
-pub use Rattle.welcome.specs.{Packets.AreLines, Playback.{backlog_of, batch_name, burst_of}}
+pub use Rattle.{hub_ends.specs.Packets.AreLines, welcome.specs.Playback.{backlog_of, batch_name}}
+pub use Rattle.welcome.specs.Playback.{burst_of}
 pub use Rattle.welcome.specs.{Playback.{entry_line, is_for, is_for_a_channel}, Rows.is_short}
 pub use Rattle.welcome.specs.Rows.{is_token_row, rows_from, rows_of}
 unfoldable pub use Rattle.irc_support.specs.{Ranking.ranking_of, Settings.mapping_of}

@@ -17,6 +17,7 @@ use Rattle.client_caps.specs.Answers.{from_bouncer}
 use Rattle.welcome.specs.declared.playing.Playing.{Playing}
 use Rattle.welcome.specs.Playing.{apart_groups, is_private, others_lines}
 use Rattle.welcome.specs.Playback.{backlog_of, batch_name, entry_line, is_for, is_for_a_channel}
+use Rattle.welcome.specs.Times.{stamped}
 
 -- one more in the group at a place
 abbrev pub push_at : {X : Type 0} → ℕ → X → List (List X) → List (List X)
@@ -37,7 +38,7 @@ place_among mapping target (name ∷ names) =
     if same (key_of mapping target) (key_of mapping name) then 0
     else place_among mapping target names + 1
 
--- these names stand in the order of their keys, and no two are one name
+-- these names are in the order of their keys, and no two are one name
 abbrev pub AreInKeyOrder : CaseMapping → List Text → Type 0
 AreInKeyOrder mapping [] = Unit {0}
 AreInKeyOrder mapping (name ∷ names) =
@@ -85,7 +86,7 @@ backlogs_of caps place (name ∷ names) (group ∷ groups) =
 -- the messages of all groups; the last one is of those for no channel
 abbrev pub arranged_by : Playing → View → Caps → List Text → List (List EntryParts) → List Parts
 arranged_by playing v caps names groups =
-    backlogs_of caps 0 names groups
+    backlogs_of caps 0 names (map (stamped playing.times caps) groups)
     ++ others_lines playing v caps (length names) (slice_index_or groups (length names) [])
 
 -- how many places their batches can have

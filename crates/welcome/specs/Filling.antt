@@ -12,7 +12,7 @@ use Rattle.welcome.specs.Burst.{channel_lines, greeting_of, no_motd, reply, sett
 abbrev pub name_row : View → Text → List Text → Parts
 name_row v name row = reply v (codes "353") (codes "=" ∷ name ∷ join_with_byte 32 row ∷ [])
 
--- the lines of the burst that tell of the network and its channels: all but those of persons
+-- the lines of the burst about the network and its channels: all but those of persons
 abbrev pub network_lines : View → Caps → List Parts
 network_lines v caps =
     greeting_of v

@@ -33,7 +33,7 @@ person_lent person = record {
   away = option_map (λ text. text.now) person.away;
 }
 
--- a person of whom the nick alone is known
+-- a person with nothing known but the nick
 abbrev pub person_named : Text → view.Person
 person_named nick = record { spelled = Some nick; account = None; away = None }
 
@@ -46,7 +46,7 @@ person_shown member =
 abbrev pub persons_at : view.View → ℕ → List view.Person
 persons_at v i = map (λ m. person_shown (member_parts v m)) (members_at v i)
 
--- the persons of all channels, channel by channel; who is on several stands there for each
+-- the persons of all channels, channel by channel; who is on several is listed for each
 abbrev pub persons_on_channels : view.View → List view.Person
 persons_on_channels v =
     flat_map (λ (e : Text × view.Channel).
@@ -60,7 +60,7 @@ by_key mapping a b = bytes_cmp (key_of mapping a.nick.now) (key_of mapping b.nic
 abbrev pub is_one : CaseMapping → Person → Person → Bool
 is_one mapping a b = is_eq (by_key mapping a b)
 
--- the head that stands at a person is that of the nick's key, whose first eight are bytes
+-- the head kept with a person is that of the nick's key, whose first eight are bytes
 abbrev pub HasHead : CaseMapping → Person → Type 0
 HasHead mapping p =
     (p.head ≡ head_of (key_of mapping p.nick.now)) × AreBytesTo 8 (key_of mapping p.nick.now)

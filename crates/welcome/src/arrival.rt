@@ -9,11 +9,11 @@ ghost use Rattle.welcome.specs.Playback.{burst_of};
 ghost use Rattle.welcome.specs.Playing.{burst_by, places_of};
 
 use crate::backlog::{playback_by, push_playback};
-use crate::packet::Packet;
 use crate::playing::Playing;
 use crate::state::push_state;
 use client_caps::Caps;
 use history::Entry;
+use hub_ends::Packet;
 use net_view::{NetworkView, OutOfMemory};
 use std::alloc::Allocator;
 
@@ -40,7 +40,7 @@ fn packet_of_burst<V: NetworkView, A: Allocator + Clone, B: Allocator>(
     Packet::of_lines(text)
 }
 
-/// The welcome burst: what tells a client that comes where it stands on the network (see
+/// The welcome burst: what tells a client, when it attaches, where it is on the network (see
 /// [`state_part`](crate::state_part)), and then the messages that it missed (see
 /// [`playback`](crate::playback)). The view is ready, and the entries are those of messages from
 /// lines, so they can be written. One growing buffer holds its bytes.
@@ -84,7 +84,7 @@ pub fn burst_by<V: NetworkView, A: Allocator + Copy, B: Allocator>(
     packet_of_burst(text, playing, view, caps, entries)
 }
 
-/// The welcome burst, as [`burst`] makes it, where its state part is there already: a share of it
+/// The welcome burst, as [`burst`] makes it, if its state part is there already: a share of it
 /// if no message was missed, and else its bytes and the playback's in one packet.
 ///
 /// `OutOfMemory` if an allocation was refused, and for no other reason.
@@ -104,7 +104,7 @@ pub fn burst_from<V: NetworkView, A: Allocator + Copy, B: Allocator>(
     burst_from_by(alloc, Playing::whole(), state, view, caps, entries)
 }
 
-/// The welcome burst by a profile, as [`burst_by`] makes it, where its state part is there already:
+/// The welcome burst by a profile, as [`burst_by`] makes it, if its state part is there already:
 /// a share of it if no message was missed, and else its bytes and the playback's in one packet.
 ///
 /// `OutOfMemory` if an allocation was refused, and for no other reason.

@@ -2,10 +2,10 @@
 //! server-time).
 
 ghost use Rattle.std.specs.Prelude.{◌≡◌, ◌<◌, ◌≤◌, ◌+◌, ◌^◌, ◌++◌, ◌∷◌, [], IfOk, OnOk, length, map};
-ghost use Rattle.std.specs.Prelude.{option_to_list, codes, if◌then◌else◌};
+ghost use Rattle.std.specs.Prelude.{option_to_list, codes, false, if◌then◌else◌, None, Some};
 ghost use Rattle.std.specs.List.{AllByRecursion, flat_map};
 ghost use Rattle.std.specs.Option.{option_map};
-ghost use Rattle.irc_line.specs.Writing.{written};
+ghost use Rattle.irc_line.specs.Writing.{line_of_parts, written};
 ghost use Rattle.history.specs.Entry.{IsWrittenEntry};
 ghost use Rattle.welcome.specs.Arranged.{arranged_by, backlogs_of, batch_of, batch_tag};
 ghost use Rattle.welcome.specs.Arranged.{places_among, time_tag};
@@ -14,14 +14,16 @@ ghost use Rattle.welcome.specs.Playing.{playback_by};
 ghost use Rattle.client_caps.specs.Answers.{from_bouncer};
 ghost use Rattle.welcome.specs.Playback.{backlog_of, batch_name, entry_line, playback_of};
 ghost use Rattle.welcome.specs.Playback.{tags_text};
+ghost use Rattle.welcome.specs.Times.{stamped, stamped_entry, stamped_from};
 
 use crate::greeting::push_reply;
 use crate::groups::{channel_names, grouped};
-use crate::others::push_apart;
-use crate::packet::Packet;
-use crate::playing::Playing;
+use crate::others::{is_visiting, push_apart, push_visits};
+use crate::playing::{Offset, Playing};
+use crate::times::{Day, Minute, day_of, push_with_stamp, shown_at};
 use client_caps::Caps;
 use history::Entry;
+use hub_ends::Packet;
 use irc_line::write_line;
 use net_view::{NetworkView, OutOfMemory};
 use std::alloc::Allocator;
@@ -83,8 +85,8 @@ fn push_entry<A: Allocator, B: Allocator>(
     )
 }
 
-/// Adds these messages.
-pub fn push_entries<A: Allocator + Copy, B: Allocator>(
+/// Adds these messages, as they are.
+fn push_entries<A: Allocator + Copy, B: Allocator>(
     text: &mut Vec<u8, A>,
     caps: Caps,
     batch: Option<&[u8]>,
@@ -99,6 +101,117 @@ pub fn push_entries<A: Allocator + Copy, B: Allocator>(
         push_entry(text, &mut tags, caps, batch, entry)?;
     }
     Ok(())
+}
+
+/// Adds a line of a message with this text.
+fn push_text<A: Allocator>(
+    text: &mut Vec<u8, A>,
+    batch: Option<&[u8]>,
+    source: &[u8],
+    command: &[u8],
+    target: &[u8],
+    said: &[u8],
+) -> Result<(), OutOfMemory>
+    ensures { OnOk result (text.new.items ≡ text.old.items ++ written
+        (line_of_parts (option_map (λ t. t.now) batch.entry) (Some source.now) command.now
+        (target.now ∷ said.now ∷ []))) }
+{
+    write_line(batch, Some(source), command, &[target, said], text)
+}
+
+/// Adds a message of a group with its time in its text. `said` is room for the text.
+#[tactic(auto, using(crate::proofs::Stamps::line_steps))]
+fn push_stamped_entry<A: Allocator, B: Allocator>(
+    text: &mut Vec<u8, A>,
+    said: &mut Vec<u8, A>,
+    caps: Caps,
+    batch: Option<&[u8]>,
+    before: Option<Day>,
+    at: Minute,
+    entry: &Entry<B>,
+) -> Result<(), OutOfMemory>
+    requires { caps.server_time ≡ false }
+    ensures { OnOk result (text.new.items ≡ text.old.items ++ written
+        (entry_line caps (option_to_list (option_map (λ t. t.now) batch.entry))
+        (stamped_entry before (Some at) entry.now))) }
+{
+    said.clear();
+    push_with_stamp(said, before, at, entry.text())?;
+    push_text(
+        text,
+        batch,
+        entry.source(),
+        entry.command(),
+        entry.target(),
+        said,
+    )
+}
+
+/// The same of a message whose time may be none; such a text stays as it is.
+fn push_timed_entry<A: Allocator, B: Allocator>(
+    text: &mut Vec<u8, A>,
+    said: &mut Vec<u8, A>,
+    caps: Caps,
+    batch: Option<&[u8]>,
+    before: Option<Day>,
+    at: Option<Minute>,
+    entry: &Entry<B>,
+) -> Result<(), OutOfMemory>
+    requires { caps.server_time ≡ false }
+    ensures { OnOk result (text.new.items ≡ text.old.items ++ written
+        (entry_line caps (option_to_list (option_map (λ t. t.now) batch.entry))
+        (stamped_entry before at entry.now))) }
+{
+    match at {
+        Some(at) => push_stamped_entry(text, said, caps, batch, before, at, entry),
+        None => push_entry(text, said, caps, batch, entry),
+    }
+}
+
+/// Adds the messages of a group with their times in their texts.
+#[tactic(auto, using(crate::proofs::Stamps::entry_steps))]
+fn push_stamped<A: Allocator + Copy, B: Allocator>(
+    text: &mut Vec<u8, A>,
+    offset: Offset,
+    caps: Caps,
+    batch: Option<&[u8]>,
+    entries: &[&Entry<B>],
+) -> Result<(), OutOfMemory>
+    requires { caps.server_time ≡ false }
+    ensures { OnOk result (text.new.items ≡ text.old.items ++ flat_map written
+        (map (entry_line caps (option_to_list (option_map (λ t. t.now) batch.entry)))
+        (stamped_from offset None (map (λ entry. entry.now) entries.now)))) }
+{
+    let mut said = Vec::new(*text.allocator());
+    let mut before = None;
+    for entry in entries {
+        let at = shown_at(offset, entry.time());
+        push_timed_entry(text, &mut said, caps, batch, before, at, entry)?;
+        before = day_of(at);
+    }
+    Ok(())
+}
+
+/// Adds the messages of a group, with their times in their texts for a client without server-time.
+#[tactic(auto, using(crate::proofs::Stamps::group_steps))]
+pub fn push_group_entries<A: Allocator + Copy, B: Allocator>(
+    text: &mut Vec<u8, A>,
+    times: Option<Offset>,
+    caps: Caps,
+    batch: Option<&[u8]>,
+    entries: &[&Entry<B>],
+) -> Result<(), OutOfMemory>
+    ensures { OnOk result (text.new.items ≡ text.old.items ++ flat_map written
+        (map (entry_line caps (option_to_list (option_map (λ t. t.now) batch.entry)))
+        (stamped times caps (map (λ entry. entry.now) entries.now)))) }
+{
+    if caps.server_time {
+        return push_entries(text, caps, batch, entries);
+    }
+    match times {
+        Some(offset) => push_stamped(text, offset, caps, batch, entries),
+        None => push_entries(text, caps, batch, entries),
+    }
 }
 
 /// Adds the beginning of a batch, as `:bnc BATCH +h0 chathistory #c`.
@@ -146,53 +259,59 @@ fn end_batch<A: Allocator + Copy>(text: &mut Vec<u8, A>, place: usize) -> Result
 /// Adds these messages with the tag of the batch of the channel at a place.
 fn push_tagged<A: Allocator + Copy, B: Allocator>(
     text: &mut Vec<u8, A>,
+    times: Option<Offset>,
     caps: Caps,
     place: usize,
     entries: &[&Entry<B>],
 ) -> Result<(), OutOfMemory>
     ensures { OnOk result (text.new.items ≡ text.old.items ++ flat_map written
-        (map (λ entry. entry_line caps (batch_tag place ∷ []) entry.now) entries.now)) }
+        (map (entry_line caps (batch_tag place ∷ []))
+        (stamped times caps (map (λ entry. entry.now) entries.now)))) }
 {
     let tag = format!(in *text.allocator(); "batch=h{place}")?;
-    push_entries(text, caps, Some(tag.as_bytes()), entries)
+    push_group_entries(text, times, caps, Some(tag.as_bytes()), entries)
 }
 
 /// Adds these messages as the batch of the channel at a place.
 fn push_batch<A: Allocator + Copy, B: Allocator>(
     text: &mut Vec<u8, A>,
+    times: Option<Offset>,
     caps: Caps,
     place: usize,
     name: &[u8],
     entries: &[&Entry<B>],
 ) -> Result<(), OutOfMemory>
     ensures { OnOk result (text.new.items ≡ text.old.items ++ flat_map written
-        (batch_of caps place name.now (map (λ entry. entry.now) entries.now))) }
+        (batch_of caps place name.now
+        (stamped times caps (map (λ entry. entry.now) entries.now)))) }
 {
     begin_batch(text, place, name)?;
-    push_tagged(text, caps, place, entries)?;
+    push_tagged(text, times, caps, place, entries)?;
     end_batch(text, place)
 }
 
 /// Adds the messages of the channel at a place, with batch between `:bnc BATCH +h0 chathistory #c`
-/// and `:bnc BATCH -h0`; nothing where there are none.
-#[tactic(auto, using(crate::proofs::PlaybackWhole::plain_backlog))]
+/// and `:bnc BATCH -h0`; nothing if there are none.
+#[tactic(auto, using(crate::proofs::Stamps::backlog_cases))]
 pub fn push_backlog<A: Allocator + Copy, B: Allocator>(
     text: &mut Vec<u8, A>,
+    times: Option<Offset>,
     caps: Caps,
     place: usize,
     name: &[u8],
     entries: &[&Entry<B>],
 ) -> Result<(), OutOfMemory>
     ensures { OnOk result (text.new.items ≡ text.old.items ++ flat_map written
-        (backlog_of caps place name.now (map (λ entry. entry.now) entries.now))) }
+        (backlog_of caps place name.now
+        (stamped times caps (map (λ entry. entry.now) entries.now)))) }
 {
     if entries.is_empty() {
         return Ok(());
     }
     if caps.batch {
-        push_batch(text, caps, place, name, entries)
+        push_batch(text, times, caps, place, name, entries)
     } else {
-        push_entries(text, caps, None, entries)
+        push_group_entries(text, times, caps, None, entries)
     }
 }
 
@@ -200,6 +319,7 @@ pub fn push_backlog<A: Allocator + Copy, B: Allocator>(
 #[tactic(auto, using(crate::proofs::PlaybackWhole::backlog_steps))]
 fn push_backlogs<A: Allocator + Copy, B: Allocator>(
     text: &mut Vec<u8, A>,
+    times: Option<Offset>,
     caps: Caps,
     names: &[&[u8]],
     groups: &[Vec<&Entry<B>, A>],
@@ -207,10 +327,10 @@ fn push_backlogs<A: Allocator + Copy, B: Allocator>(
     requires { length names.now ≤ length groups.now }
     ensures { OnOk result (text.new.items ≡ text.old.items ++ flat_map written
         (backlogs_of caps 0 (map (λ name. name.now) names.now)
-        (map (λ group. map (λ entry. entry.now) group.items) groups.now))) }
+        (map (λ group. stamped times caps (map (λ entry. entry.now) group.items)) groups.now))) }
 {
     for place in 0..names.len() {
-        push_backlog(text, caps, place, names[place], &groups[place])?;
+        push_backlog(text, times, caps, place, names[place], &groups[place])?;
     }
     Ok(())
 }
@@ -232,9 +352,11 @@ fn push_others<V: NetworkView, A: Allocator + Copy, B: Allocator>(
         (V.view view.now) (map (λ entry. entry.now) others.now)) else 0) < 2 ^ 64) }
 {
     if playing.private_batches && caps.batch {
-        push_apart(text, view, caps, first, others)
+        push_apart(text, playing, view, caps, first, others)
+    } else if is_visiting(playing, view) {
+        push_visits(text, playing, view, caps, others)
     } else {
-        push_entries(text, caps, None, others)
+        push_group_entries(text, playing.times, caps, None, others)
     }
 }
 
@@ -256,7 +378,7 @@ fn push_groups<V: NetworkView, A: Allocator + Copy, B: Allocator>(
         (map (λ name. name.now) names.now)
         (map (λ group. map (λ entry. entry.now) group.items) groups.now) < 2 ^ 64) }
 {
-    push_backlogs(text, caps, names, groups)?;
+    push_backlogs(text, playing.times, caps, names, groups)?;
     push_others(text, playing, view, caps, names.len(), &groups[names.len()])
 }
 
@@ -305,8 +427,8 @@ fn packet_of_playback<V: NetworkView, A: Allocator + Clone, B: Allocator>(
 /// The messages that a client missed, as [`playback`] has them, by a profile.
 ///
 /// With `private_batches` and the capability batch, the messages for no channel that we are on
-/// stand in batches too: those for each other channel, then those exchanged with each person or for
-/// each other target, both where their first one stands (our own choice). References are numbered
+/// come in batches too: those for each other channel, then those exchanged with each person or for
+/// each other target, both where their first one is (our own choice). References are numbered
 /// on from the channels that we are on:
 ///
 /// ```text
@@ -316,7 +438,30 @@ fn packet_of_playback<V: NetworkView, A: Allocator + Clone, B: Allocator>(
 /// :bnc BATCH -h1
 /// ```
 ///
-/// A message to us stands with those of its sender's nick. Nicks are compared by `ascii`, our own
+/// With `times` and without the capability server-time each text begins with its time in that zone:
+/// `[03:04] `, and for the first message of a channel or a group, and for one that came on another
+/// day than the one before it there, `[2020-01-02 03:04] `. In an ACTION it comes after that word;
+/// other CTCP, and a message whose time is none, stay as they are. So a line can be longer by up to
+/// 20 bytes:
+///
+/// ```text
+/// :bob!b@h PRIVMSG #c :[2020-01-02 03:04] hi all
+/// :bob!b@h PRIVMSG #c :\u{1}ACTION [03:05] waves\u{1}
+/// ```
+///
+/// With `visits` the messages for a channel that we are not on come between a JOIN and a PART of
+/// ours, so that a client has a window for them; a batch is inside. Without batches the other
+/// channels come before all that is for no channel. Both lines have our nick as it was spelled
+/// last; to find it, the members of our first channel are searched once for each of these
+/// channels:
+///
+/// ```text
+/// :Me JOIN #gone
+/// :bob!b@h PRIVMSG #gone :we have moved
+/// :Me PART #gone
+/// ```
+///
+/// A message to us comes with those of its sender's nick. Nicks are compared by `ascii`, our own
 /// nick and channels as the network compares names. If the nick is no word, there is no batch.
 pub fn playback_by<V: NetworkView, A: Allocator + Copy, B: Allocator>(
     alloc: A,
@@ -337,7 +482,7 @@ pub fn playback_by<V: NetworkView, A: Allocator + Copy, B: Allocator>(
 /// The messages that a client missed, arranged by channels: per channel in key order its messages,
 /// and then those that are for no channel that we are on, each the oldest first.
 ///
-/// With batch those of a channel stand in a batch of the type `chathistory`, whose reference is `h`
+/// With batch those of a channel are in a batch of the type `chathistory`, whose reference is `h`
 /// and the channel's place, counted from 0 (IRCv3 batch):
 ///
 /// ```text

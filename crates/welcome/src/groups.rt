@@ -48,7 +48,7 @@ pub fn channel_names<'v, V: NetworkView, A: Allocator>(
 }
 
 /// The place of the channel that the target names, counted from 0; the count of the names if it is
-/// none of them. The names stand in key order, so it is searched for in time of order log N.
+/// none of them. The names are in key order, so it is searched for in time of order log N.
 fn place_of(mapping: CaseMapping, names: &[&[u8]], target: &[u8]) -> usize
     requires { AreInKeyOrder mapping (map (λ name. name.now) names.now) }
     ensures place { result ≡ place_among mapping target.now (map (λ name. name.now) names.now) }
@@ -101,7 +101,7 @@ fn push_at<'e, A: Allocator, B: Allocator>(
 
 /// The entries by the channels that they are for, in the order of the names and each group oldest
 /// first, and last those that are for none of them. Each target is looked up once among the names,
-/// which stand in key order.
+/// which are in key order.
 #[tactic(auto, using(crate::proofs::PlaybackWhole::grouped_steps))]
 pub fn grouped<'e, A: Allocator + Copy, B: Allocator>(
     alloc: A,

@@ -1,4 +1,4 @@
-//! 353 RPL_NAMREPLY: the members of a channel, as many on a line as there is room for.
+//! 353 RPL_NAMREPLY: the members of a channel, each line with all that it has room for.
 
 ghost use Rattle.std.specs.Prelude.{◌≡◌, ◌++◌, ◌+◌, ◌∷◌, OnOk, map, nat_le, length, if◌then◌else◌};
 ghost use Rattle.std.specs.Prelude.{true, codes, take, []};
@@ -29,7 +29,7 @@ pub fn has_room(is_begun: bool, len: usize, word: &[u8]) -> bool
     !is_begun || word.len() < ROW_LIMIT && len < ROW_LIMIT - word.len()
 }
 
-/// Adds the symbol of a rank, where it has one.
+/// Adds the symbol of a rank, if it has one.
 fn push_symbol<V: NetworkView, A: Allocator>(
     word: &mut Vec<u8, A>,
     view: &V,
@@ -95,7 +95,7 @@ fn push_member<V: NetworkView, A: Allocator>(
     Ok(())
 }
 
-/// Adds a 353 of the channel of this name with a row of words, where the row is begun.
+/// Adds a 353 of the channel of this name with a row of words, if the row is begun.
 fn push_row<A: Allocator>(
     text: &mut Vec<u8, A>,
     nick: &[u8],
@@ -112,7 +112,7 @@ fn push_row<A: Allocator>(
     Ok(())
 }
 
-/// Adds a word to a row, with a space before it where the row is begun.
+/// Adds a word to a row, with a space before it if the row is begun.
 fn push_word<A: Allocator>(
     row: &mut Vec<u8, A>,
     is_begun: bool,
@@ -129,7 +129,7 @@ fn push_word<A: Allocator>(
 }
 
 /// Adds the 353 lines of the channel at place `i`, which has this name: as
-/// `:bnc 353 Me = #c :@+bob Me`. Members stand in key order.
+/// `:bnc 353 Me = #c :@+bob Me`. Members come in key order.
 pub fn push_names<V: NetworkView, A: Allocator + Copy>(
     text: &mut Vec<u8, A>,
     view: &V,

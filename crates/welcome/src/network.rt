@@ -1,4 +1,4 @@
-//! What tells a client of the network and its channels.
+//! What a client receives about the network and its channels.
 
 ghost use Rattle.std.specs.Prelude.{◌≡◌, ◌++◌, OnOk};
 ghost use Rattle.std.specs.List.{flat_map};

@@ -8,9 +8,9 @@ ghost use Rattle.welcome.specs.Offset.{offset_apart, utc};
 #[derive(Clone, Copy, Debug, PartialEq, Eq)]
 pub struct Offset {
     /// Whether the zone's time is before that of UTC.
-    is_before: bool,
+    pub(crate) is_before: bool,
     /// By how many minutes it is apart.
-    minutes: u16,
+    pub(crate) minutes: u16,
 }
 
 impl Offset {
@@ -41,12 +41,12 @@ impl Offset {
 /// How messages are played back to a client that missed them.
 #[derive(Clone, Copy, Debug, PartialEq, Eq)]
 pub struct Playing {
-    /// With the capability batch, messages for no channel that we are on stand in a batch for each
+    /// With the capability batch, messages for no channel that we are on come in a batch for each
     /// person or target, and not all together.
     pub private_batches: bool,
     /// Without the capability server-time, each message's text begins with its time in this zone.
     pub times: Option<Offset>,
-    /// Messages for a channel that we are not on stand between a JOIN and a PART of ours.
+    /// Messages for a channel that we are not on come between a JOIN and a PART of ours.
     pub visits: bool,
 }
 

@@ -1,5 +1,5 @@
-//! 005 RPL_ISUPPORT: the settings in force, as many tokens on a line as there is room for (isupport
-//! draft, section 2).
+//! 005 RPL_ISUPPORT: the settings in force, each line with all the tokens that it has room for
+//! (isupport draft, section 2).
 
 ghost use Rattle.std.specs.Prelude.{◌≡◌, ◌++◌, ◌+◌, ◌∷◌, [], ◌&&◌, IfOk, OnOk, map, nat_le, length};
 ghost use Rattle.std.specs.Prelude.{if◌then◌else◌, true, nat_eq, nat_lt, codes, option_map};
@@ -15,7 +15,7 @@ use irc_support::Support;
 use net_view::{NetworkView, OutOfMemory};
 use std::alloc::Allocator;
 
-/// How many tokens stand on a line at most, so that with the nick and the text it has no more than
+/// How many tokens a line has at most, so that with the nick and the text it has no more than
 /// fifteen parameters (RFC 2812, section 2.3).
 const TOKEN_LIMIT: usize = 12;
 
@@ -56,7 +56,7 @@ fn written_tokens<A: Allocator + Copy, B: Allocator>(
     Ok(texts)
 }
 
-/// Adds a 005 of these tokens, where there are any: as
+/// Adds a 005 of these tokens, if there are any: as
 /// `:bnc 005 Me NETWORK=Net CHANTYPES=# :are supported by this server`.
 fn push_tokens<'x, A: Allocator + Copy>(
     text: &mut Vec<u8, A>,
@@ -80,8 +80,8 @@ fn push_tokens<'x, A: Allocator + Copy>(
     push_reply(text, b"005", &params)
 }
 
-/// Whether the token goes onto a row of so many tokens that take `len` bytes. A token goes onto an
-/// empty row.
+/// Whether the token goes onto a row of this many tokens that take `len` bytes. A token goes onto
+/// an empty row.
 fn has_token_room(count: usize, len: usize, token: &[u8]) -> bool
     ensures { result ≡ (if nat_eq count 0 then true else
         nat_le (len + 1 + length token.now) 400 && nat_lt count 12) }
@@ -89,7 +89,7 @@ fn has_token_room(count: usize, len: usize, token: &[u8]) -> bool
     count == 0 || has_room(true, len, token) && count < TOKEN_LIMIT
 }
 
-/// Adds the 005 lines; none where there is no token.
+/// Adds the 005 lines; none if there is no token.
 pub fn push_settings<V: NetworkView, A: Allocator + Copy>(
     text: &mut Vec<u8, A>,
     view: &V,

@@ -7,8 +7,8 @@ ghost use Rattle.welcome.specs.Burst.{state_part_of};
 
 use crate::in_sight::push_in_sight;
 use crate::network::push_network;
-use crate::packet::Packet;
 use client_caps::Caps;
+use hub_ends::Packet;
 use net_view::{NetworkView, OutOfMemory};
 use std::alloc::Allocator;
 
@@ -43,7 +43,7 @@ fn packet_of_state<V: NetworkView, A: Allocator + Clone>(
     Packet::of_lines(text)
 }
 
-/// What tells a client that comes where it stands on the network, all of the burst but the
+/// What tells a client, when it attaches, where it is on the network, all of the burst but the
 /// playback, as far as its capabilities let it know. The view is ready.
 ///
 /// ```text
@@ -64,12 +64,12 @@ fn packet_of_state<V: NetworkView, A: Allocator + Clone>(
 ///
 /// The 005 lines have the network's settings, in order, at most 12 tokens and 400 bytes of them on
 /// a line, or one token; there is none without settings. From JOIN to 366 are the lines of a
-/// channel; channels, and the members in a 353, stand in the order of their keys, and a 353 has at
-/// most 400 bytes of words, or one word. 332 stands where there is a topic, and 324 where there are
+/// channel; channels, and the members in a 353, come in the order of their keys, and a 353 has at
+/// most 400 bytes of words, or one word. 332 comes if there is a topic, and 324 if there are
 /// modes, in the order of their letters' bytes. Without multi-prefix a member has the highest of
-/// its symbols alone. With extended-join a JOIN is `:Me JOIN #c account :`, with `*` where we have
+/// its symbols alone. With extended-join a JOIN is `:Me JOIN #c account :`, with `*` if we have
 /// no account. Last comes each person in sight whose account or away text is known, in the order of
-/// the keys: ACCOUNT stands only with account-notify, AWAY only with away-notify. The texts and
+/// the keys: ACCOUNT comes only with account-notify, AWAY only with away-notify. The texts and
 /// limits are our own.
 ///
 /// `OutOfMemory` if an allocation was refused, and for no other reason.

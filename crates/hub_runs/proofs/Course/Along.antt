@@ -107,6 +107,7 @@ module _ (b : Before) (start : WorldState) (all : List Event) (answers : List Re
     came_by (on.Attach caps name size) (reply.Attach (Err e)) w' are told h = s.came
     came_by (on.Attach caps name size) _ w' are told h = absurd h
     came_by (on.Detach id) r w' are told h = grind (arith, s.came)
+    came_by (on.Leave id number) r w' are told h = grind (arith, s.came)
     came_by e r w' are told h =
         by_event b.profile.keeping AllCame came_plain ds w.rest e (answer_of r) tt s.came
 

@@ -35,11 +35,11 @@ member channel key lines =
     if is_member rs c n then Some
     (ranks_that (rank_decided rs c n), spelling_of rs n, account_of rs n, away_of rs n) else None
 
--- a member with these ranks, spelled so, of whom no more is known
+-- a member with these ranks, spelled so, with no more known
 abbrev pub plain : List ℕ → String → Option (List ℕ × Option Text × Option Text × Option Text)
 plain ranks nick = Some (ranks, Some (codes nick), None, None)
 
--- whom of these people #c has
+-- which of these people #c has
 abbrev pub members : List String → List String → List String
 members people lines = filter (λ key. is_member (read lines) (codes "#c") (codes key)) people
 

@@ -1,8 +1,8 @@
--- The lines of channels and of persons bring a client to where the view stands.
+-- The lines of channels and of persons bring a client to where the view is.
 pub mod ChannelsRead
 unfoldable pub use ChannelsRead.*
 
--- ---- the lines of all channels, and their name lists where a client is on them
+-- ---- the lines of all channels, and their name lists when a client is on them
 
 module _ (v : View) (caps : Caps) where
   abbrev pub thin : Text → Channel → Channel
@@ -19,7 +19,7 @@ module _ (v : View) (caps : Caps) where
   get-put_all (e ∷ es) each cs c =
       grind (look_ups, get-put_all es each.1 (put cs e) c, is_same c e.0, each.0)
 
-  -- all channels put, where there were no others
+  -- all channels put, if there were no others
   pub all_put : (cs : fin.FinMap bytes_cmp Channel)
       → ((c : Text) → fin.get v.channels c ≡ None → fin.get cs c ≡ None) → fold put cs
       (fin.entries v.channels) ≡ thinned_channels (held caps) (highest_of v) v.channels
@@ -62,9 +62,9 @@ module _ (v : View) (caps : Caps) where
         (there.alike k ch n) ∙ h)) (λ is. facts_alike v (fin.insert cs k (thin k ch)) _ facts (λ n
         seen. grind (arith, get_read cs facts n, seen_alike_then n, there.spelled n, ok.spelled n)))
 
--- ---- the lines of persons tell what is known of them
+-- ---- the lines of persons say what is known of them
 
--- a person told of
+-- a person with this said
 abbrev pub tell : (Person → Person → Person) → (Text → Person) → Text × Person → Text → Person
 tell change facts e = changed_at e.0 (change e.1) facts
 
@@ -78,7 +78,7 @@ module _ (v : View) (change : Person → Person → Person)
       let rest = told_at es each.1 (tell change facts e) n p is in
       grind (arith, is_same n e.0, rest, again p (facts n), each.0, is)
 
-  -- each person of the view told of
+  -- each person of the view with this said
   pub all_told : (facts : Text → Person) (n : Text) (p : Person) → fin.get v.people n ≡ Some p
       → fold (tell change) facts (fin.entries v.people) n ≡ change p (facts n)
   all_told facts n p is =
@@ -87,8 +87,8 @@ module _ (v : View) (change : Person → Person → Person)
 
 -- ---- the lines of one person
 
--- what a person becomes by the burst, which tells what is known, and by the catch-up, which tells
--- also that nothing is; both where the capability lets it
+-- what a person becomes by the burst, which says what is known, and by the catch-up, which says
+-- also that nothing is; both if the capability lets it
 abbrev pub told_more : Caps → Person → Person → Person
 told_more caps q x = record x {
   account = option_or (cond caps.account_notify q.account None) x.account;
@@ -150,7 +150,7 @@ module _ (v : View) (sound : IsSound v) (m : Text) (p : Person) (found : fin.get
       (IsAway m away) _ (simp (told_of_away v.settings line refl, actor_is line refl, said)) (λ is.
       after_away _ is.sets is.sound.known m away ∙ person_changed v cs facts m (with_away away)))
 
-  -- ---- what the burst tells: what is known, where the capability lets it
+  -- ---- what the burst says: what is known, if the capability lets it
 
   more_account : (said : Option Text) → ForSome said IsAccount → Tells v cs m (line_of_person p
       (codes "ACCOUNT") said) (λ x. record x { account = option_or said x.account })
@@ -169,7 +169,7 @@ module _ (v : View) (sound : IsSound v) (m : Text) (p : Person) (found : fin.get
       (more_account (cond caps.account_notify p.account None) (λ t e. ok.account t (grind arith)))
       (more_away (cond caps.away_notify p.away None) (λ t e. ok.away t (grind arith))) (λ x. refl)
 
-  -- ---- what the catch-up tells: all that is known, and that nothing is
+  -- ---- what the catch-up says: all that is known, and that nothing is
 
   -- a line that is left out without a capability
   if_held : (b : Bool) (line : Parts) (change : Person → Person) → Tells v cs m (line ∷ []) change

@@ -1,8 +1,11 @@
 -- Entries are put into the groups of their channels, and what is said of these is the playback.
 pub mod InOrder
 unfoldable pub use InOrder.*
+use Rattle.std.proofs.Common.{Option}
+use Rattle.welcome.specs.Times.{stamped}
+use Rattle.welcome.specs.declared.playing.Offset.{Offset}
 
--- ---- lines said one behind the other
+-- ---- lines said one after the other
 
 pub ruleset said_steps = (common_steps, flat_map-append)
 
@@ -37,7 +40,7 @@ plain_backlog caps place name es b = grind (arith, b, lent_mapped (entry_line ca
 
 -- ---- what is put into the groups of the channels is the playback
 
--- the key of whom or what an entry is for
+-- the key of an entry's target
 abbrev pub key_in : View → EntryParts → Text
 key_in v e = key_by v.settings e.target
 
@@ -71,12 +74,13 @@ left_over v es = filter (λ e. not (is_for_a_channel v e)) es
 
 -- ---- the playback of the groups
 
-backlogs_are : (v : View) (caps : Caps)
-    (es rest : List EntryParts) (place : ℕ) (cs : List (Text × Channel)) → backlogs_of caps place
-    (names_in cs) (in_groups v es cs ++ rest ∷ []) ≡ flat_map (λ (at : ℕ × (Text × Channel)).
-    backlog_of caps at.0 at.1.1.name (filter (is_for v at.1.0) es)) (enumerate_from place cs)
-backlogs_are v caps es rest place [] = refl
-backlogs_are v caps es rest place (c ∷ cs) = rw (backlogs_are v caps es rest (place + 1) cs)
+backlogs_are : (v : View) (times : Option Offset) (caps : Caps) (es rest : List EntryParts)
+    (place : ℕ) (cs : List (Text × Channel)) → backlogs_of caps place (names_in cs)
+    (map (stamped times caps) (in_groups v es cs ++ rest ∷ [])) ≡ flat_map (λ (at : ℕ × (Text
+    × Channel)). backlog_of caps at.0 at.1.1.name (stamped times caps (filter (is_for v at.1.0) es)))
+    (enumerate_from place cs)
+backlogs_are v times caps es rest place [] = refl
+backlogs_are v times caps es rest place (c ∷ cs) = rw (backlogs_are v times caps es rest (place + 1) cs)
 
 last_is : (v : View) (es rest : List EntryParts) (cs : List (Text × Channel))
     → slice_index_or (in_groups v es cs ++ rest ∷ []) (length (names_in cs)) [] ≡ rest
@@ -123,7 +127,7 @@ module _ (v : View) (items : List Arrival) (is : v ≡ view_of items) where
       let cs = fin.entries v.channels in
       rw (
         grouped_right entries,
-        backlogs_are v caps entries left 0 cs,
+        backlogs_are v playing.times caps entries left 0 cs,
         last_is v entries left cs,
         length-map cs (λ (e : Text × Channel). e.1.name),
       )

@@ -1,8 +1,8 @@
 -- What the burst says of the state, and name lists, can be written.
-pub mod PacketBytes
-unfoldable pub use PacketBytes.*
+pub mod WrittenWords
+unfoldable pub use WrittenWords.*
 
--- ---- lines that can be written: middles and, behind them, a text
+-- ---- lines that can be written: middles and, after them, a text
 
 abbrev pub IsFit : Parts → Type 0
 IsFit line = is_writable line ≡ true
@@ -14,7 +14,7 @@ IsMiddle p = (is_word p && is_clean p) ≡ true
 pub middle : (p : Text) → is_word p ≡ true → is_clean p ≡ true → IsMiddle p
 middle p w c = rw w c
 
--- a text behind middles
+-- a text after middles
 then_text : (middles : List Text) (text : Text) → Each IsMiddle middles → is_clean text ≡ true
     → are_params (middles ++ text ∷ []) ≡ true
 then_text [] text each h = h
@@ -45,17 +45,17 @@ token_middle (name, value) g = by_name name value g.name g.value where
       let all = good_joined (b ∷ text) (61 ∷ value) all v in
       grind (arith, good_word b (text ++ 61 ∷ value) colon all)
 
--- ---- the lines that tell the state can be written
+-- ---- the lines that give the state can be written
 
 -- a view of lines that can be written
 abbrev pub IsFromLines : View → Type 0
 IsFromLines v = (items : List Arrival) × AreWritten items × (v ≡ view_of items)
 
 module _ (v : View) (from : IsFromLines v) (caps : Caps) where
-  sound : IsSound v
+  pub sound : IsSound v
   sound = rw from.2 (view_sound from.0)
 
-  clean : IsCleanView v
+  pub clean : IsCleanView v
   clean = rw from.2 (views_are_clean from.0 from.1)
 
   tokens : AreGoodTokens v.settings
@@ -161,7 +161,7 @@ module _ (v : View) (from : IsFromLines v) (caps : Caps) where
       let rest = joined IsFit _ _ channels people in joined IsFit
       (greeting_of v) _ greeting (joined IsFit (settings_lines v) _ (settings_fit src) (end, rest))
 
-  -- all lines of the catch-up, behind a line that can be written
+  -- all lines of the catch-up, after a line that can be written
   pub catchup_written : (ack : Parts) → IsFit ack → AreLines (ack ∷ catchup_of v caps)
   unfolding catchup_of
   catchup_written ack can =

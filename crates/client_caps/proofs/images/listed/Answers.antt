@@ -14,7 +14,7 @@ highest_in settings line is =
     rw is (ap (join_with_byte 32) (map-map (highest_text settings) (split_word settings)
     (words_between (unwrap_or (slice_get line.params 3) []))))
 
--- parameter 3, where there is one, and nothing else
+-- parameter 3, if there is one, and nothing else
 put_at_3 : (f : Text → Text) (params : List Text) → 4 ≤ length params
     → with_param 3 (λ _. f (unwrap_or (slice_get params 3) [])) params ≡ with_param 3 f params
 put_at_3 f params h = grind arith

@@ -14,7 +14,7 @@ withdrawn_of : (name : Option Text) (m : NameMarks)
     → (if is_new_name name m then without_name name (with_name name m) else with_name name m) ≡ m
 withdrawn_of name m = grind (look_ups, removed_again m)
 
--- a call that admits a name, and withdraws it where it was new, changes nothing
+-- a call that admits a name, and withdraws it if it was new, changes nothing
 taken_back : (name : Option Text) (old mid new : NameMarks) (is_new : Bool)
     → is_new ≡ is_new_name name old → mid ≡ with_name name old
     → new ≡ (if is_new then without_name name mid else mid) → new ≡ old

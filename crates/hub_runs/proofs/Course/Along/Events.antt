@@ -1,6 +1,7 @@
 -- What an event does: it is answered what happened before it says, and the hub is as that says.
 pub mod OneEvent
 pub use OneEvent.*
+pub use Rattle.hub_core.specs.declared.detach.Seen.TheVariants as seen
 pub use Rattle.hub_runs.specs.declared.outcome.Reply.TheVariants as reply
 pub use Rattle.hub_runs.specs.{Course.gone_with, Replies.{Answer, OfAttach, OfDetach, OfDrain}}
 pub use Rattle.hub_runs.specs.{Replies.{OfLines, OfLoss, answer_of, answer_to}, Worlds.Happens}
@@ -22,12 +23,13 @@ came_items ds (x ∷ xs) =
 -- no session comes or goes
 abbrev pub Plain : Deed → Type 0
 Plain (Joined id name caps size) = ⊥
-Plain (Left id) = ⊥
+Plain (Left id seen) = ⊥
 Plain d = Unit {0}
 
 abbrev pub IsPlain : Event → Type 0
 IsPlain (on.Attach caps name size) = ⊥
 IsPlain (on.Detach id) = ⊥
+IsPlain (on.Leave id number) = ⊥
 IsPlain e = Unit {0}
 
 -- what is kept by all else is kept by an event
@@ -43,6 +45,7 @@ module _ (k : Kept) (P : List Deed → Type 0) (step : (d : Deed) (ds : List Dee
         by_items ds (lines_at (rest ++ bytes.items) moment.0) p
     by_event ds rest (on.Attach caps name size) a plain p = absurd plain
     by_event ds rest (on.Detach id) a plain p = absurd plain
+    by_event ds rest (on.Leave id number) a plain p = absurd plain
     by_event ds rest e a plain p = grind (arith, step)
 
 pub came_event : (k : Kept) (ds : List Deed) (rest : List ℕ) (e : Event) (a : Answer)
@@ -91,6 +94,13 @@ module _ (l : Limits) where
         does_same (by_event l.before.profile.keeping (Same ds) (λ d new plain same. grind arith) ds w.rest e (answer_of r)
         plain (refl, refl))
 
+  -- the outlet of a session that went was sent its packets
+  went : (ds : List Deed) (w : WorldState) (id : ℕ) (s : Seen) (o : OutletState) (mid : WorldState)
+      → Followed l ds w.hub → (d : SessionGoes s w.hub id o o.closed mid.hub) → mid.gone ≡ w.gone ++ o ∷ []
+      → sents w.gone ≡ gones ds → sents mid.gone ≡ gones (Left id s ∷ ds)
+  went ds w id s o mid f d gone all =
+      let here = session_at f id (around_gone d) in grind (arith, here, map-append, all, d, gone)
+
   pub event_done : (ds : List Deed) (w : WorldState) (e : Event) (r : Reply) (mid : WorldState)
       → Followed l ds w.hub → Happens e r w mid → Does ds w e r mid
   event_done ds w (on.Up bytes moment) (reply.Up pumped) mid f h =
@@ -111,14 +121,23 @@ module _ (l : Limits) where
       rw h.2 (does_same ds w _ _ w (refl, refl) refl f
       (ap OfAttach (refuses f (name_of name) size e h.0 h.1)) refl refl)
   event_done ds w (on.Detach id) (reply.Detach (Ok u)) mid f h = record {
-    followed = left f id h.0 _ mid.hub h.1;
+    followed = left f id seen.All h.0 _ mid.hub h.1;
     answer = ap OfDetach (sym (has f id (around_gone h.1)));
     rest = h.2;
-    gone = λ all. let here = session_at f id (around_gone h.1) in
-        grind (arith, here, map-append, all, h.1, h.3);
+    gone = λ all. went ds w id seen.All h.0 mid f h.1 h.3 all;
     numbers = λ ns all. append-nil ns ∙ all;
   }
   event_done ds w (on.Detach id) (reply.Detach (Err e)) mid f h =
+      let gone = lacks f id h.0 in
+      rw h.1 (does_same ds w _ _ w (refl, refl) refl f (rw gone refl) refl refl)
+  event_done ds w (on.Leave id number) (reply.Detach (Ok u)) mid f h = record {
+    followed = left f id (seen.UpTo number) h.0 _ mid.hub h.1;
+    answer = ap OfDetach (sym (has f id (around_gone h.1)));
+    rest = h.2;
+    gone = λ all. went ds w id (seen.UpTo number) h.0 mid f h.1 h.3 all;
+    numbers = λ ns all. append-nil ns ∙ all;
+  }
+  event_done ds w (on.Leave id number) (reply.Detach (Err e)) mid f h =
       let gone = lacks f id h.0 in
       rw h.1 (does_same ds w _ _ w (refl, refl) refl f (rw gone refl) refl refl)
   event_done ds w (on.Said id line moment) (reply.Said r) mid f h =

@@ -21,6 +21,9 @@ returns-in-Attach-clause-ok g c = rw c.in-Attach.is (c.join.ensures.ok _ _)
 pub returns-in-Detach-clause-ok : goal.returns-in-Detach-clause-ok
 returns-in-Detach-clause-ok g c = rw c.in-Detach.is (c.leave.ensures.ok _)
 
+pub returns-in-Leave-clause-ok : goal.returns-in-Leave-clause-ok
+returns-in-Leave-clause-ok g c = rw c.in-Leave.is (c.leave-in-Leave.ensures.ok _)
+
 pub returns-in-Said-clause-ok : goal.returns-in-Said-clause-ok
 returns-in-Said-clause-ok g c = rw c.in-Said.is (c.hear.ensures.ok _ _)
 

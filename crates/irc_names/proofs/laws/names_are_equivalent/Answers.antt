@@ -5,7 +5,7 @@ use Rattle.irc_names.specs.declared.case_mapping.CaseMapping.TheVariants.{Ascii,
 use Rattle.irc_names.specs.CaseMapping.{key_byte, key_of}
 use Rattle.irc_names.proofs.laws.names_are_equivalent.Goals as goal
 
--- what stands for a byte stands for itself
+-- the byte that represents a byte represents itself
 byte-twice : (m : CaseMapping) (b : ℕ) → key_byte m (key_byte m b) ≡ key_byte m b
 byte-twice Ascii b = grind (arith, nat_tests)
 byte-twice Rfc1459 b = grind (arith, nat_tests)

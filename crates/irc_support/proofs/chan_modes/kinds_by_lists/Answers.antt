@@ -8,11 +8,11 @@ use Rattle.std.proofs.{Common.unwrap_or, lemmas.{Bool.Decides.nat_tests, List.ge
 abbrev has_in : ℕ → Text → Bool
 has_in letter list = has_byte list letter
 
--- the text behind the first comma
+-- the text after the first comma
 abbrev behind : Text → Text
 behind value = unwrap_or (cut_at 44 value).1 []
 
--- the first list that a letter stands in is the one before the first comma, else one behind it
+-- the first list that has a letter is the one before the first comma, else one after it
 first_list : (letter place : ℕ) (value : Text) →
     position_from (has_in letter) place (lists_in value)
     ≡ cond (has_byte (cut_at 44 value).0 letter) (Some place)

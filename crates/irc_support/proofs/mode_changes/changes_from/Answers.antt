@@ -5,7 +5,7 @@ use Rattle.std.proofs.{Common.{refl, true, unwrap_or, ℕ}, Math.ListN.drop_of_l
 use Rattle.std.proofs.{Math.Seq.drop-append_seam, lemmas.{List.length-map, Map.Iter.rest_so_far}}
 use Rattle.std.specs.{Borrow.Bor, Iterator.{SkipsThenYields, YieldsFirstRef}}
 
--- `nth` gives the first of what stands from the place on, and leaves the rest
+-- `nth` gives the first of what comes from the place on, and leaves the rest
 changes-nth : (settings : List Token) (params : List Text) (place : ℕ) (found : Option (Bor Text))
     (left : List Text) (empty : Bor Text) → empty.now ≡ [] →
     SkipsThenYields (YieldsFirstRef (λ rest. rest)) params place found left →

@@ -6,7 +6,7 @@ unfoldable pub use LinesRead.*
 abbrev pub highest_of : View → Shown
 highest_of v c n rank = highest (λ r. had_rank r (old_member (fin.get v.channels c) n)) rank
 
--- a person of whom a name list has told, and our account where our JOIN tells it
+-- a person whom a name list has named, and our account if our JOIN gives it
 abbrev pub first_person : View → Caps → Text → Text → Person
 first_person v caps me n = record {
   spelled = known_at (λ p. p.spelled) v n;
@@ -104,7 +104,7 @@ module _ (v : View) (src : IsSource v) (caps : Caps) (k : Text) (ch : Channel)
   abbrev fresh : Channel
   fresh = fresh_channel ch.name us
 
-  -- the account that our JOIN tells
+  -- the account that our JOIN gives
   abbrev own_said : Option (Option Text)
   own_said = cond caps.extended_join (Some (known_at (λ p. p.account) v us)) None
 

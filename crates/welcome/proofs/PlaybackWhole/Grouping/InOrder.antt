@@ -85,7 +85,7 @@ module _ (mapping : CaseMapping) (target : Text) where
       (each_mapped (λ later. bytes_cmp (key_of mapping name.now) (key_of mapping later) ≡ Less)
       (λ (n : Bor Text). n.now) names order.0)) (climb names order.1)
 
-  -- the name whose key is the target's stands at the place
+  -- the name whose key is the target's is at the place
   pub found_there : (names : List (Bor Text)) (i : ℕ) (d : Bor Text)
       → AreInKeyOrder mapping (all_now names) → i < length names
       → lies (get_or names i d) ≡ Equal → i ≡ place_among mapping target (all_now names)
@@ -95,7 +95,7 @@ module _ (mapping : CaseMapping) (target : Text) where
       is_it names i d (omega arith) (λ k less. differs (get_or names k d) Less (rw key at (climb
       names order k i d less within))) (λ _. differs (get_or names i d) Equal e)) ∙ place_is names
 
-  -- where the search finds none, the target is none of the names
+  -- if the search finds none, the target is none of the names
   pub found_nowhere : (names : List (Bor Text)) (i : ℕ) (d : Bor Text)
       → AreInKeyOrder mapping (all_now names) → i ≤ length names → IsBinarySearchResult lies names
       (Err i) → length names ≡ place_among mapping target (all_now names)
@@ -119,7 +119,7 @@ names_above v key [] below keyed = tt
 names_above v key (c ∷ cs) below keyed =
     (rw keyed.0 (grind arith), names_above v key cs (grind arith) keyed.1)
 
--- the channels stand in the order of their names' keys
+-- the channels are in the order of their names' keys
 pub keyed_order : (v : View) (cs : List (Text × Channel)) → fin.is_sorted bytes_cmp cs ≡ true
     → AreKeyed v cs → AreInKeyOrder (mapping_of v.settings) (names_in cs)
 keyed_order v [] sorted keyed = tt

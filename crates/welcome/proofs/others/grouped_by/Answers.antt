@@ -1,7 +1,7 @@
 use Rattle.welcome.proofs.others.grouped_by.Goals as goal
 use Rattle.std.proofs.lemmas.List.{map_more}
 use Rattle.welcome.proofs.OthersGrouped.{groups_next, keys_next}
-use Rattle.welcome.proofs.Words.{arith, map, refl, take}
+use Rattle.welcome.proofs.Words.{arith, map, take}
 use Rattle.welcome.specs.Playing.{group_key}
 
 pub loop-entry-preserved : goal.loop-entry-preserved

@@ -16,5 +16,6 @@ returns-clause-bounded g c =
       sessions = c.self.invariant.0.seated;
       names = c.count-names.ensures.few;
       targets = c.target_count-targets.ensures.few;
+      persons = c.person_count-persons.ensures.few;
       messages = c.can_come_again.ensures;
     })

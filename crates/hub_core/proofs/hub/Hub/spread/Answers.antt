@@ -1,6 +1,7 @@
 use Rattle.hub_core.proofs.hub.Hub.spread.Goals as goal
 use Rattle.hub_core.proofs.hub.Hub.spread.Given
-use Rattle.hub_core.proofs.{Kept.{entry_is_message, said_content, spread_chosen, spread_is_message}, Running.{online_owned, said_on}}
+use Rattle.hub_core.proofs.{Kept.{content_in, ring_is_said, said_content, said_in, said_is_message}, Running.{online_owned, said_on}}
+use Rattle.hub_core.proofs.{Kept.{spread_chosen, spread_is_message}, Words.{EntryParts, Option, Text, option_map, ◌∙◌}}
 use Rattle.hub_core.proofs.{WishesLemmas.asks_nothing}
 use Rattle.hub_core.proofs.Seats.{remain_sent, seated}
 use Rattle.hub_core.proofs.{Unread.{each_fits_unread, given_unread, said_unread}, Words.{◌∷◌, ◌≡◌}}
@@ -9,7 +10,7 @@ use Rattle.hub_core.proofs.Words.{Session, SessionState, Some, View, [], entry_f
 use Rattle.hub_core.proofs.Words.{is_message, is_spread_by, true}
 use Rattle.hub_core.proofs.Words.{heard, hub_of, length-map, map, packet_for, refl, state_of, sym}
 use Rattle.{hub_core.proofs.Words.{time_text_of, view_now, with_entry}, irc_line.specs.Tags.time_of}
-use Rattle.{hub_core.specs.Saying.{own_line, own_message, sent_up}, std.proofs.Common.unwrap_or}
+use Rattle.{hub_core.specs.Saying.{entry_said, own_line, own_message, sent_up}, std.proofs.Common.unwrap_or}
 
 module _ (g : Given.Over) (c : goal.Joined-own-3 g) where
   abbrev state : Session g.row.O.Denot → SessionState
@@ -45,11 +46,12 @@ module _ (g : Given.Over) (c : goal.Joined-own-3 g) where
       rw (e, ← c.prepare_item.ensures.states) (c.deliver.ensures.all _
       (rw c.in_ok-from_us.ensures at c.in_ok-entry.ensures.coming))
 
-  made : c.in_ok-entry.entry ≡ entry_for (Received own, c.args.moment.0)
-  made = rw c.in_ok-from_us.ensures at c.in_ok-entry.ensures.made
+  abbrev entry : Option EntryParts
+  entry = entry_said old.profile.keeping (Some (Received own, c.args.moment.0))
 
-  kept : new.history ≡ with_entry old.history (entry_for (Received own, c.args.moment.0))
-  kept = rw (← made) c.in_ok-keep.ensures.ok
+  -- when it came
+  abbrev time : Text
+  time = unwrap_or (time_of own) (time_text_of c.args.moment.0)
 
   -- what is spread is a message
   spread : is_spread_by old.profile.keeping view c.args.line.now ≡ true
@@ -57,6 +59,15 @@ module _ (g : Given.Over) (c : goal.Joined-own-3 g) where
 
   message : is_message c.args.line.now ≡ true
   message = spread_is_message old.profile.keeping view c.args.line.now spread
+
+  made : c.in_ok-entry.entry ≡ entry
+  made =
+      (rw c.in_ok-from_us.ensures at c.in_ok-entry.ensures.made)
+      ∙ said_in old.profile.keeping time own.source own
+      (option_map (λ name. name.now) c.ring_said-ring.result) message c.ring_said-ring.ensures
+
+  kept : new.history ≡ with_entry old.history entry
+  kept = rw (← made) c.in_ok-keep.ensures.ok
 
   forwards : Forwards g.O.Outlet.alone old c.args.id c.args.line.now c.args.moment.0 new
   forwards = record {
@@ -78,15 +89,15 @@ module _ (g : Given.Over) (c : goal.Joined-own-3 g) where
 pub invariant_of-self-2 : goal.invariant_of-self-2
 invariant_of-self-2 g c = (
   let x : Came = (Received (own g c), c.args.moment.0) in
-      said_on (old g c) (view g c) c.self.inside.online _ _ _ _ (entry_for x)
+      let k = (old g c).profile.keeping in
+      let same = content_in k (entry_for x) in
+      said_on (old g c) (view g c) c.self.inside.online _ _ _ _ (entry g c)
       (sent_up c.args.line.now ∷ []) c.self.invariant.0 (kept g c) (forwards g c).upstream.sent
-      (said_content (unwrap_or (time_of (own g c)) (time_text_of c.args.moment.0)) (own g c).source
-      (own g c) (message g c) (sourced g c))
-      (λ some. rw (← c.self.view_is) at c.requires.number) (entry_is_message x)
+      (said_content (time g c) (own g c).source (own g c) (message g c) (sourced g c) ∙ sym same)
+      (λ some. rw (← c.self.view_is) at c.requires.number) (said_is_message k (Some x))
       (rw (made g c) at c.in_ok-entry.ensures.written)
-      (spread_chosen (old g c).profile.keeping (view g c)
-      (unwrap_or (time_of (own g c)) (time_text_of c.args.moment.0)) (own g c).source
-      (own g c) (spread g c))
+      (rw same (spread_chosen k (view g c) (time g c) (own g c).source (own g c) (spread g c)))
+      (ring_is_said k (entry_for x))
       (each_fits_unread g.O.Outlet.alone (heard (old g c))
       (given_but (Some c.args.id) (packet_for (view g c) x)) (old g c).sessions _
       (given_unread (Some c.args.id) (packet_for (view g c) x)

@@ -1,4 +1,4 @@
--- What is got under each key, line by line, and what the lines of the greeting tell a view.
+-- What is got under each key, line by line, and what the lines of the greeting say to a view.
 pub mod WordsRead
 unfoldable pub use WordsRead.*
 use Rattle.net_view.proofs.Commands
@@ -56,7 +56,7 @@ module _ {X S : Type 0} (m : fin.FinMap bytes_cmp X) (state : S → View) (lines
       (flat_map (λ (e : Text × X). lines e.1) (fin.entries m)) (state (fold step s (fin.entries m)))
   all_lead = some_lead (fin.entries m) (all_in m)
 
--- ---- the greeting brings a client to where the view stands, on no channel
+-- ---- the greeting brings a client to where the view is, on no channel
 
 -- welcomed under this nick, with these settings
 abbrev settling : Text → List Token → View

@@ -1,19 +1,21 @@
 -- A hub over ends in memory is as what happened says: each step keeps that.
 pub mod Present
 unfoldable pub use Present.*
-pub use Rattle.hub_core.proofs.{Each.each_at, Kept.{entry_is_message, kept_is_message, messages_stay}}
+pub use Rattle.hub_core.proofs.{Each.each_at, Kept.{kept_is_message, messages_stay, said_is_message}}
 pub use Rattle.hub_core.specs.Saying.{is_spread, is_spread_by}
 pub use Rattle.hub_runs.specs.{Replies.spoken}
 pub use Rattle.history.specs.{Entry.is_message, Keeping.Kept}
 pub use Rattle.hub_core.proofs.{Kept.missed_are_messages, Running.{is_ready, less_none}}
-pub use Rattle.hub_core.specs.Attaching.{Attaches, Detaches, last_number, missed}
+pub use Rattle.hub_core.specs.Attaching.{Attaches, Goes as SessionGoes, last_number, left_by, mark_at, missed}
+pub use Rattle.hub_core.specs.declared.detach.Seen.{Seen}
 pub use Rattle.hub_core.specs.{Given.with_outlet, InMemory.{DrainsAt, DrainsUpstream}}
 pub use Rattle.hub_core.specs.{Pumping.{Comes, entry_kept}, Running.AreMessages, Saying.Answers}
 pub use Rattle.hub_core.specs.Saying.{Cuts, Forwards, after_answer, answer_packet, entry_said}
 pub use Rattle.hub_core.specs.{Saying.{sent_up, with_sessions}, States.heard}
 pub use Rattle.hub_core.specs.declared.hub.Pumped.TheVariants.{Nothing, Taken}
 pub use Rattle.{hub_ends.specs.Came.arrivals, hub_runs.specs.Course.{kept_then, mark_then}}
-use Rattle.std.proofs.Common.{if◌then◌else◌}
+use Rattle.hub_core.specs.States.{ProfileParts}
+use Rattle.std.proofs.Common.{ap, if◌then◌else◌, ◌∙◌}
 pub use Rattle.{hub_runs.specs.Course.{came_back, message_said, messages, view_then}, std.proofs.Common.inl}
 pub use Rattle.std.proofs.lemmas.List.{length-reverse, reverse-append, reverse-reverse}
 
@@ -36,8 +38,8 @@ the_one : (h : HubState) (x y : Came) (later : List Came) → h.held ≡ None �
 the_one h x y later held ahead comes = grind arith
 
 -- the session that goes
-abbrev pub around_gone : {h : HubState} {id : ℕ} {o : OutletState} {told : Option ℕ} {new : HubState}
-    → Detaches h id o told new → Around h id
+abbrev pub around_gone : {seen : Seen} {h : HubState} {id : ℕ} {o : OutletState} {told : Option ℕ}
+    {new : HubState} → SessionGoes seen h id o told new → Around h id
 around_gone d = record {
   front = d.front;
   here = d.gone;
@@ -118,11 +120,13 @@ module _ {l : Limits} {ds : List Deed} {h : HubState} (f : Followed l ds h) wher
         alike = grind (arith, k.is_sent, now_seen);
         tells = λ t. told_quiet _ _ _ _ t _ (said_to_others h id line moment s);
       } in
-      rw w.others (followed_by d _ (entry_said own) refl f.held f.ahead f.taken
+      let k = l.before.profile.keeping in
+      rw w.others (followed_by d _ (entry_said k own) refl f.held f.ahead f.taken
       (seated_on l _ _ _ _ f.seated (refl, (λ known. refl), refl) refl f.seated.known
       (goes_delivered l _ _ _ gets h.sessions new.sessions f.seated.sit w.sessions))
-      w.history (grind (arith, own_is)) (λ some. w.number (grind (arith, some)))
-      (grind (arith, entry_is_message))
+      (w.history ∙ ap (λ (p : ProfileParts). with_entry h.history (entry_said p.keeping own)) f.profile)
+      (grind (arith, own_is)) (λ some. w.number (grind (arith, some)))
+      (said_is_message k own)
       (ups_one f.ups d _ (sent_up line ∷ []) refl refl w.upstream) f.marks)
 
   -- it is a message that is not kept
@@ -222,20 +226,31 @@ module _ {l : Limits} {ds : List Deed} {h : HubState} (f : Followed l ds h) wher
       sessions_on _ _ refl refl (refl, (λ known. refl), refl) refl refl (λ n. refl)
       (all_still l _ _ (λ n. inr e) h.sessions f.seated.sit)
 
-  pub left : (id : ℕ) (o : OutletState) (told : Option ℕ) (new : HubState) → Detaches h id o told new
-      → Followed l (Left id ∷ ds) new
-  left id o told new d =
+  -- its name, which is known, has the mark that it left
+  mark_after : (id : ℕ) (seen : Seen) (s : SessionState) → session_then id ds ≡ Some (s.name, s.caps)
+      → Known h.marks s.name → (n : Text)
+      → mark_of n (marked s.name (left_by seen (last_number h.history) (mark_at s.name h.marks)) h.marks)
+      ≡ mark_then l.before n (Left id seen ∷ ds)
+  mark_after id seen s joined named n =
+      let by = λ (mark : Option ℕ). left_by seen (last_number h.history) mark in
+      let same = ap (option_and_then (λ (j : Option Text × Caps). j.0)) (sym joined) in
+      left_mark h.marks s.name by n named
+      ∙ (λ k. mark_left n (same k) (left_by seen (last_number (f.history k)) (f.marks n k)) (f.marks n k))
+
+  pub left : (id : ℕ) (seen : Seen) (o : OutletState) (told : Option ℕ) (new : HubState)
+      → SessionGoes seen h id o told new → Followed l (Left id seen ∷ ds) new
+  left id seen o told new d =
       let s = d.gone in
       let joined : session_then id ds ≡ Some (s.name, s.caps) =
       grind (arith, d.number, session_at id (around_gone d)) in
       let known = is_named l.before.names id ds s.name (rw joined refl) in
       let named : Known h.marks s.name = grind (arith, known, f.seated.known.each) in
-      let last = last_number h.history in
-      rw d.is (alone_on (Left id) _ _ _ refl refl (refl, (λ known. refl), refl)
+      let mark = left_by seen (last_number h.history) (mark_at s.name h.marks) in
+      rw d.is (alone_on (Left id seen) _ _ _ refl refl (refl, (λ known. refl), refl)
       (goes_around l _ _ h id (around_gone d) None (λ n e. e) f.seated
       (grind (arith, nat_tests, d.number))) (ups_quiet f.ups _ refl refl)
-      (known_marked (names_then l.before.names ds) h.marks s.name last named f.seated.known) (λ name.
-      grind (arith, marked_mark h.marks s.name last name named, f.marks name, f.history, joined)))
+      (known_marked (names_then l.before.names ds) h.marks s.name mark named f.seated.known)
+      (mark_after id seen s joined named))
 
   -- the burst of the session of a number
   pub burst_is : (caps : Caps) (name : Option Text) (size id : ℕ)

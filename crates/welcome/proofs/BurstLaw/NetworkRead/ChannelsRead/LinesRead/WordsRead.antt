@@ -20,7 +20,7 @@ modes_set : (settings : List Token) (modes : List (ℕ × Option Text))
 modes_set settings [] each = (tt, refl)
 modes_set settings (m ∷ modes) each = grind (arith, each.0, modes_set settings modes each.1)
 
--- what the letters behind a plus and their parameters change
+-- what the letters after a plus and their parameters change
 pub changes_read : (settings : List Token) (modes : List (ℕ × Option Text))
     → Each (IsWritten settings) modes → filter_map
     (mode_change settings) (changes settings (mode_params modes)) ≡ map shown_mode modes
@@ -28,7 +28,7 @@ changes_read settings modes each =
     let set = modes_set settings modes each in
     rw (spelled_modes.changes_read settings modes set.0) set.1
 
--- a channel's modes as the list of them tells them
+-- a channel's modes as the list of them gives them
 pub modes_listed : (m : fin.FinMap nat_cmp (Option Text)) (letter : ℕ) → unwrap_or
     (last_in (setting_of letter) (map shown_mode (fin.entries m))) None ≡ fin.get m letter
 modes_listed m letter =
@@ -126,7 +126,7 @@ module _ (v : View) (mp : Bool) (members : fin.FinMap bytes_cmp (List ℕ)) wher
     member_listed None before h = grind arith
     member_listed (Some r) before h = ap Some (ranks_alike _ _ (has-ranks _))
 
-  -- the view after the list, where the channel was known with some of these members
+  -- the view after the list, if the channel was known with some of these members
   module _ (w : View) (sets : HasSets w) (k : Text) (before : Channel) (there : fin.get w.channels k
       ≡ Some before) (within : (n : Text) → is_some (fin.get before.members n) ≡ true
       → is_some (fin.get members n) ≡ true) (read : fin.FinMap bytes_cmp (List ℕ))

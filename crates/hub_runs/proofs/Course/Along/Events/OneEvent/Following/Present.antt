@@ -55,7 +55,7 @@ Misses (Passed k line) id = ⊥
 Misses (Drained count) id = Unit {0}
 Misses (Asked k line) id = ((k == id) ≡ false) ⊎ (meaning line ≡ means.Nothing)
 Misses (Joined k name caps size) id = (k == id) ≡ false
-Misses (Left k) id = (k == id) ≡ false
+Misses (Left k seen) id = (k == id) ≡ false
 Misses (Drew k count) id = (k == id) ≡ false
 
 put_on : (p : Option (List Parts)) (o o' : OutletState) → Sends true o p o' → o.free ≤ o.capacity
@@ -72,7 +72,7 @@ module _ (l : Limits) where
   abbrev pub story : ℕ → List Deed → Story
   story id ds = (packets l.before id ds, outlet_then id ds, session_then id ds)
 
-  -- What it was sent and what waits for it is as what happened says, and tells its client what it
+  -- What it was sent and what waits for it is as what happened says, and gives its client what it
   -- is to know. Packets wait in all places of its outlet that are not free.
   pub record Sits (ds : List Deed) (s : SessionState) : Type 0 where
     pub is_sent : IsSent l.before ds s
@@ -203,7 +203,7 @@ module _ (l : Limits) where
       let more = rise_more s.id in
       grind (arith, id, here, still, all, rise, more, lacks_below, map-append, k, are, next, known)
 
--- where no session has the number, it isn't there
+-- if no session has the number, it isn't there
 pub absent : (id : ℕ) (ds : List Deed) → list_any (λ k. k == id) (there ds) ≡ false
     → outlet_then id ds ≡ None
 absent id [] e = refl

@@ -82,7 +82,7 @@ pub people_alike : (cs ds : fin.FinMap bytes_cmp Channel) (f g : Text → Person
     → ((n : Text) → is_seen ds n ≡ true → f n ≡ g n) → people_read cs f ≡ people_read ds g
 people_alike cs ds f g seen alike = same_by_keys (λ n. grind (arith, get_read, seen n, alike n))
 
--- a person changed, where seen
+-- a person changed, if seen
 abbrev pub changed_at : Text → (Person → Person) → (Text → Person) → Text → Person
 changed_at m change facts n = cond (same n m) (change (facts n)) (facts n)
 
@@ -157,7 +157,7 @@ leading_to one is_next = record {
       ∙ is_next (subst IsView is (record { sets = view_sets items; sound = view_sound items }));
 }
 
--- a line of which is known what it tells
+-- a line with what it says known
 pub one_line : (w : View) (line : Parts) (t : Told) (u : View)
     → told w.settings (Received line) ≡ t → (IsView w → after_told w t ≡ u) → Leads w (line ∷ []) u
 unfolding after

@@ -3,7 +3,7 @@ pub mod HoldingLaw
 unfoldable pub use HoldingLaw.*
 pub use Rattle.hub_ends.specs.Outlets.{Took as TookPacket}
 pub use Rattle.history.{proofs.LastMessages.one_more, specs.Marks.{NameMarks, bytes_cmp, mark_of}}
-pub use Rattle.{history.specs.Messages.{Messages, history_of}, hub_core.specs.Attaching.{marked, with_name}}
+pub use Rattle.{history.specs.Messages.{Messages, history_of}, hub_core.specs.Attaching.{mark_at, marked, with_name}}
 pub use Rattle.{hub_core.specs.Running.kept_on, hub_runs.specs.Ran.KeepsOn}
 pub use Rattle.hub_core.specs.{InMemory.Drains, Pumping.{Puts, pong_for, with_entry}}
 pub use Rattle.{hub_ends.specs.Outlets.OutletState, hub_runs.specs.Course.{Deed, Drained, Joined}}
@@ -32,7 +32,7 @@ module _ {up : ℕ} {ds : List Deed} {o : OutletState} (u : Ups up ds o) where
       → taken_out d ≡ 0 → TookPacket true o p o' → Ups up (d ∷ ds) o'
   ups_one d o' p one out t = grind arith
 
-  -- an item was taken, and answered where there was room
+  -- an item was taken, and answered if there was room
   pub ups_took : (x : Came) (o' : OutletState) (p : Option (List Parts)) → pong_for x.0 ≡ p
       → Puts true o p o' → Ups up (Took x ∷ ds) o'
   ups_took x o' p e puts = grind (arith, nat_tests, append-nil)
@@ -42,11 +42,11 @@ module _ {up : ℕ} {ds : List Deed} {o : OutletState} (u : Ups up ds o) where
       → Ups up (Drained taken ∷ ds) o'
   ups_drained o' most taken d = grind (arith, append-nil)
 
--- a message more, where there is one
+-- a message more, if there is one
 pub entry_more : (capacity first : ℕ) → KeepsOn (history_of capacity first)
 entry_more capacity first ms e number = grind (arith, append-nil, number, one_more capacity first)
 
--- so it does behind others
+-- so it does after others
 pub entry_on : (h : Messages) → KeepsOn (kept_on h)
 entry_on h [] None number = refl
 entry_on h [] (Some e) number = refl
@@ -68,6 +68,28 @@ pub marked_mark : (marks : NameMarks) (name : Option Text) (number : Option ℕ)
     → Known marks name
     → mark_of q (marked name number marks) ≡ mark_left q name number (mark_of q marks)
 marked_mark marks name number q known = grind (arith, get_put, is_same)
+
+-- another name keeps its mark
+other_mark : (q name : Text) (number before : Option ℕ) → eq_by_cmp bytes_cmp q name ≡ false
+    → mark_left q (Some name) number before ≡ before
+other_mark q name None before e = refl
+other_mark q name (Some number) before e = simp e
+
+-- the name gets the mark that the one of before gives
+pub left_mark : (marks : NameMarks) (name : Option Text) (by : Option ℕ → Option ℕ) (q : Text)
+    → Known marks name → mark_of q (marked name (by (mark_at name marks)) marks)
+    ≡ mark_left q name (by (mark_of q marks)) (mark_of q marks)
+left_mark marks None by q known = refl
+left_mark marks (Some name) by q known =
+    marked_mark marks (Some name) (by (mark_of name marks)) q known
+    ∙ go (eq_by_cmp bytes_cmp q name) refl where
+      go : (b : Bool) → eq_by_cmp bytes_cmp q name ≡ b
+          → mark_left q (Some name) (by (mark_of name marks)) (mark_of q marks)
+          ≡ mark_left q (Some name) (by (mark_of q marks)) (mark_of q marks)
+      go true same = rw (is_same q name same) refl
+      go false other =
+          other_mark q name (by (mark_of name marks)) (mark_of q marks) other
+          ∙ sym (other_mark q name (by (mark_of q marks)) (mark_of q marks) other)
 
 named_among : (names : List Text) (name : Option Text) (q : Text)
     → is_among q (with_new name names) ≡ (is_among q names || is_it q name)

@@ -53,7 +53,7 @@ at_once moment (s ∷ ss) = grind (arith, at_once moment ss)
 joined_more : (ps : List Piece) (p : Piece) → joined (ps ++ p ∷ []) ≡ joined ps ++ p.0
 joined_more ps p = simp (flat_map-append (λ (q : Piece). q.0) ps (p ∷ []), append-nil)
 
--- behind the rest of the pieces stand as many segments that an LF ends as the new one has LFs
+-- after the rest of the pieces come as many segments that an LF ends as the new one has LFs
 new_segments : (a b : List ℕ) → lfs b ≡ length (ended_of (rest_of a ++ b))
 new_segments a b =
     omega (arith, ap length (parts-append a b), length-append {A = List ℕ}, ended_lfs, lfs-append)
