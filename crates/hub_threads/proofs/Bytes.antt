@@ -18,18 +18,18 @@ pub wrote_part : (was now : Option (List ℕ)) (bytes left : List ℕ) (n : ℕ)
 wrote_part was now bytes left n w e =
     (take n bytes, w, rw e (take-append-drop n bytes))
 
--- a slice from a place to the end is all behind that place
+-- a slice from a place to the end is all after that place
 pub rest_whole : (i : ℕ) (xs : List ℕ) → take (length xs - i) (drop i xs) ≡ drop i xs
 rest_whole i xs = rw (← length-drop i xs) (take-length (drop i xs))
 
--- some of the bytes behind a place were written
+-- some of the bytes after a place were written
 pub wrote_from : (was now : Option (List ℕ)) (bytes : List ℕ) (i n : ℕ)
     → Appends was now (take n (take (length bytes - i) (drop i bytes)))
     → Wrote was now (drop i bytes) (drop (i + n) bytes)
 wrote_from was now bytes i n w = wrote_part was now (drop i bytes) (drop (i + n) bytes) n
     (rw (rest_whole i bytes) at w) (sym (drop-drop n i bytes))
 
--- what stands behind is left too
+-- what comes after is left too
 pub wrote_before : (was now : Option (List ℕ)) (bytes left behind : List ℕ)
     → Wrote was now bytes left → Wrote was now (bytes ++ behind) (left ++ behind)
 wrote_before was now bytes left behind w =
@@ -62,7 +62,7 @@ all_bytes_more ps p = rw (flat_map-append bytes_of ps (p ∷ []), append-nil (by
 
 module _ {was all : List Queued} {began out : Option (List ℕ)} {rest : List ℕ} {count : ℕ}
     (w : IsUnderWay was all began out rest count) where
-  -- a packet was taken: it is left to write, behind the rest
+  -- a packet was taken: it is left to write, after the rest
   pub under_way_more : {all' : List Queued} {rest' : List ℕ} {count' n : ℕ}
       → (p : List Parts) × (packets_in all' ≡ packets_in all ++ p ∷ [])
       × (rest' ≡ rest ++ bytes_of p) × (n ≡ length (bytes_of p))

@@ -1,4 +1,4 @@
--- The lines of a network that was read, and the loss behind them.
+-- The lines of a network that was read, and the loss after them.
 use Rattle.irc_line.specs.declared.input.InputEnd.TheVariants as input
 use Rattle.hub_threads.specs.declared.reading.ReadEnd.TheVariants as cause
 use Rattle.{hub_ends.specs.Came.{Came, arrivals}, hub_threads.specs.Reads.{IsReadCause, IsReadIn}}
@@ -15,7 +15,7 @@ arrivals_at : (moment : ℕ) (lines : List Parts)
 arrivals_at moment [] = refl
 arrivals_at moment (line ∷ lines) = rw (arrivals_at moment lines)
 
--- lines that were put at a moment have arrived, behind others
+-- lines that were put at a moment have arrived, after others
 pub arrived : (was mid now : List Came) (moment : ℕ) (before lines : List Parts)
     → arrivals mid ≡ arrivals was ++ map Received before → now ≡ mid ++ received_at moment lines
     → arrivals now ≡ arrivals was ++ map Received (before ++ lines)

@@ -15,6 +15,6 @@ abbrev pub left_in : Option Front → List ℕ
 left_in None = []
 left_in (Some front) = drop front.at (bytes_of front.packet)
 
--- the rest of the packet in front, then the bytes behind it, and last the packet that found no room
+-- the rest of the packet in front, then the bytes after it, and last the packet that found no room
 abbrev pub rest_of : Backlog → List ℕ
 rest_of backlog = left_in backlog.front ++ (backlog.batch.items ++ bytes_in backlog.held)

@@ -1,4 +1,4 @@
--- What stands in the ring of an outlet.
+-- What the ring of an outlet holds.
 use Rattle.std.specs.Prelude.{◌≡◌, ℕ, List, [], ◌∷◌, ◌++◌, Option, None, Some, Bool, true, false}
 use Rattle.std.specs.Prelude.{map, length}
 use Rattle.irc_line.specs.Line.{Parts}
@@ -29,7 +29,7 @@ abbrev pub MayFollow : List Queued → Queued → Type 0
 MayFollow before (Lines packet) = Unit {0}
 MayFollow before (Closing id count) = count ≡ counted (length before)
 
--- the closing item, if any, behind so many packets
+-- the closing item, if any, after this many packets
 abbrev pub closing : Option ℕ → ℕ → List Queued
 closing None n = []
 closing (Some id) n = Closing id (counted n) ∷ []

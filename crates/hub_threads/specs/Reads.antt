@@ -33,12 +33,12 @@ IsReadCause held refused left cause.TooLong = IsTrue (is_too_long (held.rest ++ 
 IsReadCause held refused left cause.OutOfMemory = Unit {0}
 IsReadCause held refused left cause.TurnsSpent = refused ≡ []
 
--- A network was read: from these pieces, one behind the other, and the splitter's rest, came the
+-- A network was read: from these pieces, one after the other, and the splitter's rest, came the
 -- lines that were put, in order, and then one loss, and nothing else.
 pub record IsReadIn (splitter : Pending) (was now : List Came) (began left : Option (List ℕ))
     (ended : ReadEnd) : Type 0 where
   pub pieces : List (List ℕ)
-  -- the piece that was refused, of which nothing was put; nothing, where none was
+  -- the piece that was refused, and put nothing; nothing, if none was
   pub refused : List ℕ
   pub read : Consumes began left (concat pieces ++ refused)
   pub put : arrivals now ≡ arrivals was ++ (map Received (lines_all splitter pieces) ++ Lost ∷ [])

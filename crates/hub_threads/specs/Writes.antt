@@ -15,7 +15,7 @@ use Rattle.hub_threads.specs.Queues.{packets_in, ended_by, is_nil, closed_in}
 use Rattle.hub_threads.specs.Rings.{items_of}
 use Rattle.hub_threads.specs.Turns.{are_over}
 
--- the written form of packets, one behind the other: their lines, each with CR LF (RFC 2812,
+-- the written form of packets, one after the other: their lines, each with CR LF (RFC 2812,
 -- section 2.3)
 abbrev pub all_bytes : List (List Parts) → List ℕ
 all_bytes packets = flat_map bytes_of packets
@@ -39,21 +39,21 @@ pub record IsWritten (was all : List Queued) (began out : Option (List ℕ)) (fr
   pub wrote : Wrote began out taken outcome
 
 -- What the types of a writer's answers keep: of what the writer has got, the last bytes are the
--- written form of the last packets that the end took, so many bytes; after a fault a beginning of it.
--- If none was taken before, these are all packets that it ever took.
+-- written form of the last packets that the end took, this many bytes; after a fault a beginning of
+-- it. If none was taken before, these are all packets that it ever took.
 abbrev pub KeepsWritten : List Queued → Option (List ℕ) → Bool → Result ℕ WriteFault → Type 0
 KeepsWritten all out fresh outcome =
     (was : List Queued) × (began : Option (List ℕ)) × IsWritten was all began out fresh outcome
 
--- Nothing more is to be written: the closing item was taken, as many takes of the writer in
--- succession gave nothing as may, or at the last look the other end was gone and nothing was left,
+-- Nothing more is to be written: the closing item was taken, the writer reached its limit of takes
+-- in succession that give nothing, or at the last look the other end was gone and nothing was left,
 -- or the sign to stop was up.
 abbrev pub IsOver : OutletEnd → Turns → Type 0
 IsOver end idle =
     IsSome (closed_in (items_of end)) ⊎ (IsTrue (are_over idle end.misses) ⊎ (end.left ≡ true))
 
 -- A session's end was seen whole: all that the end ever took is packets, and then the closing item
--- of this session with their count; and the writer got the written form of all of them, so many
+-- of this session with their count; and the writer got the written form of all of them, this many
 -- bytes.
 pub record IsWhole (id : ℕ) (all : List Queued) (began out : Option (List ℕ)) (count : ℕ)
     : Type 0 where

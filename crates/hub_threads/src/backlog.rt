@@ -44,7 +44,7 @@ fn append(batch: &mut Vec<u8>, bytes: &[u8])
     }
 }
 
-/// Removes so many bytes from the front.
+/// Removes this many bytes from the front.
 fn remove(batch: &mut Vec<u8>, count: usize)
     requires { count ≤ length batch.old.items }
     ensures { batch.new.items ≡ drop count batch.old.items }
@@ -53,7 +53,7 @@ fn remove(batch: &mut Vec<u8>, count: usize)
     batch.truncate(batch.len() - count);
 }
 
-/// Whether there is room for so many bytes after those of the batch; it may take memory for them
+/// Whether there is room for this many bytes after those of the batch; it may take memory for them
 /// if the batch may grow.
 fn has_room(batch: &mut Vec<u8>, count: usize, may_grow: bool) -> bool
     ensures items { batch.new.items ≡ batch.old.items }
@@ -118,7 +118,7 @@ impl Backlog {
         false
     }
 
-    /// Takes a packet, where none is held.
+    /// Takes a packet, if none is held.
     pub(crate) fn put(&mut self, packet: Packet)
         requires { self.old.held ≡ None }
         ensures { rest_of self.new ≡ rest_of self.old ++ bytes_of packet }
@@ -127,7 +127,7 @@ impl Backlog {
         self.settle();
     }
 
-    /// Writes what stands first, in one call. What it takes is left no more, and nothing else.
+    /// Writes what comes first, in one call. What it takes is left no more, and nothing else.
     pub(crate) fn write<W: Write>(&mut self, out: &mut W) -> Call
         ensures { (put : List ℕ) × Appends (W.contents out.old) (W.contents out.new) put ×
             (put ++ rest_of self.new ≡ rest_of self.old) }
@@ -140,7 +140,7 @@ impl Backlog {
         call
     }
 
-    /// Writes the rest of the packet that stood in front.
+    /// Writes the rest of the packet that was in front.
     fn write_front<W: Write>(&mut self, front: Front, out: &mut W) -> Call
         requires { self.old.front ≡ None }
         ensures { (put : List ℕ) × Appends (W.contents out.old) (W.contents out.new) put ×
@@ -162,7 +162,7 @@ impl Backlog {
         call
     }
 
-    /// Notes that a call left something; gives memory back where nothing is left.
+    /// Notes that a call left something; gives memory back if nothing is left.
     fn note(&mut self, call: Call)
         ensures { rest_of self.new ≡ rest_of self.old }
     {

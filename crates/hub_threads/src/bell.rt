@@ -18,7 +18,7 @@ pub struct Bell {
     parker: Parker,
     // the worker is the pump of a network, and waits for room in an outlet
     awaits_room: AtomicBool,
-    // the worker is the pump of a network, of which an outlet was left with little room
+    // the worker is the pump of a network, and one of its outlets was left with little room
     is_tight: AtomicBool,
     // the worker sleeps, or looks for work a last time before it does
     drowsy: AtomicBool,
@@ -31,7 +31,7 @@ pub struct Bell {
     written: AtomicU64,
 }
 
-/// A bell, in as many hands as need be.
+/// A bell, shared by any number of hands.
 pub type SharedBell = Arc<Bell, Global>;
 
 /// A bell that nobody has rung, of a worker that waits for no room.
@@ -125,7 +125,7 @@ impl Bell {
         self.is_ready.load(Ordering::SeqCst)
     }
 
-    /// Says that the writer has nothing left to write, of so many packets.
+    /// Says that the writer has nothing left to write, of this many packets.
     pub(crate) fn note_written(&self, count: u64) {
         self.written.store(count, Ordering::SeqCst);
     }

@@ -6,11 +6,12 @@ ghost use Rattle.hub_threads.specs.Rings.{items_of};
 ghost use Rattle.hub_threads.specs.declared.queued.Queued.{Queued};
 ghost use Rattle.hub_threads.specs.Writes.{IsOver, IsWhole, IsWritten, KeepsWritten};
 
-use crate::network::Network;
+use crate::network::{Network, RingHub};
 use crate::outlet_end::OutletEnd;
+use crate::outlet_ring::RingOutlet;
 use crate::writer::Given;
 use crate::writing::{WriteFault, Written};
-use hub_core::NoSession;
+use hub_core::{NoSession, Seen};
 use hub_ends::SessionId;
 use net_view::NetworkView;
 use std::io::Write;
@@ -35,18 +36,31 @@ pub struct Ended<W: Write> {
     ghost kept: { ∥ KeepsWritten (items_of end) (W.contents out) fresh written ∥₁ },
 }
 
-/// Detaches a session, and drops its outlet once the lock is free.
+/// Takes a session out of a hub; its client has seen this.
+fn take_out<V: NetworkView + Drop>(
+    hub: &mut RingHub<V>,
+    id: SessionId,
+    seen: Seen,
+) -> Result<RingOutlet, NoSession> {
+    match seen {
+        Seen::All => hub.detach(id),
+        Seen::UpTo(number) => hub.leave(id, number),
+    }
+}
+
+/// Takes a session out of its hub, and drops its outlet once the lock is free.
 fn detach<V: NetworkView + Drop, R: Wait>(
     rt: &R,
     network: &Network<V>,
     id: SessionId,
+    seen: Seen,
 ) -> Result<(), NoSession> {
-    let outlet = network.lock(rt).detach(id)?;
+    let outlet = take_out(&mut network.lock(rt), id, seen)?;
     drop(outlet);
     Ok(())
 }
 
-/// What is known of a session's end: what its writer handed back, where the hub had the session.
+/// What is known of a session's end: what its writer handed back, if the hub had the session.
 fn told<W: Write + Drop>(
     detached: Result<(), NoSession>,
     id: SessionId,
@@ -79,6 +93,27 @@ fn told<W: Write + Drop>(
     })
 }
 
+/// Ends a session; its client has seen this.
+fn end_by<V: NetworkView + Drop, W: Write + Drop, R: Threads + Wait>(
+    rt: &R,
+    network: &Network<V>,
+    id: SessionId,
+    seen: Seen,
+    writer: PromisedHandle<Written<W>, Given<W>>,
+) -> Result<Ended<W>, NoSession>
+    ensures token { IfOk result (λ e. IsTrue e.token
+        ↔ ((e.fresh ≡ true) × (closed_in (items_of e.end) ≡ Some id))) }
+    ensures written { IfOk result (λ e. IsWritten (items_of writer.promise.0.value) (items_of e.end)
+        (W.contents writer.promise.1.value) (W.contents e.out) e.fresh e.written) }
+    ensures over { IfOk result (λ e. IfOk e.written
+        (λ count. IsOver e.end writer.promise.2.value)) }
+    ensures whole { IfOk result (λ e. e.token ≡ true → IfOk e.written
+        (IsWhole id (items_of e.end) (W.contents writer.promise.1.value) (W.contents e.out))) }
+{
+    let detached = detach(rt, network, id, seen);
+    told(detached, id, writer.join(rt))
+}
+
 /// Ends a session: detaches it, drops its outlet, and waits for its writer, outside the lock.
 /// `NoSession` if the hub had no session of this number when its lock was taken: it waits for the
 /// writer then too, and drops what that hands back. The writer of a session that was cut ends by
@@ -98,6 +133,27 @@ pub fn end_session<V: NetworkView + Drop, W: Write + Drop, R: Threads + Wait>(
     ensures whole { IfOk result (λ e. e.token ≡ true → IfOk e.written
         (IsWhole id (items_of e.end) (W.contents writer.promise.1.value) (W.contents e.out))) }
 {
-    let detached = detach(rt, network, id);
-    told(detached, id, writer.join(rt))
+    end_by(rt, network, id, Seen::All, writer)
+}
+
+/// Ends a session whose client vanished, as `end_session` does, except that its name is left at the
+/// last message that the client surely received: the one of this number, if it is known, as
+/// `Hub::leave` has it.
+pub fn end_session_at<V: NetworkView + Drop, W: Write + Drop, R: Threads + Wait>(
+    rt: &R,
+    network: &Network<V>,
+    id: SessionId,
+    number: Option<u64>,
+    writer: PromisedHandle<Written<W>, Given<W>>,
+) -> Result<Ended<W>, NoSession>
+    ensures token { IfOk result (λ e. IsTrue e.token
+        ↔ ((e.fresh ≡ true) × (closed_in (items_of e.end) ≡ Some id))) }
+    ensures written { IfOk result (λ e. IsWritten (items_of writer.promise.0.value) (items_of e.end)
+        (W.contents writer.promise.1.value) (W.contents e.out) e.fresh e.written) }
+    ensures over { IfOk result (λ e. IfOk e.written
+        (λ count. IsOver e.end writer.promise.2.value)) }
+    ensures whole { IfOk result (λ e. e.token ≡ true → IfOk e.written
+        (IsWhole id (items_of e.end) (W.contents writer.promise.1.value) (W.contents e.out))) }
+{
+    end_by(rt, network, id, Seen::UpTo(number), writer)
 }

@@ -22,7 +22,7 @@ impl Front {
     ghost use Rattle.irc_line.specs.Writing.{bytes_of};
     ghost use Rattle.hub_threads.specs.Backlogs.{left_in};
 
-    /// One of which nothing was written.
+    /// One with nothing written.
     pub(crate) fn new(packet: Packet) -> Front
         ensures { left_in (Some result) ≡ bytes_of packet }
     {

@@ -1,8 +1,8 @@
-//! Where workers stand, and what time it is.
+//! Where workers are, and what time it is.
 
 use client_caps::Moment;
 
-/// Where a worker stands.
+/// Where a worker is.
 #[derive(Clone, Copy, Debug, PartialEq, Eq)]
 pub enum Point {
     /// Before a read.
@@ -35,7 +35,7 @@ impl Gate for FreeGate {
     fn pass(&self, _point: Point) {}
 }
 
-/// Tells the time: which moment it is, and how long something took.
+/// Says what time it is: which moment it is, and how long something took.
 pub trait Clock {
     /// The moment that it is now, by the clock that is set.
     fn now(&self) -> Moment;

@@ -116,7 +116,7 @@ fn empty(left: &mut Left) {
 }
 
 impl InletEnd {
-    /// Puts an item and wakes the pump, or hands it back where no slot is known to be free. It
+    /// Puts an item and wakes the pump, or hands it back if no slot is known to be free. It
     /// takes no lock and waits for nobody.
     pub fn put(&mut self, item: Item, moment: Moment) -> Result<(), (Item, Moment)>
         ensures ok { OnOk result (put_of self.new ≡ put_of self.old ++ came (item, moment) ∷ []) }
@@ -149,7 +149,7 @@ impl InletEnd {
         self.pump.ring();
     }
 
-    /// Takes out what nobody will take, where the other end was dropped; whether it was.
+    /// Takes out what nobody will take, if the other end was dropped; whether it was.
     fn empty_left(&mut self) -> bool
         ensures { put_of self.new ≡ put_of self.old }
     {
@@ -165,7 +165,7 @@ impl InletEnd {
         }
     }
 
-    /// Wakes the pump, and sleeps until it has taken half of what the ring holds; not at all where
+    /// Wakes the pump, and sleeps until it has taken half of what the ring holds; not at all if
     /// there is room already, or the other end was dropped, which makes room.
     pub(crate) fn wait_for_room<R: Wait>(&mut self, rt: &R)
         ensures { put_of self.new ≡ put_of self.old }
@@ -189,7 +189,7 @@ impl RingInlet {
         self.consumer.cached_slots() <= half && self.consumer.slots() <= half
     }
 
-    /// Takes the next item; `None` where there is none for now. It takes no lock and waits for
+    /// Takes the next item; `None` if there is none for now. It takes no lock and waits for
     /// nobody.
     pub fn take(&mut self) -> Option<(Item, Moment)>
         ensures item { MatchOption result

@@ -16,6 +16,7 @@ mod patience;
 mod pumping;
 mod queued;
 mod reading;
+mod receiving;
 mod slowness;
 mod stack;
 mod stop_sign;
@@ -26,7 +27,7 @@ mod writer;
 mod writing;
 
 pub use bell::{Bell, SharedBell, shared_bell};
-pub use ending::{Ended, end_session};
+pub use ending::{Ended, end_session, end_session_at};
 pub use gate::{Clock, FreeGate, Gate, Point};
 pub use hub_ends::OutOfMemory;
 pub use inlet_ring::{InletEnd, RingInlet, inlet, waiting};

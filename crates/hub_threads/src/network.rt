@@ -24,6 +24,7 @@ use hub_core::{Hub, Past, Profile, Pumped, Setup};
 use hub_ends::SessionId;
 use net_view::NetworkView;
 use std::alloc::{AllocError, Global};
+use std::sync::atomic::AtomicU64;
 use std::sync::{Arc, Mutex, MutexGuard, Wait};
 
 /// A hub whose ends are rings.
@@ -34,6 +35,8 @@ pub type RingHub<V> = Hub<V, RingInlet, RingOutlet>;
 pub struct Network<V: NetworkView + Drop> {
     hub: Mutex<Hub<V, RingInlet, RingOutlet>>,
     pump: SharedBell,
+    // when it was noted last what the sessions were sent
+    pub(crate) noted: AtomicU64,
 }
 
 /// What a thread did that takes items into a hub while its pump sleeps.
@@ -57,7 +60,7 @@ pub struct Started<V: NetworkView + Drop> {
 }
 
 impl<V: NetworkView + Drop> Network<V> {
-    /// A network of which nothing came: a hub of these parts, whose rings hold this many items and
+    /// A network with nothing received: a hub of these parts, whose rings hold this many items and
     /// packets at a time, and wake its own pump. `OutOfMemory` if an allocation was
     /// refused, and for no other cause.
     pub fn start(
@@ -78,8 +81,8 @@ impl<V: NetworkView + Drop> Network<V> {
         Network::start_by(alloc, view, setup, items, packets, Profile::whole(alloc))
     }
 
-    /// A network of which nothing came, as `start` makes it, whose hub keeps messages and plays them
-    /// back by this profile. The hub of `start` keeps each message.
+    /// A network with nothing received, as `start` makes it, whose hub keeps messages and plays
+    /// them back by this profile. The hub of `start` keeps each message.
     pub fn start_by(
         alloc: Global,
         view: V,
@@ -110,9 +113,10 @@ impl<V: NetworkView + Drop> Network<V> {
         }
     }
 
-    /// A network of which nothing came since: a hub that goes on from what was before, as
-    /// `Hub::start_again` has it, with this profile, whose rings hold this many items and packets at a time, and wake
-    /// its own pump. `OutOfMemory` if an allocation was refused, and for no other cause.
+    /// A network with nothing received since: a hub that goes on from what was before, as
+    /// `Hub::start_again` has it, with this profile, whose rings hold this many items and packets
+    /// at a time, and wake its own pump. `OutOfMemory` if an allocation was refused, and for no
+    /// other cause.
     pub fn start_again(
         alloc: Global,
         view: V,
@@ -147,6 +151,7 @@ impl<V: NetworkView + Drop> Network<V> {
         Network {
             hub: Mutex::new(hub),
             pump,
+            noted: AtomicU64::new(0),
         }
     }
 
@@ -202,7 +207,7 @@ impl<V: NetworkView + Drop> Network<V> {
 
     /// Takes items into the hub if its pump sleeps, and as long as no session is nearly full: at
     /// most this many. For the thread that has put some, which so spares waking the pump. The lock
-    /// is taken anew for each item.
+    /// is taken again for each item.
     pub fn pump_beside<R: Wait>(&self, rt: &R, most: u64) -> Beside {
         let mut beside = Beside {
             taken: 0,

@@ -103,7 +103,7 @@ impl OutletEnd {
         }
     }
 
-    /// Takes a packet; `None` where there is none for now, and for good once the closing item was
+    /// Takes a packet; `None` if there is none for now, and for good once the closing item was
     /// taken. It takes no lock and waits for nobody.
     pub fn take(&mut self) -> Option<Packet>
         ensures taken { packets_in (items_of self.new)
@@ -163,8 +163,9 @@ impl OutletEnd {
         packet
     }
 
-    /// Whether nothing more is to be written: so many takes in succession gave nothing, the closing
-    /// item was taken, the other end is gone and nothing is left, or the writer is asked to stop.
+    /// Whether nothing more is to be written: this many takes in succession gave nothing, the
+    /// closing item was taken, the other end is gone and nothing is left, or the writer is asked to
+    /// stop.
     pub(crate) fn is_over(&mut self, idle: Turns) -> bool
         ensures end { (items_of self.new ≡ items_of self.old)
             × (self.new.misses ≡ self.old.misses) }
@@ -190,7 +191,7 @@ impl OutletEnd {
         self.closed.is_none() && self.consumer.is_abandoned()
     }
 
-    /// Tells the pump, which waits for room, of a write call that took something, and whether the
+    /// Reports to the pump, which waits for room, a write call that took something, and whether the
     /// writer is held up by what it writes to.
     pub(crate) fn note_call(&self, call: Call) {
         match call {
@@ -207,7 +208,7 @@ impl OutletEnd {
         }
     }
 
-    /// Tells the pump, which waits for room, whether a writer has begun with this end.
+    /// Reports to the pump, which waits for room, whether a writer has begun with this end.
     pub(crate) fn note_begun(&self, has_begun: bool) {
         self.writer.set_ready(has_begun);
     }
@@ -225,8 +226,10 @@ impl OutletEnd {
     }
 
     /// Rests after a write, so that what comes meanwhile goes in one write: at most this many
-    /// microseconds, and until half of the ring waits. Not at all once the closing item was taken.
+    /// microseconds, and until half of the ring waits. Not at all once the closing item was taken. Of
+    /// the packets that were taken nothing is left to write.
     pub(crate) fn rest<R: Wait>(&self, rt: &R, micros: u64) {
+        self.writer.note_written(self.taken);
         if micros > 0 && self.closed.is_none() {
             self.writer.rest(rt, micros);
         }
@@ -276,14 +279,14 @@ pub struct Stopper {
 }
 
 impl Stopper {
-    /// Tells it. It takes no lock and waits for nobody.
+    /// Tells it to stop. It takes no lock and waits for nobody.
     pub fn stop(&self) {
         self.sign.put_up();
         self.writer.ring();
     }
 }
 
-/// Wakes the pump, where it waits for room and no packet is known to be left.
+/// Wakes the pump, if it waits for room and no packet is known to be left.
 fn wake(pump: &SharedBell, left: usize) {
     if left == 0 && pump.awaits_room() {
         pump.ring();

@@ -11,6 +11,7 @@ use crate::outlet_end::OutletEnd;
 use crate::outlet_ring::RingOutlet;
 use crate::queued::Counted;
 use crate::stop_sign::shared_sign;
+use receipts::Notes;
 use rtrb::RingBuffer;
 use std::alloc::Global;
 use std::sync::Arc;
@@ -36,6 +37,6 @@ pub fn outlet(
     let sign = shared_sign(alloc)?;
     let buffer = Vec::with_capacity(alloc, ROOM)?;
     let (producer, consumer) = RingBuffer::with_protocol::<Global, Counted>(alloc, capacity)?;
-    let outlet = RingOutlet::new(producer, theirs, told);
+    let outlet = RingOutlet::new(producer, Notes::new(alloc), theirs, told);
     Ok((outlet, OutletEnd::new(consumer, buffer, writer, sign, pump)))
 }

@@ -8,8 +8,10 @@ ghost use Rattle.hub_threads.specs.Queues.{closed_in};
 use crate::bell::SharedBell;
 use crate::queued::{Counted, Queued};
 use hub_ends::{Outlet, SessionId};
+use receipts::{Left, Notes, Parting, Sent, left_by};
 use rtrb::{Producer, PushError};
 use std::alloc::Global;
+use std::sync::{Mutex, Wait};
 use welcome::Packet;
 
 /// The end that a hub sends packets into. Dropping it wakes the writer.
@@ -18,6 +20,8 @@ pub struct RingOutlet {
     // how many items were sent, at most the greatest count
     count: u64,
     closed: Option<SessionId>,
+    // what its client had been sent at which moment; locked under the lock of the hub alone
+    notes: Mutex<Notes>,
     // wakes the thread that has the other end
     writer: SharedBell,
     // tells the pump of the network that there is little room
@@ -32,10 +36,12 @@ impl Drop for RingOutlet {
             producer,
             count: _,
             closed: _,
+            notes,
             writer,
             pump,
         } = self;
         drop(producer);
+        drop(notes);
         writer.ring();
         drop(writer);
         drop(pump);
@@ -50,6 +56,7 @@ impl RingOutlet {
     /// The end of a ring into which nothing was sent.
     pub(crate) fn new(
         producer: Producer<Queued, Global, Counted>,
+        notes: Notes,
         writer: SharedBell,
         pump: SharedBell,
     ) -> RingOutlet
@@ -62,6 +69,7 @@ impl RingOutlet {
             producer,
             count: 0,
             closed: None,
+            notes: Mutex::new(notes),
             writer,
             pump,
         }
@@ -84,8 +92,8 @@ impl RingOutlet {
         self.producer.cached_slots() < (self.producer.capacity() / 4).max(1)
     }
 
-    /// Looks anew how many slots are free, if fewer than half are known to be, and tells the pump if
-    /// there is little room.
+    /// Looks again how many slots are free, if fewer than half are known to be, and tells the pump
+    /// if there is little room.
     fn look_for_room(&mut self)
         ensures found { FindsRoom false (state_of self.old) (state_of self.new) }
         ensures ends { StaysOutlet self.old self.new }
@@ -99,7 +107,7 @@ impl RingOutlet {
         }
     }
 
-    /// Wakes the writer where it sleeps, and where more than half of the ring may wait for it. Else
+    /// Wakes the writer if it sleeps, and if more than half of the ring may wait for it. Else
     /// it looks by itself, at the latest when it has rested.
     fn call_writer(&self) {
         if self.writer.is_drowsy() || !self.is_roomy() {
@@ -117,6 +125,21 @@ impl RingOutlet {
     /// of its last call.
     pub(crate) fn needs_processor(&self) -> bool {
         self.writer.is_ready()
+    }
+
+    /// Notes what its client has been sent by now, with all messages up to the one of this number. It
+    /// is best effort: if an allocation is refused, nothing is noted.
+    pub(crate) fn note_sent<R: Wait>(&self, rt: &R, number: u64, now: u64) {
+        let sent = Sent {
+            number,
+            count: self.count,
+        };
+        let _ = self.notes.lock(rt).note(sent, self.writer.written(), now);
+    }
+
+    /// What the client of a session that ended so has surely received.
+    pub(crate) fn left_by<R: Wait>(&self, rt: &R, parting: Parting) -> Left {
+        left_by(parting, &self.notes.lock(rt))
     }
 
     /// How many items the other end is known to have taken.
@@ -166,7 +189,7 @@ impl RingOutlet {
         self.writer.written() == self.count
     }
 
-    /// Sends a packet, or hands it back where no slot is known to be free, or it is closed. It takes
+    /// Sends a packet, or hands it back if no slot is known to be free, or it is closed. It takes
     /// no lock and waits for nobody.
     pub fn send(&mut self, packet: Packet) -> Result<(), Packet>
         ensures taken { OnOk result (Took false (state_of self.old) packet (state_of self.new)) }
@@ -189,7 +212,7 @@ impl RingOutlet {
         }
     }
 
-    /// Puts the closing item, with the number of the session, where a slot is known to be free, and
+    /// Puts the closing item, with the number of the session, if a slot is known to be free, and
     /// takes no more packets; a second time nothing changes.
     pub fn shut(&mut self, id: SessionId)
         ensures sent { sent_of self.new ≡ sent_of self.old }

@@ -17,7 +17,7 @@ const PATIENCE: u64 = 50;
 const OVERLOAD: u64 = 5_000;
 
 /// How often it looks at most whether they still are: each writer may wake it, so the time counts
-/// by a clock that nobody sets, and this ends the wait if that stands still.
+/// by a clock that nobody sets, and this ends the wait if that clock stops.
 const LOOKS: u64 = 20_000;
 
 /// How far a writer is: how many items it has taken, and how often it has written.
@@ -43,7 +43,7 @@ fn time_for(lagging: &[Lagging]) -> u64 {
     }
 }
 
-/// For whom no more time is to be spent: the sessions that took and wrote nothing while they were
+/// The sessions that no more time is spent on: those that took and wrote nothing while they were
 /// given time, each until it does.
 #[derive(Drop)]
 pub struct Patience {
@@ -70,13 +70,13 @@ impl Patience {
 
     /// Gives sessions that the last packets have left nearly full time to take some, outside the
     /// lock: at most 50 ms for all together, or 5 s while the writer of one of them needs nothing but a
-    /// processor (what it writes to took all of its last call), and less if none is nearly full any
-    /// more. If no packet has left a session nearly full since the last call, it takes no lock. It
-    /// sleeps on `bell`, at most 1 ms a time; if that is the bell of the network's pump, a writer that
-    /// has taken all that it knew of wakes it. Who took and wrote nothing is not waited for again until
-    /// it does.
+    /// processor (what it writes to took all of its last call), and less if none is nearly full
+    /// any longer. If no packet has left a session nearly full since the last call, it takes no
+    /// lock. It sleeps on `bell`, at most 1 ms a time; if that is the bell of the network's pump, a
+    /// writer that has taken all that it knew of wakes it. A session that took and wrote nothing is
+    /// not waited for again until it does.
     ///
-    /// It is best effort: if memory is refused, a session is given no time.
+    /// It is best effort: if an allocation is refused, a session is given no time.
     pub fn give_time<V: NetworkView + Drop, C: Clock, R: Wait>(
         &mut self,
         rt: &R,

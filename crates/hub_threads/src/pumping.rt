@@ -54,9 +54,9 @@ impl Refusals {
         Refusals { count: 0 }
     }
 
-    /// Counts what a pump answered, and tells whether the loop ends there: with `Spent` at a
+    /// Counts what a pump answered, and says whether the loop ends there: with `Spent` at a
     /// message without a number, with `Memory` at the thousandth refusal for memory in succession.
-    /// An item, or none, begins the count anew.
+    /// An item, or none, begins the count again.
     pub fn note(&mut self, outcome: Result<Pumped, HubError>) -> Option<PumpEnd>
         ensures count { self.new ≡ refused_after self.old outcome }
         ensures end { result ≡ end_after self.old outcome }
@@ -122,8 +122,8 @@ impl Permit for Turns {
 
 /// Pumps as long as it is permitted, for example this many times. A turn without an item counts, and
 /// so does a refused allocation: it rests for this many milliseconds then, and tries the item again.
-/// The lock is taken anew for each step. Without an item it sleeps until it is woken: at most 1 ms,
-/// unless the turns are endless. It ends with `Turns` if it may take no more.
+/// The lock is taken again for each step. Without an item it sleeps until it is woken: at most
+/// 1 ms, unless the turns are endless. It ends with `Turns` if it may take no more.
 ///
 /// Before an item, sessions that packets have left nearly full are given time, outside the lock: at
 /// most 50 ms for all, or 5 s while the writer of one of them needs nothing but a processor, and none

@@ -13,7 +13,7 @@ pub enum Queued {
     Closing {
         /// Its number.
         id: SessionId,
-        /// How many items stand before this one, at most 18446744073709551615.
+        /// How many items come before this one, at most 18446744073709551615.
         count: u64,
     },
 }

@@ -44,7 +44,7 @@ pub struct Reading {
     pub ended: ReadEnd,
 }
 
-/// Puts an item, and sleeps until there is room for it. The pump is woken only where there is none.
+/// Puts an item, and sleeps until there is room for it. The pump is woken only if there is none.
 fn put_waiting<R: Wait>(rt: &R, end: &mut InletEnd, item: Item, moment: Moment)
     ensures { put_of end.new ≡ put_of end.old ++ came (item, moment) ∷ [] }
 {
@@ -71,7 +71,7 @@ fn put_unrung<R: Wait>(rt: &R, end: &mut InletEnd, lines: Vec<Line>, moment: Mom
     }
 }
 
-/// Puts lines, in order, each with this moment, and wakes the pump. Where the ring is full it
+/// Puts lines, in order, each with this moment, and wakes the pump. If the ring is full it
 /// sleeps until there is room.
 pub fn put_lines<R: Wait>(rt: &R, end: &mut InletEnd, lines: Vec<Line>, moment: Moment)
     ensures { put_of end.new ≡ put_of end.old ++ received_at moment.0 lines.items }

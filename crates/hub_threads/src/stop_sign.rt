@@ -11,7 +11,7 @@ pub(crate) struct StopSign {
     is_up: AtomicBool,
 }
 
-/// A sign, in as many hands as need be.
+/// A sign, shared by any number of hands.
 pub(crate) type SharedSign = Arc<StopSign, Global>;
 
 /// A sign that is down.

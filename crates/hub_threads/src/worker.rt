@@ -3,7 +3,7 @@
 use std::alloc::Global;
 
 /// What a worker works with: the runtime, the allocator, what it passes at each point, and what
-/// tells it the time.
+/// gives it the time.
 #[derive(Drop)]
 pub struct Worker<'a, R, G, C> {
     pub rt: R,

@@ -29,7 +29,7 @@ fn refused(kind: ErrorKind) -> Call {
     }
 }
 
-/// Writes bytes in one call. Answers how many it took, and what became of it.
+/// Writes bytes in one call. Answers how many it took, and what became of the call.
 pub(crate) fn write_call<W: Write>(out: &mut W, bytes: &[u8]) -> (usize, Call)
     ensures took { Appends (W.contents out.old) (W.contents out.new) (take result.0 bytes.now) }
     ensures within { result.0 ≤ length bytes.now }

@@ -40,7 +40,7 @@ impl<W: Write> Promise<Written<W>> for Given<W> {
 /// The thread of a writer.
 pub type Writer<W> = PromisedHandle<Written<W>, Given<W>>;
 
-/// Starts a thread that does `write_out`. `OutOfMemory` where no thread could be started; what was
+/// Starts a thread that does `write_out`. `OutOfMemory` if no thread could be started; what was
 /// handed in is dropped then.
 pub fn spawn_writer<
     W: Write + Send + Drop + 'static,

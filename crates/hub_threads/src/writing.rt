@@ -87,7 +87,7 @@ fn take_packet(end: &mut OutletEnd, backlog: &mut Backlog) -> Option<u64>
     Some(bytes)
 }
 
-/// Writes what stands first in the backlog, in one call, and flushes if nothing is left. False is a
+/// Writes what comes first in the backlog, in one call, and flushes if nothing is left. False is a
 /// fault. What was written is left no more, and nothing else, whatever it answers.
 fn write_once<W: Write, G: Gate>(
     out: &mut W,
@@ -127,9 +127,10 @@ fn write_once<W: Write, G: Gate>(
 /// milliseconds, and for a session that was cut if not all was taken within 30 s. A write that is
 /// interrupted is tried again.
 ///
-/// After a write of two packets or more it rests for at most 1 ms, so that what comes meanwhile
-/// goes out in one write, and after one packet for half as long as before, or not at all. If no
-/// packet waits it sleeps until it is woken: at most 1 ms a time, unless `idle` is endless.
+/// After a write of two packets or more it rests for 1 ms, or up to 4 ms while each write has four or
+/// more, so that what comes meanwhile goes out in one write, and after one packet for half as long as
+/// before, or not at all; half of a ring of packets ends the rest. If no packet waits it sleeps until it
+/// is woken: at most 1 ms a time, unless `idle` is endless.
 pub fn write_out<W: Write, G: Gate, R: Wait>(
     rt: &R,
     end: OutletEnd,

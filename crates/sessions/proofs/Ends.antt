@@ -28,7 +28,7 @@ step_at : (q quit c complete : Bool) (n : ℕ) (claim : Option ClaimParts) (line
     if n == 199 then closes [] else sends lines))
 step_at q quit c complete n claim lines = grind (arith, nat_tests, ends claim)
 
--- it has ended after one more line where it had ended, or this line's answer is its end
+-- it has ended after one more line if it had ended, or this line's answer is its end
 pub ended_step : (before : List Parts) (line : Parts)
     → has_ended (before ++ line ∷ []) ≡ (has_ended before || is_end (answer_to before line))
 ended_step before line =
@@ -60,7 +60,7 @@ nothing_more before line ends after next =
     in
     rw all
 
--- ---- one more line where it has not ended
+-- ---- one more line if it has not ended
 
 pub ends_complete : (before : List Parts) (line : Parts)
     → is_complete (before ++ line ∷ []) ≡ true → has_ended (before ++ line ∷ []) ≡ true

@@ -10,7 +10,7 @@ use Rattle.std.specs.{Io.KnownBytes.Consumes, List.concat, Prelude.{IfNone, IfSo
 
 -- ---- lines
 
--- lines behind others, none of which ended the session
+-- lines after others that did not end the session
 said_more : (before lines : List Parts) (r : Option Leave) → WereSaid before None
     → WereSaid lines r → WereSaid (before ++ lines) r
 said_more before lines r none said = grind (arith, list_any-append)
@@ -66,7 +66,7 @@ module _ {old : Pending} {unread : List Parts} {u w : Option (List ℕ)} where
         (said_more unread _ None said r.why.3.0)
 
 module _ {splitter : Pending} {unread : List Parts} {began : Option (List ℕ)} where
-  -- nothing was read behind what was unread
+  -- nothing was read after what was unread
   pub heard_unread : (why : Leave) → IsLeaveCause splitter unread [] began why
       → WasHeard splitter unread began began why
   heard_unread why cause = heard [] why (Consumes-nil began) (rw append-nil cause)

@@ -30,7 +30,7 @@ open_more : (before : List Parts) (line : Parts)
 open_more before line =
     last_unwrapped (λ (l : Parts). opens (asked l)) before (line ∷ []) false
 
--- where it stands after a line that asks this
+-- its state after a line that asks this
 pub negotiated : (before : List Parts) (line : Parts) (n : Negotiation) (a : Asked)
     → a ≡ asked line → n ≡ negotiation_in before
     → ◌≡◌ {A = Negotiation} (record {

@@ -1,11 +1,11 @@
--- Where a place stands, and that it stands nowhere.
+-- Where a place is, and that it is nowhere.
 use Rattle.bnc_config.specs.{Settings.{Matches, Settings, place_of}, declared.place.Place.Place}
 use Rattle.{irc_support.specs.Text.Text, sessions.specs.Admission.{Admits, IsUnknown}}
 use Rattle.{sessions.specs.Claims.ClaimParts, std.proofs.Common.{◌++◌, ◌∙◌, ◌∷◌, ◌≡◌, List, None}}
 use Rattle.std.proofs.Common.{Option, Some, [], ap, map, subst, suc, sym, zero, ℕ}
 use Rattle.std.specs.{Option.option_map, Prelude.IfNone}
 
--- none of these stands beside the place
+-- none of these is beside the place
 abbrev pub Lacks : {N : Type 0} → List (Place × N) → Place → Type 0
 Lacks [] place = Unit {0}
 Lacks (x ∷ xs) place = (x.0 ≡ place → ⊥) × Lacks xs place
@@ -44,7 +44,7 @@ one_place : (a b : Place)
 unfolding back
 one_place a b h = ap (back a) h
 
--- where the network of a claim is not among these, no network that it is let in to is
+-- if the network of a claim is not among these, no network that it is let in to is
 pub none_for : {N M : Type 0} (settings : Settings) (networks : List (Place × N))
     (claim : ClaimParts) (found : Place) (r : Option M) → Admits settings claim (Some found)
     → IfNone r (IsUnknown (map (λ (one : Place × N). one.0) networks) found)

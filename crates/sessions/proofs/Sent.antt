@@ -3,7 +3,7 @@ use Rattle.irc_line.{proofs.Sent.bytes_more, specs.{Line.Parts, Lines.is_too_lon
 use Rattle.{irc_line.specs.Writing.bytes_of, sessions.proofs.Ends.ended_step}
 use Rattle.sessions.specs.{Answers.{Answer, answer_to, has_ended, is_end}, Logins.IsCauseOf}
 use Rattle.sessions.specs.Logins.{IsSendCause, lines_in, sent_for}
-use Rattle.sessions.specs.declared.fault.LoginFault.{LoginFault, TheVariants.{Memory, Write}}
+use Rattle.sessions.specs.declared.fault.LoginFault.{LoginFault, TheVariants.{OutOfMemory, Write}}
 use Rattle.std.proofs.Common.{◌++◌, ◌∷◌, ◌≡◌, List, Option, [], append-nil, append_assoc, false, ℕ}
 use Rattle.std.{proofs.KnownBytes.Appends-trans, specs.Io.KnownBytes.Appends}
 
@@ -49,6 +49,6 @@ sent_for_more a b lines u v w is first next =
 -- why its lines were not answered
 pub lines_cause : (bytes : List ℕ) (f : LoginFault) → is_too_long bytes ≡ false → IsSendCause f
     → IsCauseOf bytes f
-lines_cause bytes Memory short h = tt
+lines_cause bytes OutOfMemory short h = tt
 lines_cause bytes Write short h = short
 lines_cause bytes _ short h = absurd h

@@ -1,4 +1,4 @@
--- Who is let in, and what those are told who are not.
+-- Who is let in, and what those receive who are not.
 use Rattle.std.specs.Prelude.{◌≡◌, ◌∷◌, [], ℕ, List, Option, None, Some, codes, slice_get}
 use Rattle.irc_line.specs.Line.{Parts}
 use Rattle.irc_line.specs.Writing.{untagged_line}
@@ -10,7 +10,7 @@ use Rattle.hub_core.specs.declared.attach.AttachError.TheVariants as refused
 use Rattle.sessions.specs.Claims.{ClaimParts}
 
 -- the place of the network that is claimed, for who has the password; none for anybody else, and
--- where there is no such network
+-- if there is no such network
 abbrev pub Admits : Settings → ClaimParts → Option Place → Type 0
 Admits settings claim (Some place) =
     Matches settings claim.user claim.password
@@ -23,7 +23,7 @@ Admits settings claim None =
 abbrev pub IsUnknown : List Place → Place → Type 0
 IsUnknown places place = (number : ℕ) → slice_get places number ≡ Some place → ⊥
 
--- A claim is let in: it has the password of its user, and its network stands at this place, which
+-- A claim is let in: it has the password of its user, and its network is at this place, which
 -- is one of these.
 pub record IsLetIn (settings : Settings) (places : List Place) (claim : ClaimParts) : Type 0 where
   pub place : Place

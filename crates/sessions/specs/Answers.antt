@@ -40,7 +40,7 @@ is_of_login line =
     has_command line (codes "NICK")
     || (has_command line (codes "USER") || has_command line (codes "PASS"))
 
--- a request is granted where it can be taken whole
+-- a request is granted if it can be taken whole
 abbrev pub is_granted : Caps → Parts → Bool
 is_granted held line = is_some (request_of held (asked_text line))
 
@@ -63,7 +63,7 @@ abbrev pub has_ended : List Parts → Bool
 has_ended lines =
     list_any is_quit lines || (list_any is_complete (stages lines) || nat_le 200 (length lines))
 
--- what is claimed, where nothing is missing
+-- what is claimed, if nothing is missing
 abbrev pub claim_in : List Parts → Option ClaimParts
 claim_in lines =
     option_and_then
@@ -75,7 +75,7 @@ abbrev pub ends_by : Option ClaimParts → Answer
 ends_by (Some claim) = claims claim
 ends_by None = closes (password_incorrect ∷ [])
 
--- the answer to a line behind these lines: nothing once it has ended
+-- the answer to a line after these lines: nothing once it has ended
 abbrev pub answer_to : List Parts → Parts → Answer
 answer_to before line =
     if has_ended before then sends [] else

@@ -35,7 +35,7 @@ abbrev pub client_of : Option Text → Option Text
 client_of (Some (b ∷ name)) = Some (b ∷ name)
 client_of _ = None
 
--- a login is cut at its first `/`, and what stands before it at its first `@`; without a `/` it is
+-- a login is cut at its first `/`, and the text before that at its first `@`; without a `/` it is
 -- none
 abbrev pub claim_of : Text → Text → Caps → Option ClaimParts
 claim_of login password caps =

@@ -45,7 +45,7 @@ opens _ = None
 abbrev pub is_open : List Parts → Bool
 is_open lines = unwrap_or (last_in (λ line. opens (asked line)) lines) false
 
--- what a text wishes, where it can be taken whole; else nothing
+-- what a text wishes, if it can be taken whole; else nothing
 abbrev pub wishes_in : Text → List (Cap × Bool)
 wishes_in text =
     if list_all (λ word. is_some (wish_of word)) (words_between text) then filter_map wish_of
@@ -61,7 +61,7 @@ wishes_by line _ = []
 abbrev pub held_in : List Parts → Caps
 held_in lines = caps_after no_caps (flat_map (λ line. wishes_by line (asked line)) lines)
 
--- where the negotiation stands
+-- the state of the negotiation
 abbrev pub negotiation_in : List Parts → Negotiation
 negotiation_in lines = record { is_open = is_open lines; held = held_in lines }
 

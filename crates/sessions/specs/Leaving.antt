@@ -20,14 +20,15 @@ use Rattle.sessions.specs.declared.attending.Leave.TheVariants as leave
 
 -- ---- what is said
 
--- by what the hub answered to a line: QUIT ends a session, and so does that there is none any more
+-- by what the hub answered to a line: a session ends by QUIT, or if there is none any longer
 abbrev pub leave_by : Result Said HubError → Option Leave
 leave_by (Ok said.Quit) = Some leave.Quit
 leave_by (Ok said.NoSession) = Some leave.Cut
 leave_by (Ok said.Cut) = Some leave.Cut
 leave_by _ = None
 
--- what came of a line: it goes on by any but QUIT, ends by QUIT, or the hub has the session no more
+-- what came of a line: it goes on by any but QUIT, ends by QUIT, or the hub no longer has the
+-- session
 abbrev pub LeavesBy : Parts → Option Leave → Type 0
 LeavesBy line None = is_quit line ≡ false
 LeavesBy line (Some leave.Quit) = is_quit line ≡ true
@@ -65,12 +66,12 @@ IsLeaveCause held lines refused left leave.TooLong =
     IsTrue (is_too_long (held.rest ++ refused)) × (has_quit lines ≡ false)
 IsLeaveCause held lines refused left leave.OutOfMemory = has_quit lines ≡ false
 
--- A client was heard: behind the lines that were unread came those of these pieces, one behind the
+-- A client was heard: after the lines that were unread came those of these pieces, one after the
 -- other, and the splitter's rest; and it left.
 pub record WasHeard (splitter : Pending) (unread : List Parts) (began left : Option (List ℕ))
     (why : Leave) : Type 0 where
   pub pieces : List (List ℕ)
-  -- the piece that was refused; nothing, where none was
+  -- the piece that was refused; nothing, if none was
   pub refused : List ℕ
   pub read : Consumes began left (concat pieces ++ refused)
   pub cause : IsLeaveCause (fed_all splitter pieces) (unread ++ lines_all splitter pieces) refused
@@ -79,7 +80,7 @@ pub record WasHeard (splitter : Pending) (unread : List Parts) (began left : Opt
 -- ---- what is written
 
 -- A session of this number ended: what its writer wrote, from what it had got before the session,
--- is of the packets that it took, which are all that its end ever took; and where the token is
+-- is of the packets that it took, which are all that its end ever took; and if the token is
 -- true, these are all that the session was sent, and then its closing item.
 pub record HasEnded (id : ℕ) (token fresh : Bool) (all : List Queued) (began out : Option (List ℕ))
     (outcome : Result ℕ WriteFault) : Type 0 where

@@ -15,7 +15,7 @@ use Rattle.sessions.specs.declared.arrival.Ending.{Ending}
 use Rattle.sessions.specs.declared.arrival.Ending.TheVariants.{Claims, Closes}
 use Rattle.sessions.specs.declared.arrival.LastLine.{LastLine}
 use Rattle.sessions.specs.declared.fault.LoginFault.{LoginFault}
-use Rattle.sessions.specs.declared.fault.LoginFault.TheVariants.{Memory, NoRoom, Read, TooLong}
+use Rattle.sessions.specs.declared.fault.LoginFault.TheVariants.{OutOfMemory, Read, TooLong}
 use Rattle.sessions.specs.declared.fault.LoginFault.TheVariants.{Write}
 
 -- ---- what is sent
@@ -26,7 +26,7 @@ lines_in (sends lines) = lines
 lines_in (claims claim) = []
 lines_in (closes lines) = lines
 
--- the lines that are sent for these lines, behind others
+-- the lines that are sent for these lines, after others
 abbrev pub sent_for : List Parts → List Parts → List Parts
 sent_for before [] = []
 sent_for before (line ∷ lines) =
@@ -39,7 +39,7 @@ abbrev pub IsEndOf : Answer → Ending → Type 0
 IsEndOf answer (Claims claim) = answer ≡ claims (parts_of claim)
 IsEndOf answer Closes = (lines : List Parts) × (answer ≡ closes lines)
 
--- the last line of a login stands at this place of some lines, behind others, and ends it so
+-- the last line of a login is at this place of some lines, after others, and ends it so
 abbrev pub IsEndAt : List Parts → List Parts → ℕ → Ending → Type 0
 IsEndAt before lines place ending =
     (last : Parts) × (place < length lines)
@@ -47,7 +47,7 @@ IsEndAt before lines place ending =
     × IsEndOf (answer_to (before ++ take place lines) last) ending
 
 -- A login over two streams: of the bytes that were read, the lines up to the last one ended it so,
--- each was answered, and what stands behind the last is left.
+-- each was answered, and what comes after the last is left.
 pub record LogsIn (began left was now : Option (List ℕ)) (ending : Ending) (lines : List Parts)
     (splitter : Pending) : Type 0 where
   pub bytes : List ℕ
@@ -63,15 +63,14 @@ pub record LogsIn (began left was now : Option (List ℕ)) (ending : Ending) (li
 
 -- lines are only not sent for these causes
 abbrev pub IsSendCause : LoginFault → Type 0
-IsSendCause Memory = Unit {0}
+IsSendCause OutOfMemory = Unit {0}
 IsSendCause Write = Unit {0}
 IsSendCause _ = ⊥
 
--- why it fails where these bytes were read: a line that is too long; or the input ended, or could
+-- why it fails if these bytes were read: a line that is too long; or the input ended, or could
 -- not be read, before there was an end
 abbrev pub IsCauseOf : List ℕ → LoginFault → Type 0
-IsCauseOf bytes Memory = Unit {0}
-IsCauseOf bytes NoRoom = Unit {0}
+IsCauseOf bytes OutOfMemory = Unit {0}
 IsCauseOf bytes Write = is_too_long bytes ≡ false
 IsCauseOf bytes TooLong = IsTrue (is_too_long bytes)
 IsCauseOf bytes Read = (is_too_long bytes ≡ false) × (has_ended (lines_of bytes) ≡ false)
@@ -80,12 +79,12 @@ IsCauseOf bytes Read = (is_too_long bytes ≡ false) × (has_ended (lines_of byt
 abbrev pub outcome_of : InputEnd (Result LastLine LoginFault) → Result LastLine LoginFault
 outcome_of (input.Answered answer) = answer
 outcome_of input.TooLong = Err TooLong
-outcome_of input.OutOfMemory = Err NoRoom
+outcome_of input.OutOfMemory = Err OutOfMemory
 outcome_of _ = Err Read
 
 -- ---- line by line
 
--- where a login stands that has taken these lines, answered each, and goes on
+-- the state of a login that has taken these lines, answered each, and goes on
 pub record GoesOn (was now : Option (List ℕ)) (login : Progress) (lines : List Parts) : Type 0 where
   pub taken : HasTaken lines login
   pub going : has_ended lines ≡ false

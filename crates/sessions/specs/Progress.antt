@@ -3,7 +3,7 @@ use Rattle.std.specs.Prelude.{ℕ, Bool, Option}
 use Rattle.irc_support.specs.Text.{Text}
 use Rattle.sessions.specs.declared.negotiation.Negotiation.{Negotiation}
 
--- whether a nick came, what USER and PASS gave, where the negotiation stands, how many lines came,
+-- whether a nick came, what USER and PASS gave, the state of the negotiation, how many lines came,
 -- and whether it has ended
 pub record Progress : Type 0 where
   pub has_nick : Bool

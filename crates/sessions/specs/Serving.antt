@@ -17,7 +17,7 @@ use Rattle.sessions.specs.declared.arrival.Ending.TheVariants.{Claims, Closes}
 use Rattle.sessions.specs.declared.attending.Leave.{Leave}
 use Rattle.sessions.specs.declared.claim.Claim.{Claim}
 use Rattle.sessions.specs.declared.fault.LoginFault.{LoginFault}
-use Rattle.sessions.specs.declared.fault.LoginFault.TheVariants.{Memory}
+use Rattle.sessions.specs.declared.fault.LoginFault.TheVariants.{OutOfMemory}
 use Rattle.sessions.specs.declared.serving.Served.{Served}
 use Rattle.sessions.specs.declared.serving.Served.TheVariants as served
 
@@ -32,13 +32,13 @@ pub record CameIn (lets_in : ClaimParts → Type 0) (began was : Option (List �
   pub login : LogsIn began left was now (Claims claim) lines splitter
   pub let_in : lets_in (parts_of claim)
 
--- A login failed for this cause, of which these bytes were read.
+-- A login failed for this cause, after these bytes were read.
 pub record Failed (began left : Option (List ℕ)) : Type 0 where
   pub bytes : List ℕ
   pub fault : LoginFault
   pub read : Consumes began left bytes
   pub cause : IsCauseOf bytes fault
-  pub not_memory : fault ≢ Memory
+  pub not_memory : fault ≢ OutOfMemory
 
 -- why a login that ended so gives no session: it was closed; or the watcher turned its client away,
 -- or what it claims is denied
@@ -60,7 +60,7 @@ module _ {W : Type 0} {g : Ghosts W} (contents : W → Option (List ℕ))
     (turns_away : ClaimParts → Type 0) (session : Option ℕ) (lets_in denies : ClaimParts → Type 0)
     (began left was : Option (List ℕ)) where
   -- A client came in, and had a session: what it said after its login was heard until it left, and
-  -- its writer wrote behind what its login was sent.
+  -- its writer wrote after what its login was sent.
   pub record HadSession (e : Ended W g) : Type 0 where
     pub came : CameIn lets_in began was
     pub why : Leave
@@ -70,7 +70,7 @@ module _ {W : Type 0} {g : Ghosts W} (contents : W → Option (List ℕ))
     pub given : session ≡ Some id
     pub ended : HasEnded id e.token e.fresh (items_of e.end) came.now (contents e.out) e.written
 
-  -- Nobody has a session, or is refused one, but who came in; and who logged in and is not denied has
+  -- Only who came in has a session, or is refused one; and who logged in and is not denied has
   -- one or is refused one, if the watcher has not turned the client away.
   abbrev pub IsServedBy : Served W g → Type 0
   IsServedBy served.NoLogin =

@@ -1,4 +1,4 @@
--- Where a login stands after a list of lines.
+-- The state of a login after a list of lines.
 use Rattle.std.specs.Prelude.{◌≡◌, false, List, length, is_some}
 use Rattle.irc_line.specs.Line.{Parts}
 use Rattle.sessions.specs.Claims.{parts_of}

@@ -9,8 +9,8 @@ ghost use Rattle.sessions.specs.Claims.{parts_of};
 use crate::claim::Claim;
 use bnc_config::{Config, Place};
 
-/// The place of the network that a client claims; `None` where its password is not that of the user
-/// whom it claims to be, where there is no such user, or where the user has no such network.
+/// The place of the network that a client claims; `None` if its password is not the one of the user
+/// that it claims to be, if there is no such user, or if the user has no such network.
 pub fn admitted(config: &Config, claim: &Claim) -> Option<Place>
     ensures { Admits config.now (parts_of claim.now) result }
 {
@@ -27,7 +27,7 @@ fn is_same(a: Place, b: Place) -> bool
     a.user == b.user && a.network == b.network
 }
 
-/// What stands beside a place, the first where it stands there more than once; `None` exactly where
+/// What a place is paired with, the first if it is there more than once; `None` exactly if
 /// the place is not there.
 fn network_at<N>(networks: &[(Place, N)], place: Place) -> Option<&N>
     ensures some { IfSome result (λ n. (number : ℕ)
@@ -42,8 +42,8 @@ fn network_at<N>(networks: &[(Place, N)], place: Place) -> Option<&N>
     None
 }
 
-/// The network that a client is let in to: what stands beside the place that it claims. `None`
-/// where `admitted` knows no place, and where the place is not among these.
+/// The network that a client is let in to: what the place that it claims is paired with. `None`
+/// if `admitted` knows no place, and if the place is not among these.
 pub fn let_in<'a, N>(config: &Config, networks: &'a [(Place, N)], claim: &Claim) -> Option<&'a N>
     ensures some { IfSome result (λ n. (place : declared.Place) × (number : ℕ)
         × Admits config.now (parts_of claim.now) (Some place)

@@ -49,7 +49,7 @@ pub struct LoggedIn {
     pub unread: Unread,
 }
 
-/// Takes one line, and sends what it is answered; tells how it ended the login, where it did.
+/// Takes one line, and sends its answer; says how it ended the login, if it did.
 fn take_line<W: Write>(
     alloc: Global,
     login: &mut Login,
@@ -81,7 +81,7 @@ fn take_line<W: Write>(
 }
 
 /// Takes lines, in order, up to the last of the login; answers its place, from 0, and how it ended
-/// the login, where it is among them.
+/// the login, if it is among them.
 fn take_lines<W: Write>(
     alloc: Global,
     login: &mut Login,
@@ -173,12 +173,12 @@ fn outcome(end: InputEnd<Result<LastLine, LoginFault>>) -> Result<LastLine, Logi
             Err(LoginFault::Read)
         }
         InputEnd::TooLong => Err(LoginFault::TooLong),
-        InputEnd::OutOfMemory => Err(LoginFault::NoRoom),
+        InputEnd::OutOfMemory => Err(LoginFault::OutOfMemory),
     }
 }
 
-/// Lets a client log in: reads lines, and sends for each what it is answered, in one write, until
-/// the login has ended. Who is let in is for the caller to say ([`let_in`](crate::let_in)).
+/// Lets a client log in: reads lines, and sends for each its answer, in one write, until
+/// the login has ended. The caller says who is let in ([`let_in`](crate::let_in)).
 ///
 /// It reads at most `irc_line::READ_LIMIT` times. A read that is interrupted is tried again. How
 /// long a client may take is the reader's own affair: one that answers an error ends the login.

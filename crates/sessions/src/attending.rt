@@ -49,8 +49,8 @@ pub fn attach_claim<V: NetworkView + Drop, I: Inlet, O: Outlet>(
     hub.attach(claim.caps, claim.client.as_deref(), outlet)
 }
 
-/// Why a session ends by what was done of its line, where it does. What could not be done for want
-/// of room, of memory, of numbers or of a network is left out, and the session goes on.
+/// Why a session ends by what was done about its line, if it does. What could not be done because
+/// there was no room, memory, number or network is left out, and the session goes on.
 fn leave_by(answer: Result<Said, HubError>) -> Option<Leave>
     ensures { result ≡ leave_by answer }
 {
@@ -62,7 +62,7 @@ fn leave_by(answer: Result<Said, HubError>) -> Option<Leave>
     }
 }
 
-/// Says a line of a client to its hub, once; answers why the session ends, where it does.
+/// Says a line of a client to its hub, once; answers why the session ends, if it does.
 pub fn say<V: NetworkView + Drop, I: Inlet, O: Outlet>(
     hub: &mut Hub<V, I, O>,
     id: SessionId,

@@ -50,7 +50,7 @@ fn client_of(name: Option<&[u8]>) -> Option<&[u8]>
 
 impl Claim {
     /// The claim of a client that gave this login by USER and this PASS, and holds these
-    /// capabilities; `None` where the login names no network.
+    /// capabilities; `None` if the login names no network.
     pub(crate) fn of(
         alloc: Global,
         user: &[u8],

@@ -6,9 +6,9 @@ use thiserror::Error;
 /// Why a login over streams failed.
 #[derive(Clone, Copy, Debug, PartialEq, Eq, Error)]
 pub enum LoginFault {
-    /// An allocation was refused, but for `NoRoom`.
+    /// An allocation was refused.
     #[error("out of memory")]
-    Memory,
+    OutOfMemory,
     /// A read failed, or the input ended before the login did.
     #[error("cannot read")]
     Read,
@@ -18,18 +18,15 @@ pub enum LoginFault {
     /// More than 16,384 bytes came without LF.
     #[error("line too long")]
     TooLong,
-    /// An allocation was refused for the lines that were read.
-    #[error("no memory for a line")]
-    NoRoom,
 }
 
 impl From<OutOfMemory> for LoginFault {
     ghost use Rattle.std.specs.Prelude.{◌≡◌};
     ghost use Rattle.sessions.specs.declared.fault.LoginFault.TheVariants as fault;
 
-    ghost from_gives = { λ _ made. made ≡ fault.Memory };
+    ghost from_gives = { λ _ made. made ≡ fault.OutOfMemory };
 
     fn from(_refused: OutOfMemory) -> LoginFault {
-        LoginFault::Memory
+        LoginFault::OutOfMemory
     }
 }

@@ -8,7 +8,7 @@ use crate::OutOfMemory;
 use irc_line::Line;
 use std::alloc::Global;
 
-/// Parameter 0 of a line of this command; `None` where it is no such line, or has none.
+/// Parameter 0 of a line of this command; `None` if it is no such line, or has none.
 pub(crate) fn given<'a>(line: &'a Line, command: &[u8]) -> Option<&'a [u8]>
     ensures { option_map (λ text. text.now) result ≡ given command.now line.now }
 {
@@ -31,7 +31,7 @@ pub(crate) fn latest<'a>(
     given(line, command).or(before.as_deref())
 }
 
-/// A copy of a text, where there is one.
+/// A copy of a text, if there is one.
 pub(crate) fn copied(alloc: Global, text: Option<&[u8]>) -> Result<Option<Vec<u8>>, OutOfMemory>
     ensures { IfOk result (λ copy. option_map (λ text. text.items) copy
         ≡ option_map (λ text. text.now) text.entry) }
@@ -42,7 +42,7 @@ pub(crate) fn copied(alloc: Global, text: Option<&[u8]>) -> Result<Option<Vec<u8
     }
 }
 
-/// Puts a text in the place of another, where there is one.
+/// Puts a text in the place of another, if there is one.
 pub(crate) fn replace(kept: &mut Option<Vec<u8>>, text: Option<Vec<u8>>)
     ensures { option_map (λ text. text.items) kept.new
         ≡ option_or (option_map (λ text. text.items) text)

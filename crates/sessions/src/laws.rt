@@ -4,8 +4,8 @@ ghost use Rattle.std.specs.Prelude.{◌≡◌, ◌||◌, ◌++◌, ◌∷◌, []
 ghost use Rattle.irc_line.specs.Line.{Parts};
 ghost use Rattle.sessions.specs.Answers.{answer_to, has_ended, is_end, sends};
 
-/// A login has ended after one more line exactly where it had ended before or this line's answer is
-/// its end; and what follows its end is answered by nothing.
+/// A login has ended after one more line exactly if it had ended before or this line's answer is
+/// its end; and what follows its end has no answer.
 pub fn a_login_ends_once()
     ensures begins { has_ended [] ≡ false }
     ensures step { (before : List Parts) (line : Parts) →

@@ -72,7 +72,7 @@ impl Model for Login {
 }
 
 impl Login {
-    /// A login of which no line came.
+    /// A login that has received no line.
     pub fn new(alloc: Global) -> Login
         ensures { HasTaken [] result }
     {
@@ -121,7 +121,7 @@ impl Login {
         self.has_nick_after(line) && self.user_after(line).is_some() && !negotiation.is_open
     }
 
-    /// How the login ends by a line after which nothing is missing; `None` where something is.
+    /// How the login ends by a line after which nothing is missing; `None` if something is.
     fn ended_by(
         &self,
         line: &Line,
@@ -147,7 +147,7 @@ impl Login {
         }
     }
 
-    /// Takes a line of the client, and tells what follows from it; once it has ended, that nothing
+    /// Takes a line of the client, and says what follows from it; once it has ended, that nothing
     /// is to be sent. After a refused allocation the login is as it was.
     ///
     /// It is done when NICK, USER and PASS came and no negotiation of capabilities is open. A later
@@ -156,7 +156,7 @@ impl Login {
     ///
     /// | line | what follows |
     /// |---|---|
-    /// | CAP, PING | as by [`client_caps::answer`]; a request is granted where it can be taken |
+    /// | CAP, PING | as by [`client_caps::answer`]; a request is granted if it can be taken |
     /// | NICK, USER, PASS | nothing |
     /// | QUIT, or the 200th line | closed, with no line |
     /// | any other | `:bnc 451 * :You have not registered` |

@@ -7,7 +7,7 @@ ghost use Rattle.sessions.specs.Given.{negotiation_in};
 use client_caps::{Asked, Caps, asked_text, read_request};
 use irc_line::Line;
 
-/// Where the negotiation of capabilities stands (IRCv3 capability negotiation).
+/// The state of the negotiation of capabilities (IRCv3 capability negotiation).
 #[derive(Clone, Copy)]
 pub struct Negotiation {
     /// Whether CAP END is still to come.

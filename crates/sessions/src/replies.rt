@@ -45,7 +45,7 @@ fn reply_to(alloc: Global, held: Caps, line: &Line) -> Result<Option<Line>, OutO
     }
 }
 
-/// Adds a line, where there is one.
+/// Adds a line, if there is one.
 fn push_some(lines: &mut Vec<Line>, line: Option<Line>) -> Result<(), OutOfMemory>
     ensures { OnOk result (lines.new.items ≡ lines.old.items ++ option_to_list line) }
 {
@@ -65,7 +65,7 @@ pub(crate) fn replies(alloc: Global, held: Caps, line: &Line) -> Result<Vec<Line
     Ok(lines)
 }
 
-/// What is sent where a login names no network.
+/// What is sent if a login names no network.
 pub(crate) fn refusal(alloc: Global) -> Result<Vec<Line>, OutOfMemory>
     ensures { IfOk result (λ lines. lines.items ≡ password_incorrect ∷ []) }
 {

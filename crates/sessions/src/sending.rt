@@ -52,7 +52,7 @@ pub fn deny<W: Write>(writer: &mut W) -> Result<(), WriteFault>
     write_text(writer, b":bnc 464 * :Password incorrect\r\n")
 }
 
-/// The line that tells why a client was not attached, as `ERROR :not ready`, with CR LF.
+/// The line that says why a client was not attached, as `ERROR :not ready`, with CR LF.
 fn refusal_text(error: AttachError) -> &'static [u8]
     ensures { result.now ≡ written (refusal_line error) }
 {

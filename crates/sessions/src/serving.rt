@@ -16,11 +16,11 @@ use crate::sending::{deny, refuse};
 use crate::talk::{Talking, talk};
 use crate::watcher::{Refusal, Watcher};
 use bnc_config::{Config, Place};
-use hub_core::{AttachError, NoSession};
+use hub_core::{AttachError, NoSession, Seen};
 use hub_ends::SessionId;
 use hub_threads::{
     Clock, Ended, Gate, Network, RingOutlet, Turns, Worker, Writer, Written, end_session,
-    spawn_writer,
+    end_session_at, spawn_writer,
 };
 use net_view::NetworkView;
 use std::alloc::Global;
@@ -38,7 +38,7 @@ pub enum ServeFault {
     /// An allocation was refused, or no thread could be started. It was not attached, so it loses no
     /// message.
     #[error("out of memory or threads")]
-    Memory,
+    OutOfMemory,
     /// It was not attached, and got the reason.
     #[error("{0}")]
     Refused(AttachError),
@@ -51,10 +51,10 @@ impl From<OutOfMemory> for ServeFault {
     ghost use Rattle.std.specs.Prelude.{◌≡◌};
     ghost use Rattle.sessions.specs.declared.serving.ServeFault.TheVariants as fault;
 
-    ghost from_gives = { λ _ made. made ≡ fault.Memory };
+    ghost from_gives = { λ _ made. made ≡ fault.OutOfMemory };
 
     fn from(_refused: OutOfMemory) -> ServeFault {
-        ServeFault::Memory
+        ServeFault::OutOfMemory
     }
 }
 
@@ -124,6 +124,24 @@ fn turn_away<W: Write + Drop, R: Threads + Wait>(rt: &R, handle: Writer<W>, erro
     let _ = refuse(&mut out, error);
 }
 
+/// Ends a session; its client has seen this.
+fn end_seen<V: NetworkView + Drop, W: Write + Drop, R: Threads + Wait>(
+    rt: &R,
+    network: &Network<V>,
+    id: SessionId,
+    seen: Seen,
+    handle: Writer<W>,
+) -> Result<Ended<W>, NoSession>
+    requires { items_of handle.promise.0.value ≡ [] }
+    ensures { IfOk result (λ e. HasEnded id e.token e.fresh (items_of e.end)
+        (W.contents handle.promise.1.value) (W.contents e.out) e.written) }
+{
+    match seen {
+        Seen::All => end_session(rt, network, id, handle),
+        Seen::UpTo(number) => end_session_at(rt, network, id, number, handle),
+    }
+}
+
 /// Serves a client that was let in: starts a thread that writes to it, attaches it, and says each
 /// of its lines to the hub, those that are unread first, until QUIT, the input's end or a fault.
 /// Answers why it went, what its writer handed back, and the number of its session. No write is made
@@ -133,7 +151,7 @@ fn turn_away<W: Write + Drop, R: Threads + Wait>(rt: &R, handle: Writer<W>, erro
 /// A line that comes while the network is offline or takes no more, or for which there is no memory
 /// or no number, is dropped. More than 16,384 bytes without LF, and memory refused for what was
 /// read, end the session like the input's end. It reads at most 1,000,000,000 times. The watcher is
-/// called when the client's capabilities change.
+/// called when the client's capabilities change, and says what the client has seen when it has left.
 pub fn serve<
     V: NetworkView + Drop,
     N,
@@ -183,17 +201,17 @@ pub fn serve<
     } = worker;
     let mut talking = Talking::new(rt, network, id, *gate, *clock, watcher);
     let leave = talk(*alloc, &mut talking, reader, unread);
-    watcher.ended(leave);
-    match end_session(rt, network, id, handle) {
+    let seen = watcher.ended(leave);
+    match end_seen(rt, network, id, seen, handle) {
         Ok(ended) => Ok((leave, ended, id)),
         Err(NoSession) => Err(ServeFault::Cut),
     }
 }
 
 /// Lets a client log in, asks a judge whether its claim is right, and serves it. A client that is not
-/// let in, for its password or its network, gets `:bnc 464 * :Password incorrect`. The watcher is told
-/// each step, and lends the network. The password is dropped once it is let in. `OutOfMemory` also if
-/// no thread can be started; then there is no session.
+/// let in, for its password or its network, gets `:bnc 464 * :Password incorrect`. The watcher
+/// learns each step, and lends the network. The password is dropped once it is let in.
+/// `OutOfMemory` also if no thread can be started; then there is no session.
 pub fn serve_by<
     V: NetworkView + Drop,
     N,
@@ -221,7 +239,7 @@ pub fn serve_by<
         Err(fault) => {
             watcher.refused(Refusal::Login(fault));
             return match fault {
-                LoginFault::Memory => Err(OutOfMemory),
+                LoginFault::OutOfMemory => Err(OutOfMemory),
                 _ => Ok(Served::NoLogin),
             };
         }
@@ -252,7 +270,7 @@ pub fn serve_by<
         Ok((_, ended, _)) => Ok(Served::Ended(ended)),
         Err(ServeFault::Refused(error)) => Ok(Served::Refused(error)),
         Err(ServeFault::Cut) => Ok(Served::Cut),
-        Err(ServeFault::Memory) => Err(OutOfMemory),
+        Err(ServeFault::OutOfMemory) => Err(OutOfMemory),
     }
 }
 

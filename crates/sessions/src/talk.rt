@@ -78,8 +78,8 @@ impl<
         }
     }
 
-    /// Says a CAP line, and tells if it changed the client's capabilities; answers why the session
-    /// ends, where it does.
+    /// Says a CAP line, and reports whether it changed the client's capabilities; answers why the
+    /// session ends, if it does.
     fn say_cap(&mut self, line: &Line, moment: Moment) -> Option<Leave>
         ensures said { LeavesBy line.now result }
         ensures reference { self.new.watcher.ghost_name ≡ self.old.watcher.ghost_name }
@@ -94,7 +94,7 @@ impl<
         leave
     }
 
-    /// Says a line; answers why the session ends, where it does.
+    /// Says a line; answers why the session ends, if it does.
     fn say_line(&mut self, line: &Line) -> Option<Leave>
         ensures said { LeavesBy line.now result }
         ensures reference { self.new.watcher.ghost_name ≡ self.old.watcher.ghost_name }
@@ -107,8 +107,8 @@ impl<
         say(&mut self.network.lock(self.rt), self.id, line, moment)
     }
 
-    /// Says lines, in order, up to one that ends the session; answers why, where one does. The lock
-    /// is taken anew for each.
+    /// Says lines, in order, up to one that ends the session; answers why, if one does. The lock
+    /// is taken again for each.
     fn say_all(&mut self, lines: &[Line]) -> Option<Leave>
         ensures said { WereSaid lines.now result }
         ensures reference { self.new.watcher.ghost_name ≡ self.old.watcher.ghost_name }

@@ -7,7 +7,7 @@ use crate::attending::Leave;
 use crate::claim::Claim;
 use crate::fault::LoginFault;
 use client_caps::Caps;
-use hub_core::AttachError;
+use hub_core::{AttachError, Seen};
 use hub_ends::SessionId;
 use hub_threads::Network;
 use net_view::NetworkView;
@@ -45,7 +45,7 @@ pub trait Watcher<V: NetworkView + Drop, N, I: Read> {
         ensures turned { result ≡ false → turns_away self.new (parts_of claim.now) }
         ensures kept { session self.new ≡ session self.old };
 
-    /// The client may attach to this network. Lends the network for the session, or tells why there
+    /// The client may attach to this network. Lends the network for the session, or says why there
     /// is none now; the client then gets that. From here on the reader reads for a session; it must
     /// not have read anything in this call.
     fn let_in(
@@ -70,8 +70,9 @@ pub trait Watcher<V: NetworkView + Drop, N, I: Read> {
     fn caps_changed(&mut self, caps: Caps)
         ensures kept { session self.new ≡ session self.old };
 
-    /// The session ended, for this reason. Its writer may still write.
-    fn ended(&mut self, why: Leave)
+    /// The session ended, for this reason; its writer may still write. Answers what its client has
+    /// seen: all messages, unless it ended by a fault.
+    fn ended(&mut self, why: Leave) -> Seen
         ensures kept { session self.new ≡ session self.old };
 }
 
@@ -118,5 +119,7 @@ impl<V: NetworkView + Drop, I: Read> Watcher<V, Arc<Network<V>>, I> for Unwatche
 
     fn caps_changed(&mut self, _caps: Caps) {}
 
-    fn ended(&mut self, _why: Leave) {}
+    fn ended(&mut self, _why: Leave) -> Seen {
+        Seen::All
+    }
 }
