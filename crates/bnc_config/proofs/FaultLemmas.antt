@@ -1,8 +1,7 @@
 -- Faults of a tree.
 use Rattle.bnc_config.specs.Document.{IsFaultBy, IsFaultOf, IsProfileFaultOf, IsTree, fault_at}
 use Rattle.bnc_config.specs.Document.{first_fault, keys_fault, later_fault, networks_fault}
-use Rattle.bnc_config.specs.Document.{profile_fault, sasl_fault, text_at}
-use Rattle.bnc_config.specs.Document.{twice_fault, users_fault}
+use Rattle.bnc_config.specs.Document.{profile_fault, sasl_fault, text_at, twice_fault, users_fault}
 use Rattle.bnc_config.specs.declared.fault.ConfigFault.{ConfigFault, TheVariants.BadValue}
 use Rattle.bnc_config.specs.declared.fault.ConfigFault.TheVariants.{Missing, NotToml, OutOfMemory}
 use Rattle.bnc_config.specs.declared.{fault.ConfigFault.TheVariants.Twice, key.Key.Key}

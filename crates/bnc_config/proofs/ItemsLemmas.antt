@@ -1,6 +1,7 @@
 -- The items of a list in a tree.
-use Rattle.bnc_config.specs.Document.{all_items, fault_at, is_list_where, is_table, is_text_where}
-use Rattle.bnc_config.specs.Document.{is_text_or_list, item_count, tables_of, texts_in, texts_of}
+use Rattle.bnc_config.specs.Allowed.{all_items, is_list_where, is_table, is_text_where}
+use Rattle.bnc_config.specs.Allowed.{is_text_or_list, item_count}
+use Rattle.bnc_config.specs.Document.{fault_at, tables_of, texts_in, texts_of}
 use Rattle.bnc_config.specs.declared.fault.ConfigFault.{ConfigFault, TheVariants.BadValue}
 use Rattle.{bnc_config.specs.declared.key.Key.Key, std.proofs.Common.{Bool, List, None, Option}}
 use Rattle.std.proofs.Common.{Some, [], append_assoc, arith, drop, false, get_or, inl, inr, length}
@@ -17,7 +18,7 @@ pub all_items_view : (test : Data → Bool) (vs : List Value)
 all_items_view test [] = refl
 all_items_view test (v ∷ vs) = rw (all_items_view test vs)
 
--- as many items as values
+-- one item for each value
 pub item_count_view : (vs : List Value) → item_count (items_view vs) ≡ length vs
 item_count_view [] = refl
 item_count_view (v ∷ vs) = rw (item_count_view vs)
@@ -104,7 +105,7 @@ pub few_texts_of : (items : Items) → length (texts_of items) ≤ item_count it
 few_texts_of no_items = omega arith
 few_texts_of (item d items) = grind (arith, few_texts_of items)
 
--- as many texts as items, if all are texts
+-- one text for each item, if all are texts
 count_texts_of : (test : List ℕ → Bool) (items : Items)
     → all_items (is_text_where test) items ≡ true → length (texts_of items) ≡ item_count items
 count_texts_of test no_items h = refl

@@ -1,5 +1,6 @@
 -- Faults of one key.
-use Rattle.bnc_config.specs.Document.{fault_at, is_text_where}
+use Rattle.bnc_config.specs.Allowed.{is_text_where}
+use Rattle.bnc_config.specs.Document.{fault_at}
 use Rattle.bnc_config.specs.declared.{fault.ConfigFault.ConfigFault, key.Key.Key}
 use Rattle.std.proofs.Common.{Bool, List, Option, Some, arith, false, true, ℕ, ◌≡◌}
 use Rattle.toml.specs.Data.{Data}

@@ -1,5 +1,6 @@
 -- The pairs of a table in a tree.
-use Rattle.bnc_config.specs.Document.{all_members, is_text_where, member_count, pairs_of}
+use Rattle.bnc_config.specs.Allowed.{all_members, is_text_where, member_count}
+use Rattle.bnc_config.specs.Document.{pairs_of}
 use Rattle.bnc_config.specs.Settings.{are_channel_keys}
 use Rattle.bnc_config.specs.Text.{is_channel_key}
 use Rattle.std.proofs.Common.{List, arith, length, refl, true, ◌∷◌, ◌≡◌, ◌≤◌, []}
@@ -7,7 +8,7 @@ use Rattle.toml.proofs.Views.{Entry}
 use Rattle.toml.specs.Data.{Members, member, no_members}
 use Rattle.toml.specs.View.{members_view}
 
--- as many members as entries
+-- one member for each entry
 pub member_count_view : (es : List Entry) → member_count (members_view es) ≡ length es
 member_count_view [] = refl
 member_count_view (e ∷ es) = rw (member_count_view es)

@@ -1,5 +1,5 @@
--- Which lines may be sent once a network has taken us in. Which commands none of them has, and the
--- limit, are our own choice.
+-- Which lines may be sent once a network has taken us in. The commands that none of these lines
+-- has, and the limit, are our own choice.
 use Rattle.std.specs.Prelude.{ℕ, Bool, ◌&&◌, ◌||◌, ◌==◌, not, nat_le, List, [], ◌∷◌, length, codes}
 use Rattle.std.specs.Prelude.{if◌then◌else◌, position, take, unwrap_or}
 use Rattle.std.specs.List.{list_any, list_all}
@@ -11,7 +11,7 @@ abbrev pub unindented : List ℕ → List ℕ
 unindented [] = []
 unindented (b ∷ bs) = if b == 32 then unindented bs else b ∷ bs
 
--- what stands before the first space
+-- the text before the first space
 abbrev pub first_word : List ℕ → List ℕ
 first_word text = take (unwrap_or (position (λ b. b == 32) text) (length text)) text
 
@@ -40,7 +40,7 @@ abbrev pub ends_line : ℕ → Bool
 ends_line b = b == 0 || b == 10 || b == 13
 
 -- a line of at most 400 bytes, without tags and source, of a command that is not barred: a first
--- byte `@` or `:` is of no command; spaces may stand at the front
+-- byte `@` or `:` is of no command; spaces may come at the front
 abbrev pub is_sent_at_connect : List ℕ → Bool
 is_sent_at_connect text =
     nat_le (length text) 400 && (not (list_any ends_line text)

@@ -1,4 +1,4 @@
--- What is told of a fault. The words are our own choice.
+-- What a fault's report says. The words are our own choice.
 use Rattle.std.specs.Prelude.{ℕ, List, ◌++◌, codes}
 use Rattle.bnc_config.specs.Key.{path_of}
 use Rattle.bnc_config.specs.declared.fault.ConfigFault.{ConfigFault}

@@ -1,203 +1,47 @@
 -- What a settings file means as a TOML tree, and its first fault. The format is our own choice.
-use Rattle.std.specs.Prelude.{◌≡◌, ◌⊎◌, ℕ, suc, Bool, true, false, ◌&&◌, nat_le, pos, List, [], ◌∷◌}
-use Rattle.std.specs.Prelude.{◌++◌, map, Option, Some, None, Result, Ok, Err, unwrap_or, is_some}
-use Rattle.std.specs.Prelude.{option_and_then, option_map, if◌then◌else◌, IsUtf8, max, ◌/◌, codes}
+use Rattle.std.specs.Prelude.{◌≡◌, ◌⊎◌, ℕ, Bool, true, false, pos, List, [], ◌∷◌, ◌++◌, map, Option}
+use Rattle.std.specs.Prelude.{Some, None, Result, Ok, Err, unwrap_or, option_and_then, option_map}
+use Rattle.std.specs.Prelude.{if◌then◌else◌, IsUtf8, max, ◌/◌, codes}
 use Rattle.std.specs.List.{list_any}
 use Rattle.std.specs.Option.{option_map_or, option_or}
 use Rattle.std.specs.Result.{result_unwrap_or}
 use Rattle.std.specs.Str.{bytes_eq}
 use Rattle.hex.specs.Hex.{decode_of}
-use Rattle.irc_names.specs.Nick.{is_nameable}
 use Rattle.toml.specs.Data.{Data, string, integer, array, table, Items, no_items, item, Members}
 use Rattle.toml.specs.Data.{no_members, member, get_member, as_str, as_bool, as_table}
 use Rattle.toml.specs.Parse.{parse_document}
+use Rattle.bnc_config.specs.Allowed.{all_items, all_members, allows, allows_text, is_optional}
+use Rattle.bnc_config.specs.Allowed.{is_text_or_list, is_text_where}
 use Rattle.bnc_config.specs.Key.{word_of}
 use Rattle.bnc_config.specs.Settings.{Settings, OptionSettings, UserSettings, NetworkSettings}
 use Rattle.bnc_config.specs.Settings.{ChannelKey, NetworkOptionSettings, SaslSettings}
 use Rattle.bnc_config.specs.Settings.{MessagesSettings, PlaybackSettings, ProfileSettings}
-use Rattle.bnc_config.specs.Offset.{is_offset, offset_of}
-use Rattle.bnc_config.specs.Text.{is_name, is_word, is_one_line, is_path, is_address}
-use Rattle.bnc_config.specs.Text.{is_account_password, is_channel_key, is_ip, is_mechanism}
-use Rattle.bnc_config.specs.Command.{is_sent_at_connect}
-use Rattle.bnc_config.specs.Text.{is_hexadecimal, is_digest}
+use Rattle.bnc_config.specs.Offset.{offset_of}
+use Rattle.bnc_config.specs.Text.{is_channel_key}
 use Rattle.bnc_config.specs.declared.fault.ConfigFault.{ConfigFault}
 use Rattle.bnc_config.specs.declared.fault.ConfigFault.TheVariants.{NotToml, Missing, BadValue}
 use Rattle.bnc_config.specs.declared.fault.ConfigFault.TheVariants.{Twice, OutOfMemory}
 use Rattle.bnc_config.specs.declared.key.Key.{Key}
 use Rattle.bnc_config.specs.declared.utc_offset.UtcOffset.{UtcOffset}
-use Rattle.bnc_config.specs.declared.key.Key.TheVariants.{Listen, History, Retry, User}
-use Rattle.bnc_config.specs.declared.key.Key.TheVariants.{Kept, Memory, Metrics}
-use Rattle.bnc_config.specs.declared.key.Key.TheVariants.{ListenProxy, Proxies}
+use Rattle.bnc_config.specs.declared.key.Key.TheVariants.{Listen, History, Retry, User, Kept}
+use Rattle.bnc_config.specs.declared.key.Key.TheVariants.{Memory, Metrics, ListenProxy, Proxies}
 use Rattle.bnc_config.specs.declared.key.Key.TheVariants.{Messages, MessagesCtcp}
 use Rattle.bnc_config.specs.declared.key.Key.TheVariants.{MessagesServerNotices, MessagesNever}
 use Rattle.bnc_config.specs.declared.key.Key.TheVariants.{MessagesToSelf, MessagesByPerson}
 use Rattle.bnc_config.specs.declared.key.Key.TheVariants.{Playback, PlaybackPrivateBatches}
 use Rattle.bnc_config.specs.declared.key.Key.TheVariants.{PlaybackTimes, PlaybackVisits}
-use Rattle.bnc_config.specs.declared.key.Key.TheVariants.{PlaybackWait}
-use Rattle.bnc_config.specs.declared.key.Key.TheVariants.{UserName, UserSalt, UserPassword}
-use Rattle.bnc_config.specs.declared.key.Key.TheVariants.{UserNetwork}
-use Rattle.bnc_config.specs.declared.key.Key.TheVariants.{NetworkName, NetworkAddress, NetworkNick}
-use Rattle.bnc_config.specs.declared.key.Key.TheVariants.{NetworkUser}
+use Rattle.bnc_config.specs.declared.key.Key.TheVariants.{PlaybackWait, UserName, UserSalt}
+use Rattle.bnc_config.specs.declared.key.Key.TheVariants.{UserPassword, UserNetwork, NetworkName}
+use Rattle.bnc_config.specs.declared.key.Key.TheVariants.{NetworkAddress, NetworkNick, NetworkUser}
 use Rattle.bnc_config.specs.declared.key.Key.TheVariants.{NetworkRealname, NetworkPassword}
-use Rattle.bnc_config.specs.declared.key.Key.TheVariants.{NetworkJoin, NetworkSasl}
-use Rattle.bnc_config.specs.declared.key.Key.TheVariants.{NetworkSaslUser, NetworkSaslPassword}
-use Rattle.bnc_config.specs.declared.key.Key.TheVariants.{NetworkOnConnect, NetworkJoinAfter}
-use Rattle.bnc_config.specs.declared.key.Key.TheVariants.{NetworkKeys, NetworkNicks, NetworkAway}
-
--- ---- which values a key allows
-
--- a text that passes the test
-abbrev pub is_text_where : (List ℕ → Bool) → Data → Bool
-is_text_where test (string text) = test text
-is_text_where test _ = false
-
--- an integer within the two bounds
-abbrev pub is_number_within : ℕ → ℕ → Data → Bool
-is_number_within low high (integer (pos n)) = nat_le low n && nat_le n high
-is_number_within low high _ = false
-
-abbrev pub is_table : Data → Bool
-is_table value = is_some (as_table value)
-
-abbrev pub all_items : (Data → Bool) → Items → Bool
-all_items test no_items = true
-all_items test (item value items) = test value && all_items test items
-
-abbrev pub item_count : Items → ℕ
-item_count no_items = 0
-item_count (item value items) = suc (item_count items)
-
--- a list of at most so many values, each of which passes the test
-abbrev pub is_list_where : (Data → Bool) → Data → Bool
-is_list_where test (array items) = all_items test items
-is_list_where test _ = false
-
-abbrev pub has_at_most : ℕ → Data → Bool
-has_at_most most (array items) = nat_le (item_count items) most
-has_at_most most _ = false
-
--- a list of at most so many texts, each of which passes the test
-abbrev pub is_text_list : (List ℕ → Bool) → ℕ → Data → Bool
-is_text_list test most value = is_list_where (is_text_where test) value && has_at_most most value
-
--- a text that passes the test, or a list of such texts, of one to so many
-abbrev pub is_text_or_list : (List ℕ → Bool) → ℕ → Data → Bool
-is_text_or_list test most (string text) = test text
-is_text_or_list test most (array items) =
-    all_items (is_text_where test) items
-    && (nat_le 1 (item_count items) && nat_le (item_count items) most)
-is_text_or_list test most _ = false
-
-abbrev pub all_members : (Data → Bool) → Members → Bool
-all_members test no_members = true
-all_members test (member name value members) = test value && all_members test members
-
-abbrev pub member_count : Members → ℕ
-member_count no_members = 0
-member_count (member name value members) = suc (member_count members)
-
--- a table of at most so many texts, each of which passes the test, under any names
-abbrev pub is_text_table : (List ℕ → Bool) → ℕ → Data → Bool
-is_text_table test most (table members) =
-    nat_le (member_count members) most && all_members (is_text_where test) members
-is_text_table test most _ = false
-
--- `true` or `false`
-abbrev pub is_flag : Data → Bool
-is_flag value = is_some (as_bool value)
-
--- the texts that a key, or each item of its list or table, allows: a key with no texts, or hexadecimal ones,
--- has none here
-abbrev pub allows_text : Key → List ℕ → Bool
-allows_text Listen = is_address
-allows_text Kept = is_path
-allows_text Metrics = is_path
-allows_text ListenProxy = is_address
-allows_text Proxies = is_ip
-allows_text MessagesNever = is_word
-allows_text PlaybackTimes = is_offset
-allows_text UserName = is_name
-allows_text NetworkName = is_name
-allows_text NetworkAddress = is_address
-allows_text NetworkNick = is_nameable
-allows_text NetworkUser = is_word
-allows_text NetworkRealname = is_one_line
-allows_text NetworkPassword = is_word
-allows_text NetworkJoin = is_word
-allows_text NetworkSasl = is_mechanism
-allows_text NetworkSaslUser = is_word
-allows_text NetworkSaslPassword = is_account_password
-allows_text NetworkOnConnect = is_sent_at_connect
-allows_text NetworkKeys = is_channel_key
-allows_text NetworkNicks = is_nameable
-allows_text _ = λ text. false
-
--- the values that a key allows
-abbrev pub allows : Key → Data → Bool
-allows Listen = is_text_or_list is_address 8
-allows History = is_number_within 1 10000
-allows Retry = is_number_within 1 3600
-allows Memory = is_number_within 8 65536
-allows ListenProxy = is_text_or_list is_address 8
-allows Proxies = is_text_list is_ip 16
-allows Messages = is_table
-allows MessagesCtcp = is_flag
-allows MessagesServerNotices = is_flag
-allows MessagesNever = is_text_list is_word 64
-allows MessagesToSelf = is_flag
-allows MessagesByPerson = is_flag
-allows Playback = is_table
-allows PlaybackPrivateBatches = is_flag
-allows PlaybackVisits = is_flag
-allows PlaybackWait = is_number_within 0 60
-allows User = is_list_where is_table
-allows UserSalt = is_text_where is_hexadecimal
-allows UserPassword = is_text_where is_digest
-allows UserNetwork = is_list_where is_table
-allows NetworkJoin = is_text_list is_word 64
-allows NetworkOnConnect = is_text_list is_sent_at_connect 16
-allows NetworkJoinAfter = is_number_within 0 60
-allows NetworkKeys = is_text_table is_channel_key 64
-allows NetworkNicks = is_text_list is_nameable 8
-allows NetworkAway = is_flag
-allows key = is_text_where (allows_text key)
-
--- the keys that may be left out
-abbrev pub is_optional : Key → Bool
-is_optional History = true
-is_optional Retry = true
-is_optional Kept = true
-is_optional Memory = true
-is_optional Metrics = true
-is_optional ListenProxy = true
-is_optional Proxies = true
-is_optional Messages = true
-is_optional MessagesCtcp = true
-is_optional MessagesServerNotices = true
-is_optional MessagesNever = true
-is_optional MessagesToSelf = true
-is_optional MessagesByPerson = true
-is_optional Playback = true
-is_optional PlaybackPrivateBatches = true
-is_optional PlaybackTimes = true
-is_optional PlaybackVisits = true
-is_optional PlaybackWait = true
-is_optional User = true
-is_optional UserNetwork = true
-is_optional NetworkPassword = true
-is_optional NetworkJoin = true
-is_optional NetworkSasl = true
-is_optional NetworkSaslUser = true
-is_optional NetworkOnConnect = true
-is_optional NetworkJoinAfter = true
-is_optional NetworkKeys = true
-is_optional NetworkNicks = true
-is_optional NetworkAway = true
-is_optional _ = false
+use Rattle.bnc_config.specs.declared.key.Key.TheVariants.{NetworkJoin, NetworkSasl, NetworkSaslUser}
+use Rattle.bnc_config.specs.declared.key.Key.TheVariants.{NetworkSaslPassword, NetworkOnConnect}
+use Rattle.bnc_config.specs.declared.key.Key.TheVariants.{NetworkJoinAfter, NetworkKeys}
+use Rattle.bnc_config.specs.declared.key.Key.TheVariants.{NetworkNicks, NetworkAway}
 
 -- ---- the first fault
 
--- the fault of what stands at a key, or of its absence
+-- the fault of the value at a key, or of its absence
 abbrev pub fault_at : Key → Bool → (Data → Bool) → Option Data → Option ConfigFault
 fault_at key optional allowed None = if optional then None else Some (Missing key)
 fault_at key optional allowed (Some value) = if allowed value then None else Some (BadValue key)
@@ -240,7 +84,7 @@ network_option_keys =
 abbrev pub optional_table_at : Key → Members → Option Members
 optional_table_at key tree = option_and_then as_table (get_member (word_of key) tree)
 
--- the table at a key, empty where there is none
+-- the table at a key, empty if there is none
 abbrev pub table_at : Key → Members → Members
 table_at key tree = unwrap_or (optional_table_at key tree) no_members
 
@@ -260,7 +104,7 @@ optional_text_at key tree = option_and_then as_str (get_member (word_of key) tre
 abbrev pub has_plain : Members → Bool
 has_plain tree = option_map_or (bytes_eq (codes "PLAIN")) (optional_text_at NetworkSasl tree) false
 
--- nothing may stand at the key
+-- the key may have no value
 abbrev pub barred_fault : Members → Key → Option ConfigFault
 barred_fault tree key = fault_at key true (λ _. false) (get_member (word_of key) tree)
 
@@ -276,15 +120,15 @@ sasl_fault tree = option_or (key_fault tree NetworkSasl)
 abbrev pub later_fault : Members → Option ConfigFault
 later_fault tree = option_or (sasl_fault tree) (keys_fault network_option_keys tree)
 
--- the name stands earlier in the same list, byte for byte
+-- the name is earlier in the same list, byte for byte
 abbrev pub twice_fault : List (List ℕ) → List ℕ → Option ConfigFault
 twice_fault earlier name = if list_any (bytes_eq name) earlier then Some (Twice name) else None
 
--- the text at a key, empty where there is none
+-- the text at a key, empty if there is none
 abbrev pub text_at : Key → Members → List ℕ
 text_at key tree = unwrap_or (option_and_then as_str (get_member (word_of key) tree)) []
 
--- the items of a list, none where there is no list
+-- the items of a list, none if there is no list
 abbrev pub items_of : Option Data → Items
 items_of (Some (array items)) = items
 items_of _ = no_items
@@ -334,7 +178,7 @@ first_fault tree = option_or (keys_fault top_keys tree)
 
 -- ---- what the file means
 
--- the number at a key, and the default where there is none
+-- the number at a key, and the default if there is none
 abbrev pub number_or : ℕ → Option Data → ℕ
 number_or default (Some (integer (pos n))) = n
 number_or default _ = default
@@ -350,7 +194,7 @@ texts_of (item _ items) = texts_of items
 abbrev pub texts_at : Key → Members → List (List ℕ)
 texts_at key tree = texts_of (items_of (get_member (word_of key) tree))
 
--- the texts of a list, if the key stands
+-- the texts of a list, if the key is there
 abbrev pub optional_texts_at : Key → Members → Option (List (List ℕ))
 optional_texts_at key tree =
     option_map (λ value. texts_of (items_of (Some value))) (get_member (word_of key) tree)
@@ -371,7 +215,7 @@ pairs_of no_members = []
 pairs_of (member name (string text) members) = (name, text) ∷ pairs_of members
 pairs_of (member name _ members) = pairs_of members
 
--- the members of a table, none where there is no table
+-- the members of a table, none if there is no table
 abbrev pub members_of : Option Data → Members
 members_of (Some (table members)) = members
 members_of _ = no_members
@@ -379,7 +223,7 @@ members_of _ = no_members
 abbrev pub channel_keys_at : Members → List ChannelKey
 channel_keys_at tree = pairs_of (members_of (get_member (word_of NetworkKeys) tree))
 
--- the flag at a key, and the default where there is none
+-- the flag at a key, and the default if there is none
 abbrev pub flag_or : Bool → Key → Members → Bool
 flag_or default key tree =
     unwrap_or (option_and_then as_bool (get_member (word_of key) tree)) default
@@ -433,7 +277,7 @@ user_in tree = record {
 abbrev pub default_memory : ℕ → ℕ
 default_memory history = max 64 (history / 16)
 
--- the options at the top, with a history of so many messages
+-- the options at the top, with a history of this many messages
 abbrev pub options_in : ℕ → Members → OptionSettings
 options_in history tree = record {
   kept = optional_text_at Kept tree;
@@ -502,7 +346,7 @@ IsFaultBy first text fault = (tree : Members) × IsTree text tree × (first tree
 abbrev pub IsFaultOf : List ℕ → ConfigFault → Type 0
 IsFaultOf = IsFaultBy first_fault
 
--- the same of a text of which the two tables alone are read
+-- the same for a text of which only the two tables are read
 abbrev pub MeansProfile : List ℕ → ProfileSettings → Type 0
 MeansProfile text profile =
     (tree : Members) × IsTree text tree × (profile_fault tree ≡ None) × (profile ≡ profile_in tree)
@@ -510,26 +354,26 @@ MeansProfile text profile =
 abbrev pub IsProfileFaultOf : List ℕ → ConfigFault → Type 0
 IsProfileFaultOf = IsFaultBy profile_fault
 
--- what is read of a part of a tree: seen as what the part means where it has no fault, else the
--- part's first fault; want of memory may come in place of either
+-- what is read of a part of a tree: seen as what the part means if it has no fault, else the
+-- part's first fault; running out of memory may come in place of either
 abbrev pub Reads : {T V : Type 0} → (T → V) → Result T ConfigFault → Option ConfigFault → V → Type 0
 Reads seen (Ok value) fault meant = (fault ≡ None) × (seen value ≡ meant)
 Reads seen (Err e) fault meant = (e ≡ OutOfMemory) ⊎ (fault ≡ Some e)
 
--- copies of the texts of a list where the key allows them all, else nothing
+-- copies of the texts of a list if the key allows them all, else nothing
 abbrev pub AreCopied : Key → Items → Option (List (List ℕ)) → Type 0
 AreCopied key items None = all_items (is_text_where (allows_text key)) items ≡ false
 AreCopied key items (Some texts) =
     (all_items (is_text_where (allows_text key)) items ≡ true) × (texts ≡ texts_of items)
 
--- copies of the texts of a value, one or a list of one to so many, where the key allows them all,
+-- copies of the texts of a value, one or a list of one to this many, if the key allows them all,
 -- else nothing
 abbrev pub AreAddresses : Key → ℕ → Data → Option (List (List ℕ)) → Type 0
 AreAddresses key most value None = is_text_or_list (allows_text key) most value ≡ false
 AreAddresses key most value (Some texts) =
     (is_text_or_list (allows_text key) most value ≡ true) × (texts ≡ texts_in value)
 
--- copies of the texts of a table with their names where they all are channels' keys, else nothing
+-- copies of the texts of a table with their names if they all are channels' keys, else nothing
 abbrev pub ArePairs : Members → Option (List ChannelKey) → Type 0
 ArePairs members None = all_members (is_text_where is_channel_key) members ≡ false
 ArePairs members (Some pairs) =

@@ -62,7 +62,7 @@ word_of NetworkKeys = codes "keys"
 word_of NetworkNicks = codes "nicks"
 word_of NetworkAway = codes "away"
 
--- how a fault names the key: with the words of the tables that it stands in, and dots between
+-- how a fault names the key: with the words of the tables that it is in, and dots between
 abbrev pub path_of : Key → List ℕ
 path_of Listen = word_of Listen
 path_of History = word_of History

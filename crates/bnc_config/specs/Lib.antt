@@ -1,3 +1,4 @@
+pub mod Allowed
 pub mod Command
 pub mod ConfigFault
 pub mod Digest

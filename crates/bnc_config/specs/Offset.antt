@@ -19,7 +19,7 @@ minutes_of h i m n =
     then Some (pair_value h i * 60 + pair_value m n)
     else None
 
--- a sign, and a minus where local times are behind UTC
+-- a sign, and a minus if local times are behind UTC
 abbrev pub side_of : ℕ → Option Bool
 side_of sign = if sign == 43 || sign == 45 then Some (sign == 45) else None
 

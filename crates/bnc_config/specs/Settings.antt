@@ -7,6 +7,7 @@ use Rattle.std.specs.Option.{option_map_or}
 use Rattle.std.specs.Str.{bytes_eq}
 use Rattle.irc_names.specs.CaseMapping as names
 use Rattle.irc_names.specs.Nick.{is_nameable}
+use Rattle.irc_names.specs.declared.case_mapping.CaseMapping.{CaseMapping}
 use Rattle.irc_names.specs.declared.case_mapping.CaseMapping.TheVariants.{Ascii}
 use Rattle.sha2.specs.Sha256.{sha256}
 use Rattle.bnc_config.specs.Text.{is_account_password, is_address, is_name, is_one_line, is_path}
@@ -131,17 +132,21 @@ abbrev pub AreDialledAlike : NetworkSettings → NetworkSettings → Type 0
 AreDialledAlike one other =
     record one { name = other.name; join = other.join; options = other.options } ≡ other
 
--- the key that a channel has: that of the first pair of its name, in letters of either case, since
--- no CASEMAPPING of the network is known yet
-abbrev pub is_key_for : List ℕ → ChannelKey → Bool
-is_key_for channel pair = bytes_eq (names.key_of Ascii pair.0) (names.key_of Ascii channel)
+-- the key that a channel has: that of the first pair whose name is the channel's under a mapping
+abbrev pub is_key_by : CaseMapping → List ℕ → ChannelKey → Bool
+is_key_by mapping channel pair =
+    bytes_eq (names.key_of mapping pair.0) (names.key_of mapping channel)
 
-abbrev pub key_for : List ChannelKey → List ℕ → Option (List ℕ)
-key_for keys channel = option_and_then
+abbrev pub key_by : CaseMapping → List ChannelKey → List ℕ → Option (List ℕ)
+key_by mapping keys channel = option_and_then
     (λ i. option_map (λ (pair : ChannelKey). pair.1) (slice_get keys i))
-    (position (is_key_for channel) keys)
+    (position (is_key_by mapping channel) keys)
 
--- what a user is like, but for the networks, each of which is like a network
+-- the same in letters of either case, since no CASEMAPPING of the network is known yet
+abbrev pub key_for : List ChannelKey → List ℕ → Option (List ℕ)
+key_for = key_by Ascii
+
+-- what a user is like, except for the networks, each of which is like a network
 abbrev pub IsUser : UserSettings → Type 0
 IsUser user = IsTrue (is_name user.name)
 
@@ -201,7 +206,7 @@ networks_at settings u =
 abbrev pub network_at : Settings → ℕ → ℕ → Option NetworkSettings
 network_at settings u n = slice_get (networks_at settings u) n
 
--- where the user, or the network, of a name stands among some, from 0: the names are compared byte
+-- where the user, or the network, of a name is among some, from 0: the names are compared byte
 -- for byte
 abbrev pub place_of_user : List ℕ → List UserSettings → Option ℕ
 place_of_user name users = position (λ (user : UserSettings). bytes_eq user.name name) users

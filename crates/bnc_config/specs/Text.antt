@@ -64,12 +64,12 @@ is_port text =
     list_all is_ascii_digit text
     && (nat_le 1 (digits_value 10 text) && nat_le (digits_value 10 text) 65535)
 
--- HOST:PORT, where the host is not empty and, ending at the first colon, holds none
+-- HOST:PORT; the host is not empty and, ending at the first colon, holds none
 abbrev pub is_host_and_port : List ℕ → Bool
 is_host_and_port text =
     not (is_empty (before_first (λ b. b == 58) text)) && is_port (after_first (λ b. b == 58) text)
 
--- what stands in the text of an IPv6 address (RFC 4291, section 2.2): hexadecimal digits, colons and
+-- the bytes of the text of an IPv6 address (RFC 4291, section 2.2): hexadecimal digits, colons and
 -- dots; no zone
 abbrev pub is_ipv6_byte : ℕ → Bool
 is_ipv6_byte b =
@@ -98,7 +98,7 @@ is_bracketed text =
 unfoldable pub is_address : List ℕ → Bool
 is_address text = is_host_and_port text || is_bracketed text
 
--- an address was read, and nothing stands behind it
+-- an address was read, and nothing comes after it
 abbrev pub is_whole : Read (List ℕ) → Bool
 is_whole None = false
 is_whole (Some found) = is_empty found.1

@@ -3,7 +3,7 @@
 ghost use Rattle.std.specs.Prelude.{◌≡◌};
 ghost use Rattle.std.specs.Char.{is_ascii_digit};
 ghost use Rattle.std.specs.List.{list_all, list_any};
-ghost use Rattle.bnc_config.specs.Document.{allows_text};
+ghost use Rattle.bnc_config.specs.Allowed.{allows_text};
 ghost use Rattle.bnc_config.specs.Text.{bars_name, bars_word, is_address, is_control, is_name};
 ghost use Rattle.bnc_config.specs.Text.{is_account_password, is_bracketed, is_channel_key};
 ghost use Rattle.bnc_config.specs.Text.{is_colon_and_port, is_ip};
@@ -110,7 +110,7 @@ fn is_path(text: &[u8]) -> bool
     }
 }
 
-/// Whether the text is a port, 1 to 65535 in decimal digits; zeros may stand in front.
+/// Whether the text is a port, 1 to 65535 in decimal digits; zeros may come in front.
 fn is_port(text: &str) -> bool
     ensures { result ≡ is_port text.now }
 {
@@ -123,7 +123,7 @@ fn is_port(text: &str) -> bool
     }
 }
 
-/// Whether the byte can stand in the text of an IPv6 address.
+/// Whether the byte can be in the text of an IPv6 address.
 fn is_ipv6_byte(byte: u8) -> bool
     ensures { result ≡ is_ipv6_byte byte }
 {
@@ -136,7 +136,7 @@ fn has_ipv6_bytes_only(text: &[u8]) -> bool
     text.iter().all(|byte| is_ipv6_byte(*byte))
 }
 
-/// Whether such bytes stand there, one at least.
+/// Whether the text consists of such bytes, one at least.
 fn is_ipv6_text(text: &[u8]) -> bool
     ensures { result ≡ is_ipv6_text text.now }
 {

@@ -3,10 +3,10 @@
 ghost use Rattle.std.specs.Prelude.{◌≡◌, ◌≤◌, IfOk, IfSome, IsTrue, length, option_map, position, true};
 ghost use Rattle.toml.specs.Data.{get_member};
 ghost use Rattle.toml.specs.View.{table_view};
+ghost use Rattle.bnc_config.specs.Allowed.{is_text_table};
 ghost use Rattle.bnc_config.specs.Document.{ArePairs, Reads, channel_keys_at, fault_at};
-ghost use Rattle.bnc_config.specs.Document.{is_text_table};
 ghost use Rattle.bnc_config.specs.Key.{word_of};
-ghost use Rattle.bnc_config.specs.Settings.{are_channel_keys, is_key_for, key_for};
+ghost use Rattle.bnc_config.specs.Settings.{are_channel_keys, is_key_by, key_by};
 ghost use Rattle.bnc_config.specs.Text.{is_channel_key};
 ghost use Rattle.bnc_config.specs.declared.key.Key.TheVariants.{NetworkKeys};
 
@@ -54,27 +54,31 @@ impl ChannelKey {
         self.key.as_bytes()
     }
 
-    /// Whether this is the channel, in letters of either case.
-    fn is_for(&self, channel: &[u8]) -> bool
-        ensures { result ≡ is_key_for channel.now self.now }
+    /// Whether this is the channel, under a mapping.
+    fn is_for(&self, mapping: CaseMapping, channel: &[u8]) -> bool
+        ensures { result ≡ is_key_by mapping channel.now self.now }
     {
-        CaseMapping::Ascii.same(self.channel(), channel)
+        mapping.same(self.channel(), channel)
     }
 }
 
-/// The place of the first key of the channel of this name among some.
-fn place_for(keys: &[ChannelKey], channel: &[u8]) -> Option<usize>
-    ensures { result ≡ position (is_key_for channel.now) keys.now }
+/// The place of the first key of the channel of this name among some, under a mapping.
+fn place_by(mapping: CaseMapping, keys: &[ChannelKey], channel: &[u8]) -> Option<usize>
+    ensures { result ≡ position (is_key_by mapping channel.now) keys.now }
 {
-    keys.iter().position(|pair| pair.is_for(channel))
+    keys.iter().position(|pair| pair.is_for(mapping, channel))
 }
 
-/// The key of the channel of this name among some.
-pub(crate) fn key_for<'k>(keys: &'k [ChannelKey], channel: &[u8]) -> Option<&'k [u8]>
-    ensures value { option_map (λ key. key.now) result ≡ key_for keys.now channel.now }
+/// The key of the channel of this name among some, under a mapping.
+pub(crate) fn key_by<'k>(
+    mapping: CaseMapping,
+    keys: &'k [ChannelKey],
+    channel: &[u8],
+) -> Option<&'k [u8]>
+    ensures value { option_map (λ key. key.now) result ≡ key_by mapping keys.now channel.now }
     ensures clean { IfSome result (λ key. IsTrue (is_channel_key key.now)) }
 {
-    let place = place_for(keys, channel)?;
+    let place = place_by(mapping, keys, channel)?;
     match keys.get(place) {
         Some(pair) => Some(pair.key()),
         None => None,

@@ -23,8 +23,8 @@ use std::alloc::Global;
 use std::marker::Model;
 use toml::Table;
 
-/// How many messages a file may ask for: as many as a history can hold (`history::CAPACITY_LIMIT`,
-/// which this crate, below that one, can't name).
+/// How many messages a file may ask for: the most that a history can hold
+/// (`history::CAPACITY_LIMIT`, which this crate, below that one, can't name).
 const HISTORY_LIMIT: u32 = 10_000;
 
 /// The settings that a file means.
@@ -141,7 +141,7 @@ impl Config {
         self.options.proxies()
     }
 
-    /// How many messages a network's history keeps: 1 to 10,000, and 500 where the file does not
+    /// How many messages a network's history keeps: 1 to 10,000, and 500 if the file does not
     /// say.
     pub fn history(&self) -> usize
         ensures value { result ≡ self.now.history }
@@ -150,7 +150,7 @@ impl Config {
         self.history
     }
 
-    /// The seconds between two dials after a loss: 1 to 3600, and 30 where the file does not say.
+    /// The seconds between two dials after a loss: 1 to 3600, and 30 if the file does not say.
     pub fn retry(&self) -> u64
         ensures value { result ≡ self.now.retry }
         ensures within { (1 ≤ result) × (result ≤ 3600) }
@@ -213,7 +213,7 @@ impl Config {
         self.users.len()
     }
 
-    /// The networks of the user at a place, from 0, in the order of the file: none where there is
+    /// The networks of the user at a place, from 0, in the order of the file: none if there is
     /// no such user.
     pub fn networks(&self, user: usize) -> &[NetworkConfig]
         ensures { result.now ≡ networks_at self.now user }
@@ -224,7 +224,7 @@ impl Config {
         }
     }
 
-    /// How many networks the user at a place, from 0, has: 0 where there is no such user.
+    /// How many networks the user at a place, from 0, has: 0 if there is no such user.
     pub fn network_count(&self, user: usize) -> usize
         ensures { result ≡ length (networks_at self.now user) }
     {
@@ -249,7 +249,7 @@ impl Config {
     }
 
     /// Whether this is the password of the user of a name: whether the SHA-256 digest of the user's
-    /// salt followed by the password is the user's. False where no user has the name.
+    /// salt followed by the password is the user's. False if no user has the name.
     pub fn password_matches(&self, user: &[u8], password: &[u8]) -> bool
         ensures { IsTrue result ↔ Matches self.now user.now password.now }
     {

@@ -25,7 +25,7 @@ fn difference(a: &[u8; 32], b: &[u8; 32]) -> u8
         .fold(0, |difference, (x, y)| difference | (*x ^ *y))
 }
 
-/// Whether the two digests are equal, in a time that does not tell where they differ.
+/// Whether the two digests are equal, in a time that does not reveal where they differ.
 #[tactic(auto, using(crate::proofs::DigestLemmas::none_more, crate::proofs::DigestLemmas::same_from_difference))]
 pub(crate) fn are_equal(a: &[u8; 32], b: &[u8; 32]) -> bool
     ensures { IsTrue result ↔ (a.now ≡ b.now) }

@@ -12,7 +12,7 @@ use std::fmt;
 pub enum ConfigFault {
     /// The file is not UTF-8, not of TOML's grammar, or gives a key twice.
     NotToml,
-    /// A key that must stand is not there.
+    /// A key that must be there is not.
     Missing(Key),
     /// A key's value is of another type, or not one that the key allows.
     BadValue(Key),

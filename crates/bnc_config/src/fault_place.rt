@@ -1,4 +1,4 @@
-//! Where the first fault of a settings file stands.
+//! Where the first fault of a settings file is.
 
 use crate::names::Names;
 use crate::table::tables_at;
@@ -7,7 +7,7 @@ use std::alloc::Global;
 use std::ops::Range;
 use toml::{Table, Value};
 
-/// Where the first fault of a settings file stands.
+/// Where the first fault of a settings file is.
 #[derive(Clone, Copy, Debug, PartialEq, Eq)]
 pub enum FaultPlace {
     /// In this line of the text, counted from 1.
@@ -62,7 +62,7 @@ fn network_count(users: &[Value]) -> usize {
     count
 }
 
-/// Where a fault of this key stands, which is one of a user or of a network.
+/// Where a fault of this key is, which is one of a user or of a network.
 fn place_of_key(alloc: Global, text: &[u8], key: Key) -> Option<FaultPlace> {
     let table = toml::table_from_slice(alloc, text).ok()?;
     let users = tables_at(&table, Key::User).ok()?;
@@ -76,7 +76,7 @@ fn place_of_key(alloc: Global, text: &[u8], key: Key) -> Option<FaultPlace> {
     Some(FaultPlace::Network(user, faulty_network(alloc, inner)?))
 }
 
-/// Where the first fault of a file stands: the line of a text that is not TOML; the table of a key of
+/// Where the first fault of a file is: the line of a text that is not TOML; the table of a key of
 /// a user or a network, if the file has several users or networks. `None` for other faults, and if
 /// an allocation fails.
 pub fn place_of_fault(alloc: Global, text: &[u8], fault: &ConfigFault) -> Option<FaultPlace> {

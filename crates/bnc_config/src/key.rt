@@ -5,7 +5,7 @@ ghost use Rattle.bnc_config.specs.Key.{path_of, word_of};
 
 use std::fmt;
 
-/// A key of the settings file, by the table that it stands in: the top of the file, `[messages]`,
+/// A key of the settings file, by the table that it is in: the top of the file, `[messages]`,
 /// `[playback]`, a `[[user]]` table or a `[[user.network]]` table.
 #[derive(Clone, Copy, Debug, PartialEq, Eq)]
 pub enum Key {
@@ -39,7 +39,7 @@ pub enum Key {
     MessagesByPerson,
     /// `playback`: the table of how it is played back.
     Playback,
-    /// `playback.private_batches`: whether each person's messages stand in a batch.
+    /// `playback.private_batches`: whether each person's messages come in a batch.
     PlaybackPrivateBatches,
     /// `playback.times`: from which offset from UTC times are written into texts.
     PlaybackTimes,
@@ -133,7 +133,7 @@ impl Key {
         Key::NetworkAway,
     ];
 
-    /// The key with the tables that it stands in, as faults name it: `user.network.nick`.
+    /// The key with the tables that it is in, as faults name it: `user.network.nick`.
     pub fn path(self) -> &'static str
         ensures { result.now ≡ path_of self }
     {
@@ -180,7 +180,7 @@ impl Key {
         }
     }
 
-    /// The key's own word, as it stands in its table.
+    /// The key's own word, as it is in its table.
     pub(crate) fn word(self) -> &'static str
         ensures { result.now ≡ word_of self }
     {

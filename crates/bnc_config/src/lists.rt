@@ -6,8 +6,8 @@ ghost use Rattle.std.specs.List.{list_all};
 ghost use Rattle.toml.specs.Data.{get_member};
 ghost use Rattle.toml.specs.View.{items_view, table_view, view};
 ghost use Rattle.bnc_config.specs.Key.{word_of};
-ghost use Rattle.bnc_config.specs.Document.{AreAddresses, AreCopied, Reads, addresses_at};
-ghost use Rattle.bnc_config.specs.Document.{allows_text, fault_at, is_text_list, is_text_or_list};
+ghost use Rattle.bnc_config.specs.Allowed.{allows_text, is_text_list, is_text_or_list};
+ghost use Rattle.bnc_config.specs.Document.{AreAddresses, AreCopied, Reads, addresses_at, fault_at};
 ghost use Rattle.bnc_config.specs.Document.{optional_texts_at, texts_at, texts_in};
 
 use crate::allowed::allows;
@@ -16,7 +16,7 @@ use crate::{ConfigFault, Key, OutOfMemory, Text};
 use std::alloc::Global;
 use toml::{Table, Value};
 
-/// Copies of the texts that a list has, all of which the key allows; else `None`.
+/// Copies of the texts that a list has, if the key allows all of them; else `None`.
 fn copied_texts(alloc: Global, values: &[Value], key: Key) -> Result<Option<Vec<Text>>, OutOfMemory>
     ensures { IfOk result (λ copies.
         AreCopied key (items_view values.now) (option_map (λ texts. texts.items) copies)) }
@@ -31,7 +31,7 @@ fn copied_texts(alloc: Global, values: &[Value], key: Key) -> Result<Option<Vec<
     Ok(Some(texts))
 }
 
-/// Copies of the texts of the list at a key, at most so many, if the key stands.
+/// Copies of the texts of the list at a key, at most this many, if the key is there.
 #[tactic(auto, using(crate::proofs::ItemsLemmas::item_count_view, crate::proofs::ItemsLemmas::texts_of_allowed, crate::proofs::ItemsLemmas::few_texts_of))]
 pub(crate) fn texts_or_none(
     alloc: Global,
@@ -61,7 +61,7 @@ pub(crate) fn texts_or_none(
     }
 }
 
-/// Copies of the texts of the list at a key, at most so many, which may be left out.
+/// Copies of the texts of the list at a key, at most this many, which may be left out.
 pub(crate) fn texts_at(
     alloc: Global,
     table: &Table,
@@ -81,7 +81,7 @@ pub(crate) fn texts_at(
     }
 }
 
-/// Copies of the texts of a value, one or a list of 1 to 8, all of which the key allows; else
+/// Copies of the texts of a value, one or a list of 1 to 8, if the key allows all of them; else
 /// `None`.
 #[tactic(auto, using(crate::proofs::ItemsLemmas::item_count_view))]
 fn copied_addresses(
@@ -124,7 +124,7 @@ fn addresses_of(alloc: Global, value: &Value, key: Key) -> Result<Vec<Text>, Con
     }
 }
 
-/// The addresses at a key that has to stand: one text, or a list of 1 to 8.
+/// The addresses at a key that has to be there: one text, or a list of 1 to 8.
 pub(crate) fn required_addresses(
     alloc: Global,
     table: &Table,

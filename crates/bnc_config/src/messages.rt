@@ -3,8 +3,8 @@
 ghost use Rattle.std.specs.Prelude.{◌≡◌, ◌≤◌, IsTrue, length};
 ghost use Rattle.std.specs.List.{list_all};
 ghost use Rattle.toml.specs.View.{table_view};
-ghost use Rattle.bnc_config.specs.Document.{Reads, keys_fault, message_keys, messages_in};
-ghost use Rattle.bnc_config.specs.Document.{table_at, table_fault};
+ghost use Rattle.bnc_config.specs.Document.{Reads, keys_fault, message_keys, messages_in, table_at};
+ghost use Rattle.bnc_config.specs.Document.{table_fault};
 ghost use Rattle.bnc_config.specs.Text.{is_word};
 ghost use Rattle.bnc_config.specs.declared.key.Key.TheVariants.{Messages};
 

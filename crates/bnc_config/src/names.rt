@@ -1,4 +1,4 @@
-//! The names that stand earlier in a list.
+//! The names that come earlier in a list.
 
 ghost use Rattle.std.specs.Prelude.{◌≡◌, ◌++◌, ◌∷◌, [], List, ℕ, not, IfOk, OnOk};
 ghost use Rattle.std.specs.List.{list_any};
@@ -10,7 +10,7 @@ use crate::{ConfigFault, OutOfMemory, Text};
 use std::alloc::Global;
 use std::collections::HashMap;
 
-/// The names that stand earlier in a list, by which a name that comes again is found at once.
+/// The names that come earlier in a list, by which a name that comes again is found at once.
 #[derive(Drop)]
 pub(crate) struct Names<'t> {
     seen: HashMap<&'t str, ()>,
@@ -26,7 +26,7 @@ impl<'t> Names<'t> {
         }
     }
 
-    /// Adds a name, and tells whether it is new.
+    /// Adds a name, and says whether it is new.
     pub fn add(&mut self, name: &'t str) -> Result<bool, OutOfMemory>
         ensures new { IfOk result (λ is_new. (earlier : List (List ℕ)) → AreNames self.old earlier
             → is_new ≡ not (list_any (bytes_eq name.now) earlier)) }
@@ -37,7 +37,7 @@ impl<'t> Names<'t> {
         Ok(earlier.is_none())
     }
 
-    /// Adds a name that is to be new. One that stands earlier is a fault.
+    /// Adds a name that is to be new. One that comes earlier is a fault.
     pub fn add_new(&mut self, alloc: Global, name: &'t str) -> Result<(), ConfigFault>
         ensures read { (earlier : List (List ℕ)) → AreNames self.old earlier
             → Reads (λ none. none) result (twice_fault earlier name.now) tt }

@@ -179,7 +179,7 @@ impl NetworkConfig {
         self.realname.as_bytes()
     }
 
-    /// The parameter of the PASS line (RFC 2812, section 3.1.1), a word; `None` where no PASS is
+    /// The parameter of the PASS line (RFC 2812, section 3.1.1), a word; `None` if no PASS is
     /// sent.
     pub fn password(&self) -> Option<&[u8]>
         ensures value { option_map (λ password. password.now) result ≡ self.now.password }

@@ -7,13 +7,14 @@ ghost use Rattle.toml.specs.View.{table_view};
 ghost use Rattle.bnc_config.specs.Command.{is_sent_at_connect};
 ghost use Rattle.bnc_config.specs.Document.{Reads, keys_fault, network_option_keys};
 ghost use Rattle.bnc_config.specs.Document.{network_options_in};
-ghost use Rattle.bnc_config.specs.Settings.{are_channel_keys, key_for};
+ghost use Rattle.bnc_config.specs.Settings.{are_channel_keys, key_by, key_for};
 ghost use Rattle.bnc_config.specs.Text.{is_channel_key};
 
-use crate::channel_keys::{key_for, read_keys};
+use crate::channel_keys::{key_by, read_keys};
 use crate::lists::{texts_at, texts_or_none};
 use crate::table::{flag_or, number_or};
 use crate::{ChannelKey, ConfigFault, Key, NetworkConfig, Text};
+use irc_names::CaseMapping;
 use std::alloc::Global;
 use std::marker::Model;
 use toml::Table;
@@ -111,7 +112,17 @@ impl NetworkConfig {
             ≡ key_for self.now.options.keys channel.now }
         ensures clean { IfSome result (λ key. IsTrue (is_channel_key key.now)) }
     {
-        key_for(self.options.pairs.as_slice(), channel)
+        key_by(CaseMapping::Ascii, self.options.pairs.as_slice(), channel)
+    }
+
+    /// The key of a channel, once the network's CASEMAPPING is known: that of the first of `keys`
+    /// which has its name under this mapping.
+    pub fn key_by(&self, mapping: CaseMapping, channel: &[u8]) -> Option<&[u8]>
+        ensures value { option_map (λ key. key.now) result
+            ≡ key_by mapping self.now.options.keys channel.now }
+        ensures clean { IfSome result (λ key. IsTrue (is_channel_key key.now)) }
+    {
+        key_by(mapping, self.options.pairs.as_slice(), channel)
     }
 
     /// Further nicks for when the wanted one can't be had, in the order of the file: at most 8,

@@ -47,7 +47,7 @@ impl Model for Options {
 }
 
 impl Options {
-    /// The options that a file's top has, with a history of so many messages.
+    /// The options that a file's top has, with a history of this many messages.
     pub fn read(alloc: Global, table: &Table, history: u32) -> Result<Options, ConfigFault>
         requires { history ≤ 10000 }
         ensures { Reads (λ options. options) result

@@ -1,4 +1,4 @@
-//! Where a network stands in the settings.
+//! The place of a network in the settings.
 
 /// A network's place: that of its user among the users, and its own among the user's networks, both
 /// from 0 in the order of the file.

@@ -91,7 +91,7 @@ impl PlaybackConfig {
 }
 
 impl PlaybackConfig {
-    /// Whether the messages with each person stand in a batch of their own; not if the file does
+    /// Whether the messages with each person come in a batch of their own; not if the file does
     /// not say.
     pub fn private_batches(&self) -> bool
         ensures { result ≡ self.now.private_batches }
@@ -108,7 +108,7 @@ impl PlaybackConfig {
         self.times
     }
 
-    /// Whether messages of a channel that we are not on stand between a JOIN and a PART of ours;
+    /// Whether messages of a channel that we are not on come between a JOIN and a PART of ours;
     /// not if the file does not say.
     pub fn visits(&self) -> bool
         ensures { result ≡ self.now.visits }

@@ -2,8 +2,8 @@
 
 ghost use Rattle.std.specs.Prelude.{◌≡◌, MatchResult};
 ghost use Rattle.toml.specs.View.{table_view};
-ghost use Rattle.bnc_config.specs.Document.{IsProfileFaultOf, MeansProfile, Reads};
-ghost use Rattle.bnc_config.specs.Document.{profile_fault, profile_in};
+ghost use Rattle.bnc_config.specs.Document.{IsProfileFaultOf, MeansProfile, Reads, profile_fault};
+ghost use Rattle.bnc_config.specs.Document.{profile_in};
 
 use crate::{ConfigFault, MessagesConfig, PlaybackConfig};
 use std::alloc::Global;

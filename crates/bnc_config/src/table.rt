@@ -6,10 +6,10 @@ ghost use Rattle.std.specs.List.{list_all};
 ghost use Rattle.toml.specs.Data.{get_member};
 ghost use Rattle.toml.specs.View.{view, items_view, table_view};
 ghost use Rattle.bnc_config.specs.Key.{word_of};
-ghost use Rattle.bnc_config.specs.Document.{Reads, allows_text, barred_fault, fault_at, flag_or};
-ghost use Rattle.bnc_config.specs.Document.{is_flag, is_list_where, is_number_within, is_table};
-ghost use Rattle.bnc_config.specs.Document.{is_text_where, items_of, number_at};
-ghost use Rattle.bnc_config.specs.Document.{optional_table_at, optional_text_at};
+ghost use Rattle.bnc_config.specs.Allowed.{allows_text, is_flag, is_list_where, is_number_within};
+ghost use Rattle.bnc_config.specs.Allowed.{is_table, is_text_where};
+ghost use Rattle.bnc_config.specs.Document.{Reads, barred_fault, fault_at, flag_or, items_of};
+ghost use Rattle.bnc_config.specs.Document.{number_at, optional_table_at, optional_text_at};
 ghost use Rattle.bnc_config.specs.Document.{text_at};
 
 use crate::allowed::allows;
@@ -17,7 +17,7 @@ use crate::{ConfigFault, Key, Text};
 use std::alloc::Global;
 use toml::{Table, Value};
 
-/// What stands at a key of its table.
+/// The value at a key of its table.
 pub(crate) fn value_at<'t>(table: &'t Table, key: Key) -> Option<&'t Value>
     ensures { option_map (λ value. view value.now) result
         ≡ get_member (word_of key) (table_view table.now) }
@@ -25,7 +25,7 @@ pub(crate) fn value_at<'t>(table: &'t Table, key: Key) -> Option<&'t Value>
     table.get(key.word())
 }
 
-/// The text at a key that has to stand, whatever it is.
+/// The text at a key that has to be there, whatever it is.
 pub(crate) fn any_text<'t>(table: &'t Table, key: Key) -> Result<&'t str, ConfigFault>
     ensures { Reads (λ text. text.now) result
         (fault_at key false (is_text_where (λ _. true))
@@ -41,7 +41,7 @@ pub(crate) fn any_text<'t>(table: &'t Table, key: Key) -> Result<&'t str, Config
     }
 }
 
-/// The text at a key that has to stand, one that the key allows.
+/// The text at a key that has to be there, one that the key allows.
 pub(crate) fn allowed_text<'t>(table: &'t Table, key: Key) -> Result<&'t str, ConfigFault>
     ensures allowed { IfOk result (λ text. IsTrue (allows_text key text.now)) }
     ensures read { Reads (λ text. text.now) result
@@ -58,7 +58,7 @@ pub(crate) fn allowed_text<'t>(table: &'t Table, key: Key) -> Result<&'t str, Co
     }
 }
 
-/// A copy of the text at a key that has to stand.
+/// A copy of the text at a key that has to be there.
 pub(crate) fn required_text(alloc: Global, table: &Table, key: Key) -> Result<Text, ConfigFault>
     ensures allowed { IfOk result (λ text. IsTrue (allows_text key text)) }
     ensures read { Reads (λ text. text) result
@@ -105,7 +105,7 @@ pub(crate) fn optional_text(
     }
 }
 
-/// A fault if anything stands at a key.
+/// A fault if a key has any value.
 pub(crate) fn bar(table: &Table, key: Key) -> Result<(), ConfigFault>
     ensures { Reads (λ none. none) result (barred_fault (table_view table.now) key) tt }
 {

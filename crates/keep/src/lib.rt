@@ -19,7 +19,7 @@ pub struct Watch {
     /// After how many silent seconds the peer is tested (TCP_KEEPIDLE): 1 to 32767.
     pub idle: u16,
     /// After how many milliseconds without an answer to what was sent the connection is ended
-    /// (TCP_USER_TIMEOUT; RFC 5482). Where nothing was sent since the first test, it is ended at
+    /// (TCP_USER_TIMEOUT; RFC 5482). If nothing was sent since the first test, it is ended at
     /// the first further test past that time: the system tests every 75 seconds, if its own setting
     /// was not changed (TCP_KEEPINTVL).
     pub limit: u32,
@@ -47,7 +47,7 @@ fn number_of(value: &[u8; 16]) -> u32 {
 }
 
 /// Has the system watch a connection: it tests a peer that is silent (SO_KEEPALIVE; RFC 1122,
-/// section 4.2.3.6), and ends the connection where no answer comes. Reads and writes then fail. No
+/// section 4.2.3.6), and ends the connection if no answer comes. Reads and writes then fail. No
 /// byte of the stream is sent for it.
 pub fn keep_watch(stream: &TcpStream, how: Watch) -> io::Result<()> {
     let fd = stream.as_raw_fd();
@@ -59,7 +59,7 @@ pub fn keep_watch(stream: &TcpStream, how: Watch) -> io::Result<()> {
     check(unsafe { c::setsockopt(fd, c::IPPROTO_TCP, c::TCP_USER_TIMEOUT, &limit, 4) })
 }
 
-/// How the system watches a connection; `None` where it does not.
+/// How the system watches a connection; `None` if it does not.
 pub fn watch_on(stream: &TcpStream) -> io::Result<Option<Watch>> {
     let fd = stream.as_raw_fd();
     let mut on = value_of(0);
@@ -93,7 +93,7 @@ pub fn shut_listener(listener: &TcpListener) -> io::Result<()> {
     check(c::shutdown(listener.as_raw_fd(), c::SHUT_RD))
 }
 
-/// Waits until a file can be read or is at its end, but for no longer than this; whether it can. Also
+/// Waits until a file can be read or is at its end, at most for this time; whether it can. Also
 /// if the wait fails, so that the read that follows says why.
 pub fn is_readable(file: &File, time: Duration) -> bool {
     let timeout = i32::try_from(time.as_millis()).unwrap_or(i32::MAX);
@@ -103,6 +103,17 @@ pub fn is_readable(file: &File, time: Duration) -> bool {
         revents: 0,
     }];
     c::poll(&mut files, timeout) != 0
+}
+
+/// Whether a pipe or FIFO that is open for writing takes 4,096 bytes (PIPE_BUF) at once, so that a write of
+/// no more does not wait.
+pub fn has_room(file: &File) -> bool {
+    let mut files = [libc::types::pollfd {
+        fd: file.as_raw_fd(),
+        events: c::POLLOUT,
+        revents: 0,
+    }];
+    c::poll(&mut files, 0) > 0
 }
 
 /// The user whose rights the program has.

@@ -43,7 +43,7 @@ pub(crate) fn turn_away<R: Wait + Clock>(
 }
 
 /// A seat for the client of a connection; `None` if there is none. An address that names no client
-/// yet may have as many as there are.
+/// yet may have all the seats that there are.
 pub(crate) fn seat_for<R: Wait + Clock>(
     rt: &R,
     shared: &Shared,
@@ -64,7 +64,11 @@ pub(crate) fn seat_for<R: Wait + Clock>(
     } else {
         limits.login
     };
-    Ok(Some(Seat { number, time }))
+    Ok(Some(Seat {
+        number,
+        time,
+        is_proxied: false,
+    }))
 }
 
 /// Starts the thread that serves a client, whose proxy is to name it first if it is not named yet.
@@ -181,7 +185,7 @@ fn accept_at<R: Host>(
     }
 }
 
-/// Accepts clients, as many as the limits say, and serves each in a thread of its own. One for
+/// Accepts clients, up to the limits, and serves each in a thread of its own. One for
 /// whose login there is no seat gets `ERROR :too many connections`. If a connection can't be
 /// accepted, as without a free descriptor, it waits a while and goes on. It ends once the service
 /// does: a listener that is shut then wakes it.

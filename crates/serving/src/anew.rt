@@ -1,4 +1,4 @@
-//! A network that is begun anew, since there was no memory for what came from it.
+//! A network that is begun anew after memory ran out for what it sent.
 
 use crate::journaling::begin_again;
 use crate::link::{Link, network_with_link};
@@ -20,13 +20,13 @@ use steward::{Answer, Event};
 /// After how many seconds a start that was refused is tried again.
 const PAUSE: u64 = 1;
 
-/// What makes a network of which nothing came, with its link.
+/// What makes a network that has received nothing, with its link.
 pub trait Start<V: NetworkView + Drop> {
     /// Makes one. `AllocError` if an allocation fails.
     fn start(&self) -> Result<(Network<V>, Link), AllocError>;
 }
 
-/// What makes a network of the program, by the settings of now.
+/// What makes a network of the program, by the current settings.
 #[derive(Clone, Copy)]
 pub(crate) struct OfSettings<'a, R: Wait + Clock + Disk> {
     pub(crate) rt: &'a R,
@@ -58,11 +58,11 @@ fn started<V: NetworkView + Drop, S: Start<V>>(
     Ok((Arc::new(alloc, network)?, link))
 }
 
-/// Begins a network anew in its slot. The one that stands there is given up, with all that it kept.
-/// A new one takes its place, with its own lock, view and ends; if memory is refused for that, it is
+/// Begins a network anew in its slot. The one that is in it is given up, with all that it kept. A
+/// new one takes its place, with its own lock, view and ends; if an allocation for it fails, it is
 /// tried again each second. The thread that dials finds its link in the slot.
 ///
-/// The caller holds the network no more: what its view held is freed with the last who does.
+/// The caller no longer holds the network: what its view held is freed once nobody holds it.
 pub fn begin_anew<V: NetworkView + Drop, S: Start<V>, R: Wait + Clock>(
     rt: &R,
     alloc: Global,
@@ -79,8 +79,8 @@ pub fn begin_anew<V: NetworkView + Drop, S: Start<V>, R: Wait + Clock>(
     }
 }
 
-/// Shuts the connection of each client of a network and its own, as for a network that keeps more
-/// than it may; whether it is to be begun anew, which it is not once the service ends.
+/// Shuts the connections of a network's clients and its own, as for a network that keeps more than
+/// it may. Answers whether it is to be begun anew: it is not once the service ends.
 fn is_given_up<R: Wait + Clock>(rt: &R, shared: &Shared, network: u64) -> bool {
     for _ in rt.forever() {
         let bytes = u64::MAX;
@@ -101,7 +101,7 @@ pub fn begin_network_anew<S: Start<QuickView>, R: Wait + Clock>(
     station: &Station,
     start: &S,
 ) -> bool {
-    // before its connection is given up, so that nobody dials or comes in by what goes
+    // before its connection is given up, so that nobody dials or enters the network that goes
     station.slot().clear(rt);
     if !is_given_up(rt, shared, station.number()) {
         return false;

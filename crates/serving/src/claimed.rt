@@ -1,4 +1,4 @@
-//! Whom a client claims to be.
+//! The identity that a client claims.
 
 use crate::shown::Who;
 use sessions::{Claim, OutOfMemory};
@@ -13,7 +13,7 @@ pub(crate) struct Claimed {
 }
 
 impl Claimed {
-    /// Those of a claim.
+    /// The names in this claim.
     pub(crate) fn of(alloc: Global, claim: &Claim) -> Result<Claimed, OutOfMemory> {
         let client = match &claim.client {
             Some(client) => Some(Vec::from_slice(alloc, client.as_slice())?),
@@ -26,7 +26,7 @@ impl Claimed {
         })
     }
 
-    /// Whom the log tells about.
+    /// What a log line is about.
     pub(crate) fn who(&self) -> Who<'_> {
         Who {
             user: self.user.as_slice(),

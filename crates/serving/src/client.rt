@@ -5,12 +5,12 @@ use crate::clock::SystemClock;
 use crate::closing::HangingUp;
 use crate::connection::Connection;
 use crate::guest::Guest;
+use crate::hearing::{Ear, Heard};
 use crate::host::Host;
 use crate::judging::{Decision, Judging};
 use crate::limits::Limits;
 use crate::shared::Shared;
 use crate::watching::Watching;
-use crate::wired::Wired;
 use hub_threads::Worker;
 use sessions::serve_by;
 use shell::Counted;
@@ -28,22 +28,25 @@ pub(crate) struct Seat {
     pub(crate) number: u64,
     /// How long the login may take.
     pub(crate) time: Duration,
+    /// Whether a proxy named the client.
+    pub(crate) is_proxied: bool,
 }
 
-/// Sets what holds of the connection from its beginning on.
+/// Sets how the connection is used from its beginning on: no delay, how long a write may take, and
+/// how the system watches it.
 fn prepare(stream: &TcpStream, limits: &Limits) -> io::Result<()> {
     stream.set_nodelay(true)?;
     stream.set_write_timeout(Some(limits.write))?;
     keep::keep_watch(stream, limits.watch)
 }
 
-/// Serves a client to its end, whose login may take so long; an error if it could not be begun.
+/// Serves a client to its end. Its login may take this long. An error if that could not begin.
 fn serve<R: Host>(guest: Guest<'_, R>, time: Duration) -> io::Result<()> {
     prepare(guest.connection.stream(), &guest.shared.limits())?;
     let journals = Arc::try_clone(guest.shared.journals())?;
     let gate = HangingUp::on(guest.connection.share()?).with_journals_that_wait(journals);
     let (out, count) = Counted::new(guest.alloc, guest.connection.share()?)?;
-    let mut input = ClientInput::start(guest.rt, guest.alloc, Wired(guest.connection), time)?;
+    let mut input = ClientInput::start(guest.rt, guest.alloc, Heard::new(guest), time)?;
     let judging = Judging::new(guest);
     let mut watching = Watching::start(guest, count);
     let worker = Worker {
@@ -68,6 +71,7 @@ pub(crate) fn serve_client<R: Host>(
     peer: SocketAddr,
 ) {
     let decision = Decision::new();
+    let ear = Ear::new();
     let guest = Guest {
         rt: &rt,
         alloc,
@@ -76,6 +80,8 @@ pub(crate) fn serve_client<R: Host>(
         connection,
         peer,
         decision: &decision,
+        ear: &ear,
+        is_proxied: seat.is_proxied,
     };
     let _ = serve(guest, seat.time);
     connection.hang_up();

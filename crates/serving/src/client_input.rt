@@ -1,7 +1,7 @@
 //! What a client sends, over its connection, to its network and that network's other clients.
 
 use crate::connection::Connection;
-use crate::wired::Wired;
+use crate::hearing::Heard;
 use hub_ends::Outlet;
 use hub_threads::Network;
 use quick_view::QuickView;
@@ -11,7 +11,7 @@ use std::sync::atomic::{AtomicBool, Ordering};
 use std::sync::{Arc, Wait};
 
 /// What reads a client.
-pub(crate) type ClientInput<'a, R> = shell::ClientInput<'a, Wired<'a>, Others<'a, R>, R>;
+pub(crate) type ClientInput<'a, R> = shell::ClientInput<'a, Heard<'a, R>, Others<'a, R>, R>;
 
 /// A network and its clients, as one of them sees them.
 #[derive(Drop)]

@@ -13,7 +13,7 @@ pub struct SystemClock<'a, C> {
 }
 
 impl<'a, C: Clock> SystemClock<'a, C> {
-    /// That of a runtime.
+    /// The clock of this runtime.
     pub fn of(clock: &'a C) -> SystemClock<'a, C> {
         SystemClock {
             clock,

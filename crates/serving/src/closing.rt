@@ -7,22 +7,22 @@ use std::alloc::AllocError;
 use std::net::{Shutdown, TcpStream};
 use std::sync::Arc;
 
-/// Shuts a connection: each read of it, also one that waits, then answers its end, and each write
-/// fails.
+/// Shuts a connection. From then on each read of it, also one that waits, finds the end of the
+/// input, and each write fails.
 pub fn hang_up(stream: &TcpStream) {
     let _ = stream.shutdown(Shutdown::Both);
 }
 
-/// The gate of a session. It holds nobody. When the session's writer has ended, it shuts the
-/// connection: so the reader of a session that was cut, or to which nothing can be written, ends
-/// too. A writer that was given nothing to write leaves the connection as it is, and so does one
-/// after which a last line is to be sent.
+/// The gate of a session. It makes nobody wait. Once the session's writer has ended, it shuts the
+/// connection, so that the reader of a session that was cut, or to which nothing can be written,
+/// ends too. A writer that was given nothing to write leaves the connection as it is, and so does
+/// one after which a last line is to be sent.
 #[derive(Drop)]
 pub struct HangingUp {
     connection: Connection,
-    // whom to tell of what was written
+    // what is rung after each write, if anything
     journals: Option<Arc<Journals>>,
-    // whether only if it is waited for
+    // whether it is rung only while a writer is waited for
     if_awaited: bool,
 }
 
@@ -36,7 +36,7 @@ impl HangingUp {
         }
     }
 
-    /// The same gate, of the writer to a network that is kept over a restart: what is said there is
+    /// The same gate for the writer to a network that is kept over a restart: what is said there is
     /// kept too.
     pub(crate) fn with_journals(self, journals: Arc<Journals>) -> HangingUp {
         HangingUp {
@@ -45,8 +45,8 @@ impl HangingUp {
         }
     }
 
-    /// The same gate, of the writer to a client: how much it has written is kept over a restart, and
-    /// may be waited for.
+    /// The same gate for the writer to a client: how much it has written is kept over a restart,
+    /// and may be waited for.
     pub(crate) fn with_journals_that_wait(self, journals: Arc<Journals>) -> HangingUp {
         HangingUp {
             journals: Some(journals),

@@ -10,6 +10,7 @@ use crate::dialling::{Dialling, Next};
 use crate::host::Host;
 use crate::journaling::write_last;
 use crate::keeping::{Input, Keeping, ending_of};
+use crate::last_words::LastWords;
 use crate::link::Link;
 use crate::network_event::{Ending, GivenUp, NetworkEvent};
 use crate::network_input::NetworkInput;
@@ -18,6 +19,7 @@ use crate::nick_asked::{is_nick_refused, nick_asked};
 use crate::opening::{Opened, Opening};
 use crate::reaching::connect;
 use crate::roster::Roster;
+use crate::saying_again::holder_of_nick;
 use bnc_config::NetworkConfig;
 use hub_threads::{OutletEnd, Worker};
 use shell::Recalling;
@@ -31,7 +33,7 @@ use std::sync::{Arc, Wait};
 use std::time::Duration;
 use upstream::{DialFault, Duplex, NetworkEnd, RegisterFault, serve_network_as};
 
-/// Any number, by which a rest after a failed dial is longer.
+/// A random number, by which a rest after a failed dial is longer; 0 if none can be drawn.
 fn chance<R: RandomSource>(rt: &R) -> u64 {
     let mut bytes = [0u8; 8];
     match rt.fill_bytes(&mut bytes) {
@@ -108,8 +110,8 @@ fn ends_of<'a, R: Wait + Clock + Copy>(
     Ok((Duplex { reader, writer }, gate))
 }
 
-/// What the network said last about why a connection ended.
-fn said_of<R: Wait + Clock>(
+/// The text of the last line by which the network refused what this end is about.
+fn refusal_of<R: Wait + Clock>(
     end: &NetworkEnd,
     reader: &Input<'_, R>,
     settings: &NetworkConfig,
@@ -129,15 +131,36 @@ fn said_of<R: Wait + Clock>(
             return Some(text);
         }
     }
-    reader.parting(alloc).unwrap_or(None)
+    reader.no_entry(alloc).unwrap_or(None)
 }
 
-/// How a connection ended for which a registration asked for this nick. If it was not taken, the next
-/// registration asks for another one.
+/// The password of the account by which we log in to a network.
+fn account_password(settings: &NetworkConfig) -> Option<&[u8]> {
+    let (_, password) = settings.sasl()?.account()?;
+    Some(password)
+}
+
+/// What the network said last about why a connection ended, except what has a password of ours in it.
+fn last_words<R: Wait + Clock>(
+    end: &NetworkEnd,
+    reader: &Input<'_, R>,
+    settings: &NetworkConfig,
+    alloc: Global,
+) -> LastWords {
+    let said = LastWords {
+        refusal: refusal_of(end, reader, settings, alloc),
+        error: reader.parting(alloc).unwrap_or(None),
+    };
+    said.without(account_password(settings))
+        .without(settings.password())
+}
+
+/// How a connection ended whose registration asked for this nick. If the network refused the nick,
+/// the next registration asks for another one.
 fn ending_under<'a, R: Wait + Clock>(
     keeping: &Keeping<'a, R>,
     end: NetworkEnd,
-    said: Option<Vec<u8>>,
+    said: LastWords,
     nick: Vec<u8>,
 ) -> Ending<'static> {
     let Dialling { rt, station, .. } = keeping.dialling;
@@ -151,7 +174,33 @@ fn ending_under<'a, R: Wait + Clock>(
     }
 }
 
-/// Serves a connection that registers under this nick, to its end. Answers the link, and how it ended.
+/// Ends a connection that was served, whose registration asked for this nick: a last line that is due
+/// is sent, and the connection is shut. Answers the link, and how the connection ended.
+fn end_of<'a, R: Host>(
+    keeping: &Keeping<'a, R>,
+    served: upstream::Served<Input<'a, R>, NetworkOutput<R>>,
+    nick: Vec<u8>,
+) -> (Link, Ending<'static>) {
+    let Dialling { alloc, shared, .. } = keeping.dialling;
+    let upstream::Served {
+        end,
+        mut link,
+        stream,
+        written,
+    } = served;
+    let farewell = keeping.connection.farewell();
+    let said = last_words(&end, &stream.reader, keeping.settings, alloc);
+    let ending = ending_under(keeping, end, said, nick);
+    if let (Some(farewell), true) = (farewell, written.is_ok()) {
+        let time = shared.limits().stop;
+        part_with(keeping.connection, farewell, &mut link.outlet, time);
+    }
+    keeping.connection.hang_up();
+    (link, ending)
+}
+
+/// Serves a connection that registers under this nick, to its end. Answers the link, and how the
+/// connection ended.
 fn serve<'a, R: Host>(
     dialling: Dialling<'a, R>,
     settings: &'a NetworkConfig,
@@ -162,7 +211,6 @@ fn serve<'a, R: Host>(
     requires { IsTrue (is_nameable nick.items) }
 {
     let Dialling { rt, alloc, .. } = dialling;
-    let limits = dialling.shared.limits();
     let Ok(opening) = Opening::new(alloc) else {
         return (link, Ending::GivenUp(GivenUp::NoMemory));
     };
@@ -174,6 +222,7 @@ fn serve<'a, R: Host>(
         settings,
         connection,
         opening,
+        holder: holder_of_nick(&dialling, settings),
         given_up: GivenUp::Outdated,
     };
     let clock = SystemClock::of(rt);
@@ -183,21 +232,8 @@ fn serve<'a, R: Host>(
         gate: &gate,
         clock: &clock,
     };
-    let over = serve_network_as(&worker, stream, settings, &nick, link, &mut keeping);
-    let upstream::Served {
-        end,
-        mut link,
-        stream,
-        written,
-    } = over;
-    let farewell = connection.farewell();
-    let said = said_of(&end, &stream.reader, settings, alloc);
-    let ending = ending_under(&keeping, end, said, nick);
-    if let (Some(farewell), true) = (farewell, written.is_ok()) {
-        part_with(connection, farewell, &mut link.outlet, limits.stop);
-    }
-    connection.hang_up();
-    (link, ending)
+    let served = serve_network_as(&worker, stream, settings, &nick, link, &mut keeping);
+    end_of(&keeping, served, nick)
 }
 
 /// Registers over a connection, if that is still wanted, and serves it to its end.
@@ -207,7 +243,7 @@ fn register_and_serve<'a, R: Host>(
     connection: &'a Connection,
     link: Link,
 ) -> (Link, Ending<'static>) {
-    if !dialling.registers(connection) {
+    if !dialling.registers(settings, connection) {
         connection.hang_up();
         return (link, Ending::GivenUp(GivenUp::Outdated));
     }
@@ -228,7 +264,7 @@ fn dial<R: Host + Net<Listener = TcpListener, Stream = TcpStream>>(
 ) -> Link {
     let settings = roster.settings_of(dialling.station.who());
     let (Some(settings), true) = (settings, dialling.station.slot().is_ready(dialling.rt)) else {
-        // it was begun anew meanwhile
+        // the network was begun anew meanwhile
         let _ = dialling.lose(0);
         return link;
     };
@@ -244,9 +280,9 @@ fn dial<R: Host + Net<Listener = TcpListener, Stream = TcpStream>>(
     link
 }
 
-/// Dials a network whenever it may be, as often as the limits say, and serves each connection to its
-/// end, until the service ends or the network is left. What waited for a lost connection is dropped. A
-/// network that was begun anew is dialled by its own link.
+/// Dials a network whenever it may be dialled, as often as the limits say, and serves each
+/// connection to its end, until the service ends or the network is left. What waited for a lost
+/// connection is dropped. A network that was begun anew is dialled with its own link.
 pub(crate) fn stay_connected<R: Host + Net<Listener = TcpListener, Stream = TcpStream>>(
     dialling: &Dialling<'_, R>,
     link: Link,

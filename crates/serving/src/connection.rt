@@ -6,7 +6,7 @@ use crate::closing::hang_up;
 use shell::{ends_within, is_silence};
 use std::alloc::{AllocError, Global};
 use std::io;
-use std::io::{Read, Write};
+use std::io::{ErrorKind, Read, Write};
 use std::net::{Shutdown, TcpStream};
 use std::sync::atomic::{AtomicBool, AtomicU64, Ordering};
 use std::sync::{Arc, Mutex, Wait};
@@ -17,17 +17,17 @@ use std::time::Duration;
 pub enum Farewell {
     /// The service ends.
     Stops,
-    /// The settings have the network no more.
+    /// The settings no longer have the network.
     Removed,
-    /// The network is dialled anew, by other settings.
+    /// The network is dialled again, by other settings.
     Changed,
 }
 
-/// The number for a connection that has no last word to come.
+/// The number of a connection to which no last line is to be sent.
 const NONE: u64 = 0;
 
 impl Farewell {
-    /// What is said and logged.
+    /// What is sent and logged.
     pub fn text(self) -> &'static str {
         match self {
             Farewell::Stops => "bnc stops",
@@ -45,7 +45,7 @@ impl Farewell {
         }
     }
 
-    /// That of a number.
+    /// The reason with this number.
     fn of_number(number: u64) -> Option<Farewell> {
         match number {
             1 => Some(Farewell::Stops),
@@ -68,8 +68,8 @@ struct Line {
     is_within_line: Mutex<bool>,
 }
 
-/// A connection, in as many hands as need be: all of them are one descriptor, which is closed with
-/// the last.
+/// A connection, shared by all hands that need it. All of them share one descriptor, which is
+/// closed with the last hand.
 #[derive(Drop)]
 pub struct Connection {
     line: Arc<Line>,
@@ -103,14 +103,15 @@ impl Connection {
         &self.line.stream
     }
 
-    /// Shuts it: each read of it, also one that waits, then answers its end, and each write fails.
+    /// Shuts it. From then on each read of it, also one that waits, finds the end of the input, and
+    /// each write fails.
     pub fn hang_up(&self) {
         self.line.is_shut.store(true, Ordering::SeqCst);
         hang_up(&self.line.stream);
     }
 
-    /// Ends what comes in, also for a read that waits; what is written still goes out. Who serves
-    /// the connection says a last word, and then shuts it.
+    /// Ends the input, also for a read that waits; what is written still goes out. The thread that
+    /// serves the connection sends a last line and then shuts it.
     pub fn part(&self, farewell: Farewell) {
         self.line
             .farewell
@@ -150,8 +151,8 @@ impl Connection {
         Ok(count)
     }
 
-    /// Says whole lines, unless that hand stands within one; whether they were said. If they can't be
-    /// written, the connection is shut.
+    /// Writes whole lines, unless that hand has written only a part of one: then it writes nothing
+    /// and answers `false`. If they can't be written, the connection is shut.
     pub(crate) fn say<R: Wait>(&self, rt: &R, parts: &[&[u8]]) -> bool {
         let is_within_line = self.line.is_within_line.lock(rt);
         if *is_within_line {
@@ -168,12 +169,40 @@ impl Connection {
         true
     }
 
-    /// Whether it was shut since whole lines could not be written.
+    /// Whether it was closed by its peer before another byte came, after a wait of at most this time.
+    /// Nothing is read of it. `false` if one of our hands has shut it, or ended what comes in.
+    pub(crate) fn closes_silently(&self, time: Duration) -> bool {
+        let stream = self.stream();
+        if stream.set_read_timeout(Some(time)).is_err() {
+            return false;
+        }
+        let mut first = [0u8; 1];
+        let has_gone = match stream.peek(&mut first) {
+            Ok(count) => count == 0,
+            Err(error) => error.kind() == ErrorKind::ConnectionReset,
+        };
+        has_gone && !self.is_shut()
+    }
+
+    /// Whether its peer has closed it, once a read of it found the end or failed. `false` if it was
+    /// reset, or if one of our hands has shut it.
+    pub(crate) fn was_closed(&self) -> bool {
+        let stream = self.stream();
+        // a connection that was reset has no peer any more
+        if self.is_shut() || stream.peer_addr().is_err() {
+            return false;
+        }
+        let step = Duration::from_millis(1);
+        let mut first = [0u8; 1];
+        stream.set_read_timeout(Some(step)).is_ok() && stream.peek(&mut first).is_ok_and(|n| n == 0)
+    }
+
+    /// Whether it was shut because whole lines could not be written.
     pub(crate) fn is_unsaid(&self) -> bool {
         self.line.is_unsaid.load(Ordering::SeqCst)
     }
 
-    /// Whether one of its hands has shut it, or ended what comes in.
+    /// Whether one of its hands has shut it, or ended its input.
     pub fn is_shut(&self) -> bool {
         self.line.is_shut.load(Ordering::SeqCst) || self.farewell().is_some()
     }
@@ -182,7 +211,7 @@ impl Connection {
 /// How many calls in succession may write nothing.
 const CALLS: u32 = 25;
 
-/// A stream whose write calls end soon, each of which is tried again.
+/// A stream whose write calls end soon; each of them is tried again.
 #[derive(Drop)]
 struct Patiently<'a>(&'a TcpStream);
 

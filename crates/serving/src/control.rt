@@ -39,9 +39,9 @@ enum Word {
     Reload,
     /// `reload empty`: the same, also if they have no network.
     ReloadEmpty,
-    /// `status`: to tell of each network how it is.
+    /// `status`: to log how each network is.
     Status,
-    /// `forget USER/NETWORK NAME`: to forget a client name; what stands after the word.
+    /// `forget USER/NETWORK NAME`: to forget a client name; what follows the word.
     Forget(Vec<u8>),
     /// `metrics`: to write the figures now.
     Metrics,
@@ -93,7 +93,7 @@ fn status_of<R: Wait>(
     }
 }
 
-/// Tells of each network since when it is online, how many sessions it has, and what it keeps.
+/// Logs of each network since when it is online, how many sessions it has, and what it keeps.
 fn tell_status<R: Wait + Clock>(rt: &R, alloc: Global, shared: &Shared) {
     let Ok(roster) = shared.roster(rt) else {
         return;
@@ -151,7 +151,7 @@ impl Begun {
         word
     }
 
-    /// The word that the line is; the log tells of one that is none.
+    /// The word that the line is. A line that is no word is logged.
     fn word<R: Wait + Clock>(&self, rt: &R, shared: &Shared) -> Option<Word> {
         let word = word_of(*self.bytes.allocator(), self.bytes.as_slice());
         if word.is_none() {
@@ -204,8 +204,8 @@ fn obey_bytes<S: Source, R: Host + Net<Listener = TcpListener, Stream = TcpStrea
 
 /// Reads words, one a line, and does what they ask for, to the input's end, or until one asks to
 /// stop; whether one does. Other lines, and those of more than 64 bytes, or of more than 1,024 if
-/// they name a client to forget, are ignored, and the log
-/// says so. A line without its LF counts once nothing more has come for a second.
+/// they name a client to forget, are ignored, and the log says so. A line without its LF counts
+/// once nothing more has come for a second.
 pub fn obey<I: Words, S: Source, R: Host + Net<Listener = TcpListener, Stream = TcpStream>>(
     rt: R,
     alloc: Global,

@@ -25,14 +25,14 @@ pub enum ControlEvent<'a> {
     },
     /// The settings were read again.
     Reloaded {
-        /// How many networks are served now that were not before.
+        /// How many networks are new.
         begun: usize,
-        /// How many are served no more.
+        /// How many are no longer served.
         left: usize,
         /// How many are dialled anew.
         changed: usize,
     },
-    /// A setting has changed that goes by what it was at the start.
+    /// A setting has changed that takes effect only at a restart.
     NeedsRestart {
         /// Its key.
         key: &'a str,
@@ -51,7 +51,7 @@ pub enum ControlEvent<'a> {
     },
     /// No network has the names that a word gives.
     NoNetwork {
-        /// What stands after the word.
+        /// What follows the word.
         line: &'a [u8],
     },
     /// The figures are to be written, and the settings name no file for them.
@@ -63,7 +63,7 @@ pub enum ControlEvent<'a> {
     },
     /// The service ends.
     Stops,
-    /// A word that is none of those that are taken.
+    /// A word that is unknown.
     Ignored {
         /// The word.
         word: &'a [u8],
@@ -73,7 +73,7 @@ pub enum ControlEvent<'a> {
         /// How many bytes it may have.
         limit: usize,
     },
-    /// Nothing more can be read of the words.
+    /// No further words can be read.
     NoWords,
 }
 

@@ -2,21 +2,24 @@
 
 use crate::clock::SystemClock;
 use crate::connection::Connection;
+use crate::last_words::THEN;
 use crate::network_event::{Ending, NetworkEvent};
 use crate::rejoining::all_names;
 use crate::roster::Roster;
 use crate::shared::Shared;
 use crate::station::Station;
+use crate::tables::Neighbour;
 use bnc_config::NetworkConfig;
 use shell::Noted;
-use std::alloc::Global;
+use std::alloc::{AllocError, Global};
 use std::rt::Clock;
 use std::sync::{Arc, Wait};
 use std::time::Duration;
 use steward::{Answer, Event};
 
-/// How many milliseconds a thread rests that can't dial yet, since its hub has not taken the loss of
-/// the last connection or since another network is to end first. A network that ends wakes it.
+/// How many milliseconds a thread rests that can't dial yet, because its hub has not taken the loss
+/// of the last connection, or because another network is to end first. A network that ends wakes
+/// it.
 const UNREADY: u64 = 100;
 
 /// A network, as the thread that dials it knows it.
@@ -46,19 +49,29 @@ impl<R: Wait + Clock> Dialling<'_, R> {
         log.tell(self.rt, &self.station.who(), event)
     }
 
-    /// Logs how often dials ended as the one that was logged last, if any did.
+    /// Logs how many dials ended like the one that was logged last, if any did.
     fn tell_alike(&self, count: u64) {
         if count > 0 {
             self.tell(&NetworkEvent::EndedAlike { count });
         }
     }
 
-    /// Logs how a dial ended; one that ended as the dial before it is counted.
+    /// By what an ending is that of the dial before it: its text, without an ERROR after a refusal, in
+    /// which some networks name each connection.
+    fn reason_of(&self, ending: &Ending<'_>) -> Result<Vec<u8>, AllocError> {
+        let text = format!(in self.alloc; "{ending}")?;
+        match text.as_str().split_once(THEN) {
+            Some((reason, _)) => Vec::from_slice(self.alloc, reason.as_bytes()),
+            None => Ok(text.into_bytes()),
+        }
+    }
+
+    /// Logs how a dial ended. One that ended like the dial before it is only counted.
     pub(crate) fn tell_ending(&self, ending: &Ending<'_>, again: Option<u64>) {
-        let Ok(text) = format!(in self.alloc; "{ending}") else {
+        let Ok(reason) = self.reason_of(ending) else {
             return self.tell(&NetworkEvent::Ended { ending, again });
         };
-        let noted = self.station.repeats().lock(self.rt).note(text.into_bytes());
+        let noted = self.station.repeats().lock(self.rt).note(reason);
         if let Noted::New(count) = noted {
             self.tell_alike(count);
             self.tell(&NetworkEvent::Ended { ending, again });
@@ -115,18 +128,32 @@ impl<R: Wait + Clock> Dialling<'_, R> {
             .is_awaited(self.station.number())
     }
 
-    /// Notes that a connection is made; whether we register.
-    pub(crate) fn registers(&self, connection: &Connection) -> bool {
-        let Ok(noted) = connection.share() else {
+    /// Notes that a connection is made, by these settings; whether we register.
+    pub(crate) fn registers(&self, settings: &NetworkConfig, connection: &Connection) -> bool {
+        let address = Vec::from_slice(self.alloc, settings.address().as_bytes());
+        let (Ok(noted), Ok(address)) = (connection.share(), address) else {
             return false;
         };
         let now = self.shared.ticks(self.rt);
         let mut helm = self.shared.helm().lock(self.rt);
-        helm.connect(self.station.number(), noted, now)
+        helm.connect(self.station.number(), noted, address, now)
     }
 
-    /// Notes which channels are to be joined, if logins wait for them. If there is no memory for that
-    /// nobody waits.
+    /// The other networks that are connected to the address of these settings.
+    pub(crate) fn neighbours(
+        &self,
+        settings: &NetworkConfig,
+    ) -> Result<Vec<Neighbour>, AllocError> {
+        let helm = self.shared.helm().lock(self.rt);
+        helm.neighbours(
+            self.alloc,
+            self.station.number(),
+            settings.address().as_bytes(),
+        )
+    }
+
+    /// Notes which channels are to be joined, if logins wait for them. If there is no memory for
+    /// that, nobody waits.
     pub(crate) fn await_channels(&self, settings: &NetworkConfig) {
         let wait = self.shared.wait();
         if wait == 0 {

@@ -1,4 +1,4 @@
-//! A client name that is forgotten, since a word asks for it.
+//! A client name that a control word asks to forget.
 
 use crate::control_event::ControlEvent;
 use crate::shared::Shared;
@@ -6,7 +6,7 @@ use crate::station::Station;
 use std::rt::Clock;
 use std::sync::Wait;
 
-/// What stands before the first such byte, and what stands after it.
+/// What is before the first such byte, and what is after it.
 fn cut(text: &[u8], byte: u8) -> Option<(&[u8], &[u8])> {
     let place = text.iter().position(|other| *other == byte)?;
     let (front, rest) = text.split_at(place);
@@ -36,8 +36,8 @@ fn forget_of<R: Wait + Clock>(rt: &R, shared: &Shared, station: &Station, name: 
     shared.log().tell(rt, &station.who(), &event);
 }
 
-/// Forgets the client name of `USER/NETWORK NAME`: a client that comes by it next gets all messages that
-/// are kept. The log says what was done.
+/// Forgets the client name of `USER/NETWORK NAME`: the next client of that name gets all messages
+/// that are kept. The log says what was done.
 pub(crate) fn forget<R: Wait + Clock>(rt: &R, shared: &Shared, line: &[u8]) {
     let Ok(roster) = shared.roster(rt) else {
         return;

@@ -2,6 +2,7 @@
 //! log.
 
 use crate::connection::{Connection, Farewell};
+use crate::hearing::Ear;
 use crate::judging::Decision;
 use crate::refusals::tell_refusal;
 use crate::session_event::SessionEvent;
@@ -34,9 +35,13 @@ pub(crate) struct Guest<'a, R> {
     pub(crate) peer: SocketAddr,
     /// What is decided about its login.
     pub(crate) decision: &'a Decision,
+    /// What hears it in its session.
+    pub(crate) ear: &'a Ear,
+    /// Whether a proxy named it.
+    pub(crate) is_proxied: bool,
 }
 
-/// Whose a client's last line is.
+/// Who writes a client's last line.
 #[derive(Clone, Copy, PartialEq, Eq)]
 pub(crate) enum LastLine {
     /// Its own thread may write one.
@@ -57,7 +62,7 @@ impl<R: Wait + Clock> Guest<'_, R> {
         }
     }
 
-    /// Logs that its login was over before it was done.
+    /// Logs that its login ended before it was complete.
     pub(crate) fn tell_no_login(&self, cause: &str) {
         let peer = self.peer;
         let event = StrangerEvent::NoLogin { peer, cause };
@@ -75,8 +80,8 @@ impl<R: Wait + Clock> Guest<'_, R> {
         tell_refusal(self.rt, self.shared, peer.ip(), &who, &event);
     }
 
-    /// Asks what becomes of its login, which is right for this network or wrong by settings that were
-    /// read so often.
+    /// Asks what becomes of its login. By the settings that were read this often it is right for
+    /// this network, or wrong.
     pub(crate) fn judge(&self, station: Option<&Station>, settings: u64) -> Answer {
         let verdict = match station {
             Some(station) => Verdict::Right(station.label()),
@@ -90,8 +95,8 @@ impl<R: Wait + Clock> Guest<'_, R> {
         self.shared.decide(self.rt, event)
     }
 
-    /// Asks whose its last line is. One that was ordered is written now; if it is not this thread's
-    /// own, the connection is shut after it.
+    /// Asks who writes its last line. One that was ordered is written now. Unless this thread may
+    /// write its own, the connection is shut.
     pub(crate) fn last_line(&self) -> LastLine {
         let client = self.number;
         let answer = self.shared.decide(self.rt, Event::Tells { client });
@@ -111,7 +116,7 @@ impl<R: Wait + Clock> Guest<'_, R> {
         }
     }
 
-    /// Whether its peer has gone, after a wait of 50 ms. Nothing is read of it.
+    /// Whether its peer has gone, after a wait of 50 ms. Nothing is read from it.
     fn has_gone(&self) -> bool {
         let stream = self.connection.stream();
         let step = Duration::from_millis(STEP);
@@ -151,7 +156,7 @@ impl<R: Wait + Clock> Guest<'_, R> {
         unreachable!()
     }
 
-    /// Writes its last line; one that has gone does not get it.
+    /// Writes its last line; a client that has gone does not get it.
     pub(crate) fn say(&self, line: &[u8]) {
         let mut out = self.connection.stream();
         let _ = out.write_all(line);
@@ -170,7 +175,7 @@ impl<R: Wait + Clock> Guest<'_, R> {
         unreachable!()
     }
 
-    /// Sets what holds of its connection in a session.
+    /// Sets the time limits of its connection in a session.
     pub(crate) fn set_timeouts(&self) -> io::Result<()> {
         let stream = self.connection.stream();
         stream.set_read_timeout(None)?;

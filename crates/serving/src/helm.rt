@@ -7,7 +7,7 @@ use crate::limits::Limits;
 use crate::numbers::{Before, Numbers};
 use crate::plan::Plan;
 use crate::roster::Roster;
-use crate::tables::Tables;
+use crate::tables::{Neighbour, Tables};
 use bnc_config::Config;
 use client_caps::Moment;
 use std::alloc::{AllocError, Global};
@@ -15,7 +15,7 @@ use std::mem;
 use std::sync::Arc;
 use steward::{Answer, Event, Stage, Steward, Wanted, count_inside, count_seats};
 
-/// How a network is, for who asks.
+/// How a network is, for whoever asks.
 #[derive(Clone, Copy)]
 pub(crate) struct Standing {
     /// Since when it has let us in; `None` if it has not.
@@ -41,8 +41,8 @@ pub(crate) struct Helm {
 }
 
 impl Helm {
-    /// Nobody is there, and no network is served yet. A login waits so many milliseconds while channels
-    /// are joined.
+    /// No client, and no network that is served yet. A login waits this many milliseconds while
+    /// channels are joined.
     pub(crate) fn new(
         alloc: Global,
         config: Arc<Config>,
@@ -155,15 +155,31 @@ impl Helm {
         }
     }
 
-    /// A connection to a network is made; whether we register there. If so it is noted, to be shut when
-    /// the network is to end.
-    pub(crate) fn connect(&mut self, network: u64, connection: Connection, now: u64) -> bool {
+    /// A connection to a network is made, at this address; whether we register there. If so it is noted,
+    /// to be shut when the network is to end.
+    pub(crate) fn connect(
+        &mut self,
+        network: u64,
+        connection: Connection,
+        address: Vec<u8>,
+        now: u64,
+    ) -> bool {
         let answer = self.step(Event::Connected { network }, now);
         let registers = answer == Answer::Register { network };
         if registers {
-            self.tables.connect(network, connection);
+            self.tables.connect(network, connection, address);
         }
         registers
+    }
+
+    /// The other networks that are connected to this address.
+    pub(crate) fn neighbours(
+        &self,
+        alloc: Global,
+        network: u64,
+        address: &[u8],
+    ) -> Result<Vec<Neighbour>, AllocError> {
+        self.tables.neighbours(alloc, network, address)
     }
 
     /// A network has let us in at a moment; whether it is served from now on.
@@ -198,7 +214,7 @@ impl Helm {
         }
     }
 
-    /// Has the steps go by what a plan wants. `None` if the service ends.
+    /// Makes the steps follow what a plan wants. `None` if the service ends.
     fn settle(
         &mut self,
         plan: &Plan,
@@ -218,8 +234,8 @@ impl Helm {
         }))
     }
 
-    /// Puts other settings in force; the roster before takes the place of the plan's. `None` if the
-    /// service ends: nothing has changed then, and also if an allocation fails.
+    /// Puts other settings in force; the earlier roster takes the place of the plan's. `None` if
+    /// the service ends. Then nothing has changed, and neither has it if an allocation fails.
     pub(crate) fn go_by(
         &mut self,
         plan: &mut Plan,

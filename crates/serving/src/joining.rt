@@ -11,10 +11,12 @@ use steward::Channels;
 /// For how many milliseconds after its welcome a network may leave its greeting without an end.
 const GREETING: u64 = 10_000;
 
-/// By which names are compared here: it has the most names as one, so that no refusal is missed.
+/// The mapping by which names are compared here. It makes the most names equal, so that no refusal
+/// is missed.
 const MAPPING: CaseMapping = CaseMapping::Rfc1459;
 
-/// The channels that are to be joined after a registration, those left out that were joined or refused.
+/// The channels that are still to be joined after a registration, without those that were joined or
+/// refused.
 #[derive(Drop)]
 pub(crate) struct Joining {
     left: Vec<Vec<u8>>,
@@ -41,7 +43,7 @@ impl Joining {
         }
     }
 
-    /// These channels are to be joined, and a login waits so many milliseconds for them.
+    /// These channels are to be joined, and a login waits this many milliseconds for them.
     pub(crate) fn begin(&mut self, channels: Vec<Vec<u8>>, wait: u64) {
         self.left = channels;
         self.wait = wait;
@@ -92,7 +94,7 @@ impl Joining {
         }
     }
 
-    /// How far they are.
+    /// How far the joining is.
     pub(crate) fn channels(&self, now: u64) -> Channels {
         if self.left.is_empty() {
             return Channels::Settled;

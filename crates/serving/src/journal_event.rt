@@ -23,7 +23,7 @@ pub enum JournalEvent<'a> {
     Written,
     /// The network ends, or the service, and not all is written.
     Unwritten,
-    /// The network was begun anew, since there was no memory for what came from it.
+    /// The network was begun anew after memory ran out for what it sent.
     BegunAnew {
         /// Whether with the messages that its journal holds, or with its marks and channels alone.
         with_messages: bool,

@@ -21,12 +21,10 @@ use std::thread;
 use std::time::Duration;
 
 /// How often a journal is opened that another holds, and how many milliseconds pass in between: a
-/// network that was removed may still hold it, unless the program has just begun.
+/// network that was removed may still hold it, except at the start.
 const TRIES: u64 = 20;
 
 const PAUSE: u64 = 50;
-
-const BEGUN: u64 = 2_000;
 
 /// Logs something about the journal of a network.
 fn tell<R: Wait + Clock>(rt: &R, shared: &Shared, station: &Station, event: &JournalEvent) {
@@ -46,8 +44,8 @@ fn file_name(alloc: Global, station: &Station) -> Result<String, AllocError> {
     }
 }
 
-/// Opens the journal of a network; one that is held by a network of the same names that ends now is
-/// waited for.
+/// Opens the journal of a network. If a network of the same names that ends now holds it, it is waited
+/// for.
 fn open_journal<R: Host>(
     rt: &R,
     alloc: Global,
@@ -59,11 +57,16 @@ fn open_journal<R: Host>(
 {
     let name = file_name(alloc, station)?;
     let capacity = shared.roster(rt)?.config().history();
+    let most = if shared.journals().has_begun() {
+        TRIES
+    } else {
+        1
+    };
     let mut tries = 0u64;
     for _ in rt.forever() {
         tries = tries.saturating_add(1);
         match open(rt, alloc, folder, name.as_str(), capacity) {
-            Err(NoJournal::File(OpenError::Taken)) if tries < TRIES && shared.ticks(rt) > BEGUN => {
+            Err(NoJournal::File(OpenError::Taken)) if tries < most => {
                 thread::sleep(rt, Duration::from_millis(PAUSE));
             }
             opened => return opened,

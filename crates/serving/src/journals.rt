@@ -12,8 +12,10 @@ pub struct Journals {
     folder: Option<String>,
     bed: Parker,
     is_rung: AtomicBool,
-    // whether the writers to clients ring too, since one had not written all
+    // whether the writers to clients ring too, because one had not written everything
     awaits_writers: AtomicBool,
+    // whether the networks of the start have opened theirs
+    has_begun: AtomicBool,
     // whether what is left is written now, and then nothing more
     is_ending: AtomicBool,
 }
@@ -26,6 +28,7 @@ impl Journals {
             bed: Parker::new(),
             is_rung: AtomicBool::new(false),
             awaits_writers: AtomicBool::new(false),
+            has_begun: AtomicBool::new(false),
             is_ending: AtomicBool::new(false),
         }
     }
@@ -33,6 +36,17 @@ impl Journals {
     /// Their folder.
     pub(crate) fn folder(&self) -> Option<&str> {
         self.folder.as_deref()
+    }
+
+    /// Says that each network of the start has opened its journal, or has none. From then on one that is
+    /// held may be that of a network that ends now.
+    pub(crate) fn note_begun(&self) {
+        self.has_begun.store(true, Ordering::SeqCst);
+    }
+
+    /// Whether that was said.
+    pub(crate) fn has_begun(&self) -> bool {
+        self.has_begun.load(Ordering::SeqCst)
     }
 
     /// Says that there may be something to write. It takes no lock and waits for nobody.
@@ -54,8 +68,8 @@ impl Journals {
         self.awaits_writers.store(awaits, Ordering::SeqCst);
     }
 
-    /// Waits until it is rung, at most so long if there is a limit; whether it was rung. From then on
-    /// nobody needs to ring until that is answered.
+    /// Waits until it is rung, no longer than the limit if there is one; whether it was rung. From
+    /// then on nobody needs to ring until `answer`.
     pub(crate) fn wait<R: Wait>(&self, rt: &R, most: Option<Duration>) -> bool {
         match most {
             Some(time) => self.bed.park_timeout(rt, time),
@@ -64,19 +78,19 @@ impl Journals {
         self.is_rung.swap(true, Ordering::SeqCst)
     }
 
-    /// Rests for so long, or until the service ends.
+    /// Rests for this time, or until the service ends.
     pub(crate) fn rest<R: Wait>(&self, rt: &R, time: Duration) {
         if !self.is_ending() {
             self.bed.park_timeout(rt, time);
         }
     }
 
-    /// Says that all is looked at anew that was rung for.
+    /// Says that everything that was rung for is looked at anew.
     pub(crate) fn answer(&self) {
         self.is_rung.store(false, Ordering::SeqCst);
     }
 
-    /// Has the thread that writes them write what is left, and end.
+    /// Makes the thread that writes them write what is left, and end.
     pub(crate) fn end(&self) {
         self.is_ending.store(true, Ordering::SeqCst);
         self.bed.unpark();

@@ -1,4 +1,4 @@
-//! Whether the login of a client is right, by the settings of now.
+//! Whether the login of a client is right, by the current settings.
 
 use crate::guest::Guest;
 use crate::roster::Roster;
@@ -16,7 +16,7 @@ use steward::{Answer, Why};
 pub(crate) enum TurnedAway {
     /// There is no memory for what it claims.
     NoMemory,
-    /// Its password is wrong, and as many wait for an answer as may.
+    /// Its password is wrong, and the limit of those that wait for an answer is reached.
     Wrong,
     /// It was closed before, or the service ends.
     Closed,
@@ -75,8 +75,8 @@ impl<'a, R: Wait + Clock> Judging<'a, R> {
         Judging { guest }
     }
 
-    /// What is decided about a claim by these settings, which were read so often; `None` if others are
-    /// in force by now.
+    /// What is decided about a claim by these settings, which were read this often; `None` if
+    /// others are in force by now.
     fn decide_by(
         &self,
         roster: &Roster,
@@ -105,8 +105,8 @@ impl<'a, R: Wait + Clock> Judging<'a, R> {
         }))
     }
 
-    /// What is decided about a claim by the settings of now. If they change meanwhile it is judged
-    /// again.
+    /// What is decided about a claim by the current settings. If they change meanwhile, it is
+    /// judged again.
     fn decide(&self, claim: &Claim) -> Result<Judged, AllocError> {
         for _ in self.guest.rt.forever() {
             let (roster, settings) = self.guest.shared.settings(self.guest.rt)?;
@@ -119,7 +119,7 @@ impl<'a, R: Wait + Clock> Judging<'a, R> {
 }
 
 impl<R: Wait + Clock> Judge<Arc<Station>> for Judging<'_, R> {
-    // by the settings of now, which are no part of it
+    // by the current settings, which are no part of this value
     ghost lets_in = { λ _ _. Unit {0} };
 
     ghost denies = { λ _ _. Unit {0} };

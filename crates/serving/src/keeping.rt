@@ -5,16 +5,17 @@ ghost use Rattle.std.specs.Prelude.{◌≡◌};
 
 use crate::connection::Connection;
 use crate::dialling::Dialling;
+use crate::last_words::LastWords;
 use crate::network_event::{Ending, GivenUp, NetworkEvent};
 use crate::network_input::{KeepAlive, NetworkInput};
 use crate::network_output::NetworkOutput;
 use crate::opening::{Opening, Plan};
-use crate::rejoining::{all_joins, rejoin};
-use crate::saying_again::{away_line, regain_from};
+use crate::rejoining::rejoin;
+use crate::saying_again::{away_line, holder_of_nick, regain_from};
 use bnc_config::NetworkConfig;
 use hub_threads::{ReadEnd, WRITE_CALL};
 use irc_line::Line;
-use shell::Recalling;
+use shell::{Holder, Recalling};
 use std::io;
 use std::io::Read;
 use std::rt::Clock;
@@ -34,6 +35,8 @@ pub(crate) struct Keeping<'a, R: Wait + Clock> {
     pub(crate) connection: &'a Connection,
     /// What it sends by itself after the registration.
     pub(crate) opening: Opening,
+    /// Which one of ours had the wanted nick when it was dialled.
+    pub(crate) holder: Holder,
     /// Why it is given up, if it is.
     pub(crate) given_up: GivenUp,
 }
@@ -57,11 +60,11 @@ fn cause_of(ended: ReadEnd) -> &'static str {
     }
 }
 
-/// How a connection ended that ends so, with what the network said then, and the cause if it was given
-/// up.
+/// How a connection ended, by how serving it ended, what the network said last, and the cause if it
+/// was given up.
 pub(crate) fn ending_of(
     end: NetworkEnd,
-    said: Option<Vec<u8>>,
+    said: LastWords,
     connection: &Connection,
     given_up: GivenUp,
 ) -> Ending<'static> {
@@ -83,7 +86,7 @@ pub(crate) fn ending_of(
 }
 
 impl<'a, R: Wait + Clock> Keeping<'a, R> {
-    /// Sets what holds of the connection from the welcome on.
+    /// Sets the time limits that the connection has from the welcome on.
     fn begin_live(&self, input: &mut Input<'a, R>) -> io::Result<()>
         ensures { ⟦<Input<'a, R> as Read>⟧.remaining input.new
             ≡ ⟦<Input<'a, R> as Read>⟧.remaining input.old }
@@ -101,31 +104,33 @@ impl<'a, R: Wait + Clock> Keeping<'a, R> {
         input.begin_live(limits.silence, limits.silences, KeepAlive { rt, slot })
     }
 
-    /// Asks for the channels that were lost; if the settings have lines that come first, for all
-    /// channels once these were sent.
-    fn ask_for_channels(&self, writer: &mut NetworkOutput<R>) -> io::Result<Vec<u8>> {
-        if self.settings.on_connect().is_empty() {
-            rejoin(&self.dialling, self.settings, writer)?;
-            return Ok(Vec::new(self.dialling.alloc));
+    /// Which one of ours has the wanted nick, or had it when this connection was dialled.
+    fn holder(&self) -> Holder {
+        match holder_of_nick(&self.dialling, self.settings) {
+            Holder::Nobody => self.holder,
+            holder => holder,
         }
-        Ok(all_joins(&self.dialling, self.settings)?)
     }
 
-    /// Asks for what outlives a connection, or notes that it is to be asked for later: the channels,
-    /// AWAY, and the wanted nick if we have another one.
+    /// Asks for what outlives a connection, or notes that it is to be asked for later: the channels
+    /// that were lost, AWAY, and the wanted nick if we have another one. If the settings have lines that
+    /// come first, all channels are joined once these were sent.
     fn ask_again(&self, writer: &mut NetworkOutput<R>, lines: &[Line]) -> io::Result<()> {
         let Dialling { rt, shared, .. } = self.dialling;
         let now = shared.ticks(rt);
+        if self.settings.on_connect().is_empty() {
+            rejoin(&self.dialling, self.settings, writer)?;
+        }
         let plan = Plan {
-            joins: self.ask_for_channels(writer)?,
             away: away_line(&self.dialling, self.settings)?,
-            regain: regain_from(self.settings, nick_in(lines), now),
+            regain: regain_from(self.settings, nick_in(lines), self.holder(), now),
         };
         self.opening.begin(rt, self.settings, plan, now);
         Ok(())
     }
 
-    /// Asks for what outlives a connection, and sets what holds of the connection from then on.
+    /// Asks for what outlives a connection, and sets the time limits that the connection has from
+    /// then on.
     fn begin(
         &self,
         input: &mut Input<'a, R>,
@@ -172,7 +177,8 @@ impl<'a, R: Wait + Clock> Keeper<Input<'a, R>, NetworkOutput<R>> for Keeping<'a,
     }
 
     fn took_lines<T: Wait>(&self, rt: &T) -> bool {
-        self.dialling.station.slot().pump_beside(rt)
+        let now = self.dialling.shared.ticks(self.dialling.rt);
+        self.dialling.station.slot().pump_beside(rt, now)
     }
 
     fn no_thread(&mut self) {

@@ -1,5 +1,5 @@
 //! The outer shell of `bnc serve`: connections, threads, time limits, and the log of what happens
-//! to networks and sessions. What the threads do stands in the crates below.
+//! to networks and sessions. What the threads do is in the crates below.
 #![tactic(auto)]
 
 mod accepting;
@@ -16,6 +16,7 @@ mod control_event;
 mod dialling;
 mod forgetting;
 mod guest;
+mod hearing;
 mod helm;
 mod host;
 mod joining;
@@ -26,6 +27,8 @@ mod judging;
 mod keeping;
 mod kept;
 mod kept_journal;
+mod last_words;
+mod leaving;
 mod limits;
 mod link;
 mod log;
@@ -73,6 +76,7 @@ pub use host::Host;
 pub use journal_event::JournalEvent;
 pub use journals::Journals;
 pub use kept::Kept;
+pub use last_words::LastWords;
 pub use limits::Limits;
 pub use link::{Link, network_with_link};
 pub use log::Log;

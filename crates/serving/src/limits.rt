@@ -6,7 +6,7 @@ use std::time::Duration;
 use steward::{Terms, Times};
 
 /// A time in milliseconds.
-fn millis(time: Duration) -> u64 {
+pub(crate) fn millis(time: Duration) -> u64 {
     u64::try_from(time.as_millis()).unwrap_or(u64::MAX)
 }
 
@@ -25,7 +25,7 @@ pub struct Limits {
     pub exempts_loopback: bool,
     /// From a connection's beginning to the end of its login.
     pub login: Duration,
-    /// The same for a login that begins while half as many wait as may.
+    /// The same for a login that begins while half of the limit of those that wait is reached.
     pub crowded_login: Duration,
     /// From the line that completes a login to the answer to a wrong password.
     pub wrong_password: Duration,
@@ -51,7 +51,7 @@ pub struct Limits {
     pub connect_in_turn: Duration,
     /// From the connection to a network to its welcome.
     pub registration: Duration,
-    /// After so long without a byte from a network it is sent a PING.
+    /// How long no byte may come from a network before it is sent a PING.
     pub silence: Duration,
     /// How many of these in succession end its connection.
     pub silences: u32,
@@ -75,6 +75,9 @@ pub struct Limits {
     pub packets: usize,
     /// From a change of what a network keeps to the writing of its journal.
     pub unwritten: Duration,
+    /// How long before a client was heard something must have been written to it, so that it surely
+    /// received that.
+    pub receipt: Duration,
 }
 
 impl Limits {
@@ -113,6 +116,7 @@ impl Limits {
             spare: 60_000,
             packets: 256,
             unwritten: Duration::from_millis(200),
+            receipt: Duration::from_secs(5),
         }
     }
 

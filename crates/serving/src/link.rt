@@ -11,8 +11,9 @@ use std::alloc::{AllocError, Global};
 pub use upstream::Link;
 
 /// A network that has received nothing, and its link. Its history keeps `history` messages of each
-/// target, those that the profile keeps, and its rings hold `packets` items and as many packets; 0 counts as 1. Messages are
-/// numbered from 1, sessions from 0. `AllocError` if an allocation fails.
+/// target, those that the profile keeps, and its rings hold `packets` items and that many packets;
+/// 0 counts as 1. Messages are numbered from 1, sessions from 0. `AllocError` if an allocation
+/// fails.
 pub fn network_with_link(
     alloc: Global,
     history: usize,
@@ -31,8 +32,8 @@ pub fn network_with_link(
     linked(Network::start_by(alloc, view, setup, packets, packets, profile)?)
 }
 
-/// A network that goes on from what was before, by this profile, and its link. Its rings hold `packets` items
-/// and as many packets; 0 counts as 1. `AllocError` if an allocation fails.
+/// A network that goes on from what was before, by this profile, and its link. Its rings hold
+/// `packets` items and that many packets; 0 counts as 1. `AllocError` if an allocation fails.
 pub(crate) fn network_again(
     alloc: Global,
     past: Past,

@@ -1,5 +1,5 @@
-//! The log: lines on standard error, each begun with the time in UTC. Who tells something waits for
-//! no write: a thread of its own writes the lines.
+//! The log: lines on standard error, each begun with the time in UTC. Logging waits for no write: a
+//! thread of its own writes the lines.
 
 use crate::clock::SystemClock;
 use crate::shown::Shown;
@@ -18,7 +18,7 @@ const LINES: usize = 1_024;
 
 /// A line, and how many were lost right before it.
 #[derive(Drop)]
-struct Told {
+struct Logged {
     lost: u64,
     // none if it only says how many were lost
     text: Option<String>,
@@ -27,7 +27,7 @@ struct Told {
 /// What waits to be written.
 #[derive(Drop)]
 struct Waiting {
-    lines: VecDeque<Told>,
+    lines: VecDeque<Logged>,
     // how many were lost since the last line that waits
     lost: u64,
     // how many were lost in all
@@ -38,7 +38,7 @@ struct Waiting {
 /// What the thread that writes does next.
 #[derive(Drop)]
 enum Next {
-    Write(Told),
+    Write(Logged),
     Sleep,
     End,
 }
@@ -54,7 +54,7 @@ pub struct Log {
     is_written: AtomicBool,
 }
 
-/// What time it is, as it stands in the log.
+/// The time, as the log shows it.
 fn now<R: Clock>(rt: &R) -> [u8; 24] {
     time_text(hub_threads::Clock::now(&SystemClock::of(rt)))
 }
@@ -67,7 +67,7 @@ impl Waiting {
             return self.lose();
         }
         let lost = self.lost;
-        match self.lines.push_back(Told { lost, text }) {
+        match self.lines.push_back(Logged { lost, text }) {
             Ok(()) => self.lost = 0,
             Err(_) => self.lose(),
         }
@@ -81,13 +81,13 @@ impl Waiting {
 
     /// Takes the next line, or how many were dropped after the last one.
     fn next(&mut self) -> Next {
-        if let Some(told) = self.lines.pop_front() {
-            return Next::Write(told);
+        if let Some(logged) = self.lines.pop_front() {
+            return Next::Write(logged);
         }
         if self.lost > 0 {
             let lost = self.lost;
             self.lost = 0;
-            return Next::Write(Told { lost, text: None });
+            return Next::Write(Logged { lost, text: None });
         }
         if self.is_over { Next::End } else { Next::Sleep }
     }
@@ -109,7 +109,7 @@ impl Log {
         })
     }
 
-    /// Tells something of somebody, in a line `TIME WHO: WHAT`. It waits for no write.
+    /// Logs something about somebody, in a line `TIME WHO: WHAT`. It waits for no write.
     pub fn tell<R: Wait + Clock, T: fmt::Display, U: fmt::Display>(
         &self,
         rt: &R,
@@ -134,7 +134,7 @@ impl Log {
         waiting.lost_ever = waiting.lost_ever.saturating_add(1);
     }
 
-    /// Has the thread that writes end once nothing waits.
+    /// Ends the thread that writes once nothing waits.
     pub fn end<R: Wait>(&self, rt: &R) {
         self.waiting.lock(rt).is_over = true;
         self.writer.unpark();
@@ -155,8 +155,8 @@ impl Log {
     pub fn write_to<R: Wait + Clock, W: Write>(&self, rt: &R, out: &mut W) {
         for _ in rt.forever() {
             match self.next(rt) {
-                Next::Write(told) => {
-                    if !write_told(rt, out, &told) {
+                Next::Write(logged) => {
+                    if !write_logged(rt, out, &logged) {
                         self.note_unwritten(rt);
                     }
                 }
@@ -173,14 +173,14 @@ impl Log {
 
 /// Writes a line, and before it how many were lost. What can't be written is lost, and no more.
 /// Answers whether the line is written, if there is one.
-fn write_told<R: Clock, W: Write>(rt: &R, out: &mut W, told: &Told) -> bool {
-    if told.lost > 0 {
+fn write_logged<R: Clock, W: Write>(rt: &R, out: &mut W, logged: &Logged) -> bool {
+    if logged.lost > 0 {
         let now = now(rt);
         let now = Shown(&now);
-        let lost = told.lost;
+        let lost = logged.lost;
         let _ = write!(out, "{now} bnc: {lost} lines of the log were lost\n");
     }
-    match &told.text {
+    match &logged.text {
         Some(text) => out.write_all(text.as_str().as_bytes()).is_ok(),
         None => true,
     }

@@ -1,7 +1,7 @@
 //! When a journal is looked at again, although nothing rings.
 
-/// After how many milliseconds a client's writer is looked at again that had not written all when it
-/// rang: it says so only a moment after it has rung.
+/// After how many milliseconds a client's writer is looked at again that had not written everything
+/// when it rang: it says so only a moment after it has rung.
 const BEHIND: u64 = 1_000;
 
 /// When a journal is looked at again, although nothing rings.
@@ -21,7 +21,7 @@ impl LookingAgain {
         }
     }
 
-    /// After so many milliseconds, since something was not written.
+    /// After this many milliseconds, because something was not written.
     pub(crate) fn after(time: u64) -> LookingAgain {
         LookingAgain {
             time: Some(time),

@@ -1,4 +1,4 @@
-//! Figures for a program that watches, which are written into a file.
+//! Figures for a monitoring program, which are written into a file.
 
 use crate::control_event::ControlEvent;
 use crate::helm::Standing;
@@ -61,7 +61,7 @@ impl Metrics {
         self.dials.fetch_add(1, Ordering::SeqCst);
     }
 
-    /// What was counted so far, with so many lines of the log that were lost.
+    /// What was counted so far, with this many lines of the log that were lost.
     fn totals(&self, lost: u64) -> Totals {
         Totals {
             cuts: self.cuts.load(Ordering::SeqCst),
@@ -71,7 +71,7 @@ impl Metrics {
         }
     }
 
-    /// Has them written now.
+    /// Makes the thread that writes them write now.
     pub(crate) fn ring(&self) {
         self.bed.unpark();
     }
@@ -125,8 +125,8 @@ fn write_metrics<R: Wait + Publish>(
     rt.publish(new.as_str(), path, text.as_slice())
 }
 
-/// Writes the figures once a minute and whenever it is asked to, for good. A failure is logged if the
-/// writing before it did not fail.
+/// Writes the figures once a minute and whenever it is asked to, and never ends. A failure is
+/// logged if the write before it did not fail.
 pub(crate) fn keep_metrics<R: Wait + Clock + Publish>(rt: &R, alloc: Global, shared: &Shared) {
     let Some(path) = shared.metrics().path() else {
         return;
@@ -148,7 +148,7 @@ pub(crate) fn keep_metrics<R: Wait + Clock + Publish>(rt: &R, alloc: Global, sha
     }
 }
 
-/// Has the figures written now; the log says so if the settings name no file for them.
+/// Asks that the figures are written now; the log says so if the settings name no file for them.
 pub(crate) fn ask_for_metrics<R: Wait + Clock>(rt: &R, shared: &Shared) {
     match shared.metrics().path() {
         Some(_) => shared.metrics().ring(),

@@ -1,7 +1,8 @@
 //! What the log says of a network.
 
 use crate::connection::Farewell;
-use crate::shown::{Parting, Shown, Words};
+use crate::last_words::LastWords;
+use crate::shown::{Shown, Words};
 use std::{fmt, io};
 use upstream::DialFault;
 
@@ -19,24 +20,24 @@ pub enum Ending<'a> {
     NotRegistered {
         /// Why not.
         fault: DialFault,
-        /// What its ERROR said, if it ended with one.
-        said: Option<Vec<u8>>,
+        /// What the network said about it.
+        said: LastWords,
     },
-    /// The network did not take the nick that a registration asked for; the next asks for another one.
+    /// The network refused the nick that a registration asked for; the next one asks for another.
     NoNick {
         /// The nick, without the `_` that were appended.
         nick: Vec<u8>,
         /// Why not.
         fault: DialFault,
-        /// What the network said of it.
-        said: Option<Vec<u8>>,
+        /// What the network said about it.
+        said: LastWords,
     },
     /// The connection was lost.
     Lost {
         /// Why.
         cause: &'static str,
-        /// What its ERROR said, if it ended with one.
-        said: Option<Vec<u8>>,
+        /// What the network said at the end.
+        said: LastWords,
     },
     /// It has ended after a last line.
     Parted(Farewell),
@@ -89,7 +90,7 @@ pub enum NetworkEvent<'a> {
         /// The seconds to the next dial; `None` if there is none.
         again: Option<u64>,
     },
-    /// Dials ended this often as the last one that was logged.
+    /// This many dials ended like the last one that was logged.
     EndedAlike {
         /// How often.
         count: u64,
@@ -114,16 +115,11 @@ impl fmt::Display for Ending<'_> {
                     Words(address.as_bytes())
                 )
             }
-            Ending::NotRegistered { fault, said } => {
-                write!(f, "not registered: {fault}{}", Parting(said.as_deref()))
-            }
+            Ending::NotRegistered { fault, said } => { write!(f, "not registered: {fault}{said}") }
             Ending::NoNick { nick, fault, said } => {
-                let said = Parting(said.as_deref());
                 write!(f, "not registered as {}: {fault}{said}", Shown(nick))
             }
-            Ending::Lost { cause, said } => {
-                write!(f, "connection lost: {cause}{}", Parting(said.as_deref()))
-            }
+            Ending::Lost { cause, said } => { write!(f, "connection lost: {cause}{said}") }
             Ending::Parted(farewell) => write!(f, "connection ended: {}", farewell.text()),
             Ending::GivenUp(cause) => write!(f, "connection given up: {}", cause.text()),
         }
@@ -144,6 +140,7 @@ impl fmt::Display for NetworkEvent<'_> {
                     None => Ok(()),
                 }
             }
+            NetworkEvent::EndedAlike { count: 1 } => f.write_str("last reason repeated once"),
             NetworkEvent::EndedAlike { count } => {
                 write!(f, "last reason repeated {count} times")
             }

@@ -39,8 +39,8 @@ fn nick_at<'a>(further: &'a [Text], place: usize, wanted: &'a [u8]) -> &'a [u8]
     if is_nameable(nick) { nick } else { wanted }
 }
 
-/// The nick that the next registration asks for: the settings' nick, unless they have further ones and
-/// it was not taken. `chance` is any number, for a nick that has digits.
+/// The nick that the next registration asks for: the settings' nick, unless they have further ones
+/// and it was refused. `chance` is any number, for a nick that has digits.
 pub(crate) fn nick_asked<R: Wait + Clock>(
     dialling: &Dialling<'_, R>,
     settings: &NetworkConfig,
@@ -65,7 +65,7 @@ pub(crate) fn nick_asked<R: Wait + Clock>(
     }
 }
 
-/// Whether a registration ended since its nick was not taken, and the next asks for another one.
+/// Whether a registration ended because its nick was refused, and the next one asks for another.
 pub(crate) fn is_nick_refused(end: &NetworkEnd, settings: &NetworkConfig) -> bool {
     settings.nicks().is_some()
         && matches!(

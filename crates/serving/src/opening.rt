@@ -7,10 +7,12 @@ ghost use Rattle.std.specs.Prelude.{IfOk};
 use crate::connection::Connection;
 use crate::dialling::Dialling;
 use crate::joining::Joining;
-use crate::saying_again::ask_for_nick;
+use crate::rejoining::{all_joins, mapping_told};
+use crate::saying_again::{ask_for_nick, holder_of_nick};
 use bnc_config::NetworkConfig;
 use irc_line::{Line, Splitter};
 use irc_names::CaseMapping;
+use irc_support::Support;
 use shell::{
     AfterConnect, Due, NickNews, Regain, WhenAsked, Wire, ends_greeting, full_cost, is_silence,
     news_of,
@@ -25,15 +27,16 @@ use std::{io, mem};
 /// After how many milliseconds it tries again to say something between two lines of the clients.
 const BETWEEN: u64 = 10;
 
-/// By which names are compared here: it has the most names as one, so that nothing is missed before
-/// the network's own is known.
+/// After how many milliseconds it tries again if an allocation failed.
+const MEMORY: u64 = 1_000;
+
+/// The mapping by which names are compared here. It makes the most names equal, so that nothing is
+/// missed before the network's own mapping is known.
 const MAPPING: CaseMapping = CaseMapping::Rfc1459;
 
 /// What is to be sent once the network has let us in.
 #[derive(Drop)]
 pub(crate) struct Plan {
-    /// The JOIN lines, if the settings have lines that are sent before them.
-    pub(crate) joins: Vec<u8>,
     /// The AWAY line, with which a client was away before; empty if none was.
     pub(crate) away: Vec<u8>,
     /// When the wanted nick is asked for, if we have another one.
@@ -44,6 +47,8 @@ pub(crate) struct Plan {
 #[derive(Drop)]
 struct Left {
     after: AfterConnect,
+    // the JOIN lines, once they were due and are made
+    joins: Option<Vec<u8>>,
     plan: Plan,
     // when AWAY may be sent, by the pace of the network's clients, if that was asked
     away_at: Option<u64>,
@@ -65,6 +70,8 @@ enum Next {
 #[derive(Drop)]
 struct Stage {
     splitter: Splitter,
+    // what the network has said of itself, as far as there was memory for it
+    support: Support<Global>,
     is_greeted: bool,
     // whether nothing is sent any more
     is_over: bool,
@@ -111,7 +118,7 @@ impl Left {
 }
 
 impl Stage {
-    /// Takes what was read of the network, by which `nick` is wanted, also for logins that wait.
+    /// Takes what was read from the network, on which `nick` is wanted, also for logins that wait.
     fn note(&mut self, alloc: Global, bytes: &[u8], nick: &[u8], joining: &mut Joining, now: u64) {
         let mut lines = Vec::new(alloc);
         let is_over = self.is_over && !joining.is_open(now);
@@ -120,6 +127,7 @@ impl Stage {
         }
         for line in &lines {
             joining.note(line, now);
+            let _ = self.support.take(line);
             if ends_greeting(line) {
                 self.is_greeted = true;
             }
@@ -131,10 +139,11 @@ impl Stage {
 }
 
 impl Opening {
-    /// Of a connection of which nothing was read.
+    /// That of a connection from which nothing was read yet.
     pub(crate) fn new(alloc: Global) -> Result<Opening, AllocError> {
         let stage = Stage {
             splitter: Splitter::new(alloc),
+            support: Support::new(alloc)?,
             is_greeted: false,
             is_over: false,
             left: None,
@@ -165,12 +174,13 @@ impl Opening {
         }
         stage.left = Some(Left {
             after,
+            joins: None,
             plan,
             away_at: None,
         });
     }
 
-    /// Takes what was read of the network, by which `nick` is wanted, also for logins that wait.
+    /// Takes what was read from the network, on which `nick` is wanted, also for logins that wait.
     fn note<R: Wait>(&self, rt: &R, bytes: &[u8], nick: &[u8], joining: &Mutex<Joining>, now: u64) {
         let mut stage = self.stage.lock(rt);
         let mut joining = joining.lock(rt);
@@ -198,8 +208,8 @@ impl<R: Wait + Clock> Opened<'_, R> {
         }
     }
 
-    /// When a line of so many bytes may be sent, at the pace of the network's clients and counted as
-    /// theirs are.
+    /// When a line of this many bytes may be sent, at the pace of the network's clients and counted
+    /// as theirs are.
     fn time_of(&self, bytes: usize, now: u64) -> u64 {
         let pace = self.dialling.station.pace();
         let cost = full_cost(bytes) as u64;
@@ -218,7 +228,7 @@ impl<R: Wait + Clock> Opened<'_, R> {
     }
 
     /// Sends a line of the settings, between two lines of the clients; for how many milliseconds it
-    /// waits if they stand within one.
+    /// waits if a line of theirs is half written.
     fn say_line(&self, place: usize, now: u64) -> Option<u64> {
         let text = self.settings.on_connect().get(place)?;
         let parts = [text.as_bytes(), b"\r\n"];
@@ -231,16 +241,37 @@ impl<R: Wait + Clock> Opened<'_, R> {
         None
     }
 
-    /// Joins the channels, if that may be sent now; for how many milliseconds it waits else.
+    /// Makes the JOIN lines when they are due, since by then the network has said by which mapping
+    /// it compares names; whether there was memory for them.
+    fn make_joins(&self) -> bool {
+        let stage = self.opening.stage.lock(self.dialling.rt);
+        let told = mapping_told(&stage.support);
+        let are_due = matches!(&stage.left, Some(left) if left.joins.is_none());
+        drop(stage);
+        if !are_due {
+            return true;
+        }
+        let Ok(joins) = all_joins(&self.dialling, self.settings, told) else {
+            return false;
+        };
+        if let Some(left) = &mut self.opening.stage.lock(self.dialling.rt).left {
+            left.joins = Some(joins);
+        }
+        true
+    }
+
+    /// Joins the channels, if that may be sent now; otherwise for how many milliseconds it waits.
     fn say_joins(&self) -> Option<u64> {
+        if !self.make_joins() {
+            return Some(MEMORY);
+        }
         let mut stage = self.opening.stage.lock(self.dialling.rt);
         let Some(left) = &mut stage.left else {
             return None;
         };
-        if !self
-            .connection
-            .say(self.dialling.rt, &[left.plan.joins.as_slice()])
-        {
+        let joins = left.joins.take()?;
+        if !self.connection.say(self.dialling.rt, &[joins.as_slice()]) {
+            left.joins = Some(joins);
             return Some(BETWEEN);
         }
         left.after.joined();
@@ -270,7 +301,7 @@ impl<R: Wait + Clock> Opened<'_, R> {
         }
     }
 
-    /// Sends AWAY, if that may be sent now; for how many milliseconds it waits else.
+    /// Sends AWAY, if that may be sent now; otherwise for how many milliseconds it waits.
     fn say_away(&self, now: u64) -> Option<u64> {
         let (line, at) = self.away(now);
         if now < at {
@@ -284,9 +315,29 @@ impl<R: Wait + Clock> Opened<'_, R> {
         None
     }
 
-    /// Asks for the wanted nick, unless it is ours or a client asked for one by itself; for how many
-    /// milliseconds it waits.
+    /// Whether the wanted nick may be asked for, by which of ours has it.
+    fn may_ask_for_nick(&self, now: u64) -> bool {
+        let holder = holder_of_nick(&self.dialling, self.settings);
+        match &mut self.opening.stage.lock(self.dialling.rt).left {
+            Some(
+                Left {
+                    plan: Plan {
+                        regain: Some(regain),
+                        ..
+                    },
+                    ..
+                },
+            ) => regain.look(holder, now),
+            _ => false,
+        }
+    }
+
+    /// Asks for the wanted nick, unless one of our connections has it, or a client asked for one by
+    /// itself; for how many milliseconds it waits.
     fn say_nick(&self, now: u64) -> Option<u64> {
+        if !self.may_ask_for_nick(now) {
+            return None;
+        }
         let news = ask_for_nick(&self.dialling, self.settings);
         if let Some(left) = &mut self.opening.stage.lock(self.dialling.rt).left {
             if let Some(regain) = &mut left.plan.regain {
@@ -299,7 +350,8 @@ impl<R: Wait + Clock> Opened<'_, R> {
         None
     }
 
-    /// Sends what is due; for how many milliseconds nothing more is, or `None` if nothing is left.
+    /// Sends what is due; for how many milliseconds nothing more is due, or `None` if nothing is
+    /// left.
     fn say_due(&self) -> Option<u64> {
         for _ in 0..u64::MAX {
             let now = self.dialling.shared.ticks(self.dialling.rt);
@@ -361,8 +413,8 @@ impl<R: Wait + Clock> Opened<'_, R> {
         self.connection.stream().set_read_timeout(self.limit)
     }
 
-    /// How long a read may wait that began then, if the limit to a read ends it no sooner than what
-    /// is due next in so many milliseconds; and whether the limit does.
+    /// How long a read that began then may wait: until something is due, in this many milliseconds,
+    /// or until the limit to a read, if that is sooner or the same; and whether it is the limit.
     fn waits(&self, due: u64, begun: u64) -> (Duration, bool) {
         let due = Duration::from_millis(due.max(1));
         let Some(limit) = self.limit else {

@@ -100,6 +100,31 @@ fn seat_by_name<R: Wait + Clock>(
     None
 }
 
+/// Serves a client that its proxy has named. One that closes before its first byte is not logged: a
+/// proxy that only looks whether we are there may send its line too.
+fn serve_named<R: Host>(
+    rt: R,
+    alloc: Global,
+    shared: &Shared,
+    seat: Seat,
+    connection: &Connection,
+    peer: SocketAddr,
+) {
+    let start = Instant::now(&rt).ok();
+    if connection.closes_silently(seat.time) {
+        connection.hang_up();
+        let client = seat.number;
+        let _ = shared.decide(&rt, Event::Gone { client });
+        return;
+    }
+    let seat = Seat {
+        time: left_of(&rt, start, seat.time),
+        is_proxied: true,
+        ..seat
+    };
+    serve_client(rt, alloc, shared, seat, connection, peer)
+}
+
 /// Serves a client whose proxy is to name its address first, in the time of its login. Its seat is
 /// counted for that address from then on, and the log shows it, with the port of the proxy's own
 /// connection.
@@ -116,7 +141,7 @@ pub(crate) fn serve_proxied<R: Host>(
     let left = left_of(&rt, start, seat.time);
     if let Ok(Origin::Unknown) = origin {
         let seat = Seat { time: left, ..seat };
-        return serve_client(rt, alloc, shared, seat, connection, peer);
+        return serve_named(rt, alloc, shared, seat, connection, peer);
     }
     let _ = shared.decide(
         &rt,
@@ -129,7 +154,7 @@ pub(crate) fn serve_proxied<R: Host>(
             let peer = SocketAddr::new(ip.to_canonical(), peer.port());
             if let Some(seat) = seat_by_name(&rt, shared, connection, peer) {
                 let time = seat.time.min(left);
-                serve_client(rt, alloc, shared, Seat { time, ..seat }, connection, peer);
+                serve_named(rt, alloc, shared, Seat { time, ..seat }, connection, peer);
             }
         }
         Ok(Origin::Unknown) => {}

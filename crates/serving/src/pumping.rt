@@ -21,17 +21,17 @@ use std::sync::Wait;
 use std::thread;
 use std::time::{Duration, Instant};
 
-/// For how many seconds the log tells nothing more of a network for which there is no memory.
+/// For how many seconds the log says nothing more about a network for which there is no memory.
 const QUIET_SECONDS: u64 = 60;
 
 /// How often a pump runs out of memory, with no item taken in between, before its network is
 /// begun anew.
 const PATIENCE: u32 = 3;
 
-/// Whether it is time to log again that there is no memory, last logged at this moment.
-fn is_due<R: Clock>(rt: &R, told: Option<Instant>) -> bool {
-    match told {
-        Some(told) => told
+/// Whether it is time to log again that there is no memory, which was last logged at this moment.
+fn is_due<R: Clock>(rt: &R, logged: Option<Instant>) -> bool {
+    match logged {
+        Some(logged) => logged
             .elapsed(rt)
             .is_ok_and(|since| since.as_secs() >= QUIET_SECONDS),
         None => true,
@@ -125,7 +125,8 @@ impl<'a, V: NetworkView + Drop> Pump<'a, V> {
     }
 
     /// Pumps for its turns, or until there is no memory or no number. After it ran out of
-    /// memory, only as many turns as may be refused: it runs out again only if no item was taken.
+    /// memory, only for the number of turns that may be refused: it runs out again only if no item
+    /// was taken.
     pub fn run<R: Wait + Clock>(&mut self, rt: &R, alloc: Global) -> PumpEnd {
         let Some(network) = self.slot.network(rt) else {
             thread::sleep(rt, Duration::from_millis(self.rest));
@@ -162,10 +163,10 @@ fn tell_memory<R: Wait + Clock>(
     rt: &R,
     shared: &Shared,
     station: &Station,
-    told: Option<Instant>,
+    logged: Option<Instant>,
 ) -> Option<Instant> {
-    if !is_due(rt, told) {
-        return told;
+    if !is_due(rt, logged) {
+        return logged;
     }
     shared
         .log()
@@ -173,7 +174,7 @@ fn tell_memory<R: Wait + Clock>(
     Instant::now(rt).ok()
 }
 
-/// Begins a network anew, by the settings of now.
+/// Begins a network anew, by the current settings.
 fn begin_by_settings<R: Host>(rt: &R, alloc: Global, shared: &Shared, station: &Station) {
     let start = OfSettings {
         rt,
@@ -210,11 +211,11 @@ pub(crate) fn keep_pumping<R: Host>(rt: &R, alloc: Global, shared: &Shared, stat
         limits.turns,
         REFUSED_REST,
     );
-    let mut told = None;
+    let mut logged = None;
     for _ in rt.forever() {
         match pump.run(rt, alloc) {
             PumpEnd::Turns => {}
-            PumpEnd::Memory => told = tell_memory(rt, shared, station, told),
+            PumpEnd::Memory => logged = tell_memory(rt, shared, station, logged),
             PumpEnd::Spent => {
                 let log = shared.log();
                 return log.tell(rt, &station.who(), &NetworkEvent::PumpSpent);

@@ -7,7 +7,7 @@ use std::rt::Clock;
 use std::sync::Wait;
 use std::time::Duration;
 
-/// A connection to one address of a network, which has so long to answer.
+/// A connection to one address of a network, which has this long to answer.
 fn connect_to<R: Wait + Clock + Net<Listener = TcpListener, Stream = TcpStream>>(
     rt: &R,
     address: &SocketAddr,

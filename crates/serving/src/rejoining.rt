@@ -5,20 +5,22 @@ use bnc_config::NetworkConfig;
 use hub_core::LostChannel;
 use hub_threads::RingHub;
 use irc_line::{Line, MakeError};
-use net_view::is_word;
+use irc_names::CaseMapping;
+use irc_support::Support;
+use net_view::{NetworkView, is_word};
 use quick_view::QuickView;
 use std::alloc::{AllocError, Global};
 use std::io;
 use std::io::Write;
 use std::sync::Wait;
-use upstream::channel_lines;
+use upstream::channel_lines_by;
 
 /// How long a line may be without CR LF, in bytes. One channel alone may take more.
 const LINE_LIMIT: usize = 400;
 
-/// JOIN lines, each for as many channels as it has room for: `JOIN #a,#b,#c keya,keyb`. The first
-/// key is for the first channel, and so on (RFC 2812, section 3.2.1), so the fewest lines come of
-/// channels that are added with keys first.
+/// JOIN lines, each with all the channels that it has room for: `JOIN #a,#b,#c keya,keyb`. The
+/// first key is for the first channel, and so on (RFC 2812, section 3.2.1), so the fewest lines
+/// come of channels that are added with keys first.
 #[derive(Drop)]
 pub struct JoinLines {
     alloc: Global,
@@ -31,7 +33,7 @@ pub struct JoinLines {
     is_open: bool,
 }
 
-/// Whether a text can stand in a list of a line: a word without a comma.
+/// Whether a text can be in a list of a line: a word without a comma.
 fn can_be_listed(text: &[u8]) -> bool {
     is_word(text) && !text.contains(&b',')
 }
@@ -111,7 +113,7 @@ impl JoinLines {
         Ok(())
     }
 
-    /// Adds a channel, with its key if it has one. What can't stand in a list is left out. After an
+    /// Adds a channel, with its key if it has one. What can't be in a list is left out. After an
     /// error nothing is known about the lines.
     pub fn add(&mut self, name: &[u8], key: Option<&[u8]>) -> Result<(), AllocError> {
         if !can_be_asked_for(name, key) {
@@ -153,18 +155,27 @@ fn known_key<'a>(hub: &'a RingHub<QuickView>, channel: &'a LostChannel) -> Optio
     }
 }
 
+/// By which mapping a network compares names, once it has sent a 005. Before that `ascii` is taken.
+pub(crate) fn mapping_told(support: &Support<Global>) -> Option<CaseMapping> {
+    if support.token_count() == 0 {
+        return None;
+    }
+    Some(support.mapping())
+}
+
 /// Adds a channel with its key that is known, or else that of the settings, if it has one, or if it has
-/// none. A channel of which no key is known is left out if the settings join it.
+/// none. A channel with no key known is left out if the settings join it.
 fn add_lost(
     lines: &mut JoinLines,
     settings: &NetworkConfig,
+    mapping: CaseMapping,
     name: &[u8],
     known: Option<&[u8]>,
     has_key: bool,
 ) -> Result<(), AllocError> {
     let key = match known {
         Some(key) => Some(key),
-        None => settings.key_of(name),
+        None => settings.key_by(mapping, name),
     };
     if key.is_some() != has_key || known.is_none() && is_in_settings(settings, name) {
         return Ok(());
@@ -172,44 +183,86 @@ fn add_lost(
     lines.add(name, key)
 }
 
+/// Adds a channel with its key, if one is known.
+fn push_known(
+    alloc: Global,
+    known: &mut Vec<(Vec<u8>, Vec<u8>)>,
+    name: &[u8],
+    key: Option<&[u8]>,
+) -> Result<(), AllocError> {
+    if let Some(key) = key {
+        known.push((Vec::from_slice(alloc, name)?, Vec::from_slice(alloc, key)?))?;
+    }
+    Ok(())
+}
+
+/// Notes the keys by which these channels are asked for, so that they are known after the next loss too.
+fn expect_keys(alloc: Global, hub: &mut RingHub<QuickView>) -> Result<(), AllocError> {
+    let mut known = Vec::new(alloc);
+    for i in 0..hub.lost_channel_count() {
+        let Some(channel) = hub.lost_channel_at(i) else {
+            break;
+        };
+        push_known(alloc, &mut known, &channel.name, known_key(hub, channel))?;
+    }
+    for channel in hub.recalled_channels() {
+        push_known(alloc, &mut known, &channel.name, channel.key.as_deref())?;
+    }
+    for (name, key) in &known {
+        if hub.expect_key(name, key).is_err() {
+            return Err(AllocError);
+        }
+    }
+    Ok(())
+}
+
 /// The JOIN lines of the channels that we were on when a connection was lost, or before a restart,
-/// except those that the settings join.
+/// except those that the settings join. Names are compared by the mapping that the network
+/// announced, or else by what its hub has of it. From then on the hub expects their keys.
 fn joins<R: Wait>(
     dialling: &Dialling<'_, R>,
     settings: &NetworkConfig,
+    told: Option<CaseMapping>,
 ) -> Result<Vec<u8>, AllocError> {
     let mut lines = JoinLines::new(dialling.alloc);
     let Some(network) = dialling.station.slot().network(dialling.rt) else {
         return lines.finish();
     };
-    let hub = network.lock(dialling.rt);
+    let mut hub = network.lock(dialling.rt);
+    let told = told.or(mapping_told(hub.view().support()));
+    let mapping = told.unwrap_or(CaseMapping::Ascii);
     for has_key in [true, false] {
         for i in 0..hub.lost_channel_count() {
             let Some(channel) = hub.lost_channel_at(i) else {
                 break;
             };
             let key = known_key(&hub, channel);
-            add_lost(&mut lines, settings, &channel.name, key, has_key)?;
+            add_lost(&mut lines, settings, mapping, &channel.name, key, has_key)?;
         }
         for channel in hub.recalled_channels() {
             let key = channel.key.as_deref();
-            add_lost(&mut lines, settings, &channel.name, key, has_key)?;
+            add_lost(&mut lines, settings, mapping, &channel.name, key, has_key)?;
         }
     }
+    expect_keys(dialling.alloc, &mut *hub)?;
     lines.finish()
 }
 
 /// The JOIN lines of all channels: those of the settings, and those that we were on when a connection
-/// was lost, or before a restart.
+/// was lost, or before a restart. Names are compared by the mapping that the network announced, so
+/// a channel has its key in the settings also if it has other letters there that the network takes
+/// for the same.
 pub(crate) fn all_joins<R: Wait>(
     dialling: &Dialling<'_, R>,
     settings: &NetworkConfig,
+    told: Option<CaseMapping>,
 ) -> Result<Vec<u8>, AllocError> {
+    let mapping = told.unwrap_or(CaseMapping::Ascii);
     let mut bytes = Vec::new(dialling.alloc);
-    for line in &channel_lines(dialling.alloc, settings)? {
+    for line in &channel_lines_by(dialling.alloc, settings, mapping)? {
         line.write(&mut bytes)?;
     }
-    bytes.extend_from_slice(&joins(dialling, settings)?)?;
+    bytes.extend_from_slice(&joins(dialling, settings, told)?)?;
     Ok(bytes)
 }
 
@@ -260,6 +313,6 @@ pub(crate) fn rejoin<R: Wait, W: Write>(
     settings: &NetworkConfig,
     writer: &mut W,
 ) -> io::Result<()> {
-    let bytes = joins(dialling, settings)?;
+    let bytes = joins(dialling, settings, None)?;
     writer.write_all(bytes.as_slice())
 }

@@ -34,7 +34,7 @@ pub trait Source {
 /// Why a file without networks is not put in force by a plain `reload`.
 const EMPTY: &str = "the file has no network; `reload empty` leaves all of them";
 
-/// Starts the threads of networks that are new. The log tells of one for which there are none; the
+/// Starts the threads of networks that are new. The log reports one for which there are none; the
 /// next reload begins it once more.
 fn start_each<R: Host + Net<Listener = TcpListener, Stream = TcpStream>>(
     rt: R,
@@ -131,8 +131,9 @@ fn play_alike(old: &PlaybackConfig, new: &PlaybackConfig) -> bool {
         && old.wait() == new.wait()
 }
 
-/// Logs which settings go by what they were at the start.
-fn tell_restarts<R: Wait + Clock>(rt: &R, shared: &Shared, old: &Config, new: &Config) {
+/// Logs which settings are not those of the start, by which the program goes until it ends.
+fn tell_restarts<R: Wait + Clock>(rt: &R, shared: &Shared, new: &Config) {
+    let old = shared.first();
     let keys = [
         ("listen", are_same(old.listens(), new.listens())),
         (
@@ -188,7 +189,7 @@ pub fn go_by<R: Host + Net<Listener = TcpListener, Stream = TcpStream>>(
     };
     start_all(rt, alloc, shared, begun);
     shared.log().tell(&rt, &"bnc", &event);
-    tell_restarts(&rt, shared, old.config(), &config);
+    tell_restarts(&rt, shared, &config);
     part_all(&rt, shared, networks.as_slice());
     Ok(())
 }

@@ -5,7 +5,7 @@ use std::sync::{Mutex, Wait};
 
 /// The reserve, and how many wait for memory.
 #[derive(Drop)]
-struct Kept {
+struct Stock {
     // none if it was freed, or could not be allocated
     block: Option<Vec<u8>>,
     waiting: u64,
@@ -18,7 +18,7 @@ struct Kept {
 pub struct Reserve {
     alloc: Global,
     size: usize,
-    kept: Mutex<Kept>,
+    stock: Mutex<Stock>,
 }
 
 /// A block of `size` bytes; `None` if it can't be allocated.
@@ -32,7 +32,7 @@ impl Reserve {
         Reserve {
             alloc,
             size,
-            kept: Mutex::new(Kept {
+            stock: Mutex::new(Stock {
                 block: block_of(alloc, size),
                 waiting: 0,
             }),
@@ -45,9 +45,9 @@ impl Reserve {
         let Some(spared) = block_of(self.alloc, spare) else {
             return false;
         };
-        let mut kept = self.kept.lock(rt);
-        if kept.block.is_none() && kept.waiting == 0 {
-            kept.block = block_of(self.alloc, self.size);
+        let mut stock = self.stock.lock(rt);
+        if stock.block.is_none() && stock.waiting == 0 {
+            stock.block = block_of(self.alloc, self.size);
         }
         drop(spared);
         true
@@ -55,17 +55,17 @@ impl Reserve {
 
     /// Gives it up, for one who waits for memory from now on.
     pub(crate) fn give_up<R: Wait>(&self, rt: &R) {
-        let mut kept = self.kept.lock(rt);
-        kept.waiting = kept.waiting.saturating_add(1);
-        let block = kept.block.take();
-        drop(kept);
+        let mut stock = self.stock.lock(rt);
+        stock.waiting = stock.waiting.saturating_add(1);
+        let block = stock.block.take();
+        drop(stock);
         drop(block);
     }
 
     /// Allocates it again if twice as much can be allocated; whether that is so.
     pub(crate) fn is_back<R: Wait>(&self, rt: &R) -> bool {
-        let mut kept = self.kept.lock(rt);
-        if kept.block.is_some() {
+        let mut stock = self.stock.lock(rt);
+        if stock.block.is_some() {
             return true;
         }
         let Some(first) = block_of(self.alloc, self.size) else {
@@ -74,13 +74,13 @@ impl Reserve {
         if block_of(self.alloc, self.size).is_none() {
             return false;
         }
-        kept.block = Some(first);
+        stock.block = Some(first);
         true
     }
 
     /// Says that one who waited for memory waits no more.
     pub(crate) fn go_on<R: Wait>(&self, rt: &R) {
-        let mut kept = self.kept.lock(rt);
-        kept.waiting = kept.waiting.saturating_sub(1);
+        let mut stock = self.stock.lock(rt);
+        stock.waiting = stock.waiting.saturating_sub(1);
     }
 }

@@ -1,4 +1,4 @@
-//! The settings of now, and the networks that they name.
+//! The current settings, and the networks that they name.
 
 use crate::journals::Journals;
 use crate::shown::Who;

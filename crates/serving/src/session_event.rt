@@ -37,7 +37,7 @@ pub enum SessionEvent<'a> {
         /// How many bytes were written to its client.
         bytes: u64,
     },
-    /// A client went that had sent lines which were not yet let in.
+    /// A client left that had sent lines which were not yet let in.
     Unsaid {
         /// How many.
         lines: u64,

@@ -29,12 +29,14 @@ pub struct Shared {
     log: Log,
     journals: Arc<Journals>,
     metrics: Metrics,
-    // what the networks that take little go on with
+    // memory for the networks that take little
     reserve: Reserve,
     // how many networks are still dialled
     dialled: AtomicU64,
     // for how many milliseconds a login waits while channels are joined
     wait: u64,
+    // the settings of the start, by which some things go until the end
+    first: Arc<Config>,
 }
 
 impl Shared {
@@ -58,6 +60,7 @@ impl Shared {
         journals: Journals,
     ) -> Result<(Shared, Vec<Begun>), AllocError> {
         let config = Arc::new(alloc, config)?;
+        let first = Arc::try_clone(&config)?;
         let wait = config.playback().wait().saturating_mul(1_000);
         let journals = Arc::new(alloc, journals)?;
         let ours = Arc::try_clone(&journals)?;
@@ -77,6 +80,7 @@ impl Shared {
             reserve: Reserve::new(alloc, limits.reserve),
             dialled: AtomicU64::new(0),
             wait,
+            first,
         };
         let Plan { begun, .. } = plan;
         Ok((shared, begun))
@@ -102,13 +106,13 @@ impl Shared {
         self.helm.lock(rt).step(event, now)
     }
 
-    /// The settings of now, and the networks that they name.
+    /// The current settings, and the networks that they name.
     pub fn roster<R: Wait>(&self, rt: &R) -> Result<Arc<Roster>, AllocError> {
         let helm = self.helm.lock(rt);
         Arc::try_clone(helm.roster())
     }
 
-    /// The settings of now, and how often they were read.
+    /// The current settings, and how often they were read.
     pub(crate) fn settings<R: Wait>(&self, rt: &R) -> Result<(Arc<Roster>, u64), AllocError> {
         let helm = self.helm.lock(rt);
         Ok((Arc::try_clone(helm.roster())?, helm.settings()))
@@ -138,6 +142,11 @@ impl Shared {
     /// joined. 0: it does not.
     pub(crate) fn wait(&self) -> u64 {
         self.wait
+    }
+
+    /// The settings of the start.
+    pub(crate) fn first(&self) -> &Config {
+        &self.first
     }
 
     /// How many connections wait for their login.

@@ -1,4 +1,4 @@
-//! What comes from outside, as it stands in the log.
+//! What comes from outside, as the log shows it.
 
 use client_caps::{Cap, Caps};
 use std::fmt;
@@ -51,19 +51,6 @@ impl fmt::Display for Words<'_> {
             f.write_char(sign_in_words(*byte))?;
         }
         Ok(())
-    }
-}
-
-/// What a network said at the end, if anything: `; it said: ` and the words.
-#[derive(Clone, Copy)]
-pub(crate) struct Parting<'a>(pub(crate) Option<&'a [u8]>);
-
-impl fmt::Display for Parting<'_> {
-    fn fmt<W: fmt::Write>(&self, f: &mut fmt::Formatter<W>) -> fmt::Result {
-        match self.0 {
-            Some(text) => write!(f, "; it said: {}", Words(text)),
-            None => Ok(()),
-        }
     }
 }
 

@@ -1,4 +1,4 @@
-//! The slot in which a network stands, and which stays when the network is begun anew.
+//! The slot that holds a network, and that stays when the network is begun anew.
 
 use crate::journals::Journals;
 use crate::link::Link;
@@ -13,7 +13,7 @@ use std::sync::{Arc, Mutex, Wait};
 /// looks whether its network takes much.
 const BESIDE: u64 = 32;
 
-/// What stands in a slot.
+/// What a slot holds.
 #[derive(Drop)]
 struct Standing<V: NetworkView + Drop> {
     // none while it is begun anew
@@ -22,21 +22,21 @@ struct Standing<V: NetworkView + Drop> {
     link: Option<Link>,
 }
 
-/// The slot of a network. The network that stands in it is begun anew when memory is refused for
-/// too long; its link is then that of a network that is gone. A slot is closed once nobody dials its
-/// network any more.
+/// The slot of a network. The network in it is begun anew if allocations are refused for too long;
+/// its link is then that of a network that is gone. A slot is closed once nobody dials its network
+/// any more.
 #[derive(Drop)]
 pub struct Slot<V: NetworkView + Drop> {
     standing: Mutex<Standing<V>>,
     is_closed: AtomicBool,
     // how many items the thread that reads took into the hub itself since the pump was woken for them
     beside: AtomicU64,
-    // whom to tell that there may be something to write
+    // what is rung if there may be something to write
     journals: Option<Arc<Journals>>,
 }
 
 impl<V: NetworkView + Drop> Slot<V> {
-    /// A slot in which this network stands.
+    /// A slot that holds this network.
     pub fn new(alloc: Global, network: Network<V>) -> Result<Slot<V>, AllocError> {
         Ok(Slot {
             standing: Mutex::new(Standing {
@@ -74,13 +74,15 @@ impl<V: NetworkView + Drop> Slot<V> {
     }
 
     /// Takes what the thread that reads has put into the hub, if the pump sleeps; whether nothing
-    /// is left, so that it may sleep on. After 32 items the pump is woken.
-    pub(crate) fn pump_beside<R: Wait>(&self, rt: &R) -> bool {
+    /// is left, so that it may sleep on. After 32 items the pump is woken. What the sessions were sent
+    /// is noted with this moment, at most once in a second.
+    pub(crate) fn pump_beside<R: Wait>(&self, rt: &R, now: u64) -> bool {
         let Some(network) = self.network(rt) else {
             return false;
         };
         let most = BESIDE.saturating_sub(self.beside.load(Ordering::SeqCst));
         let beside = network.pump_beside(rt, most);
+        network.note_sent(rt, now);
         self.beside.fetch_add(beside.taken, Ordering::SeqCst);
         if beside.taken > 0 {
             self.note_change();
@@ -93,7 +95,7 @@ impl<V: NetworkView + Drop> Slot<V> {
         self.beside.swap(0, Ordering::SeqCst)
     }
 
-    /// The link of the network that stands here: this one, or that of the network begun anew since.
+    /// The link of the network that it holds: this one, or that of the network begun anew since.
     pub fn link_of_now<R: Wait>(&self, rt: &R, link: Link) -> Link {
         let newer = self.standing.lock(rt).link.take();
         match newer {
@@ -102,7 +104,7 @@ impl<V: NetworkView + Drop> Slot<V> {
         }
     }
 
-    /// Whether a network stands here whose link was taken.
+    /// Whether it holds a network whose link was taken.
     fn is_linked<R: Wait>(&self, rt: &R) -> bool {
         let standing = self.standing.lock(rt);
         standing.network.is_some() && standing.link.is_none()

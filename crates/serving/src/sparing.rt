@@ -43,7 +43,7 @@ fn is_within<R: Clock>(rt: &R, moment: Option<Instant>, limit: u64) -> bool {
 }
 
 impl<'a> Sparing<'a> {
-    /// A network that took nothing yet.
+    /// A network that has taken nothing yet.
     pub(crate) fn new(reserve: &'a Reserve, spare: usize) -> Sparing<'a> {
         Sparing {
             reserve,

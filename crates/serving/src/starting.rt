@@ -22,7 +22,7 @@ use std::thread::{JoinHandle, Threads};
 use steward::Event;
 
 /// Starts the thread that writes the log to standard error, until the log is ended. `AllocError`
-/// if memory is refused or no thread can be started.
+/// if an allocation fails or no thread can be started.
 pub fn start_log<R: Threads + Wait + Clock + Eprint + Copy + Send + Drop + 'static>(
     rt: R,
     shared: &Arc<Shared>,
@@ -35,7 +35,7 @@ pub fn start_log<R: Threads + Wait + Clock + Eprint + Copy + Send + Drop + 'stat
 }
 
 /// Starts the threads of a network: one that pumps, and then one that dials and reads it, which has a
-/// writer beside it while a connection stands.
+/// writer beside it while a connection is up.
 fn start_threads<R: Host + Net<Listener = TcpListener, Stream = TcpStream>>(
     rt: R,
     alloc: Global,
@@ -68,8 +68,8 @@ fn start_threads<R: Host + Net<Listener = TcpListener, Stream = TcpStream>>(
     Ok(())
 }
 
-/// Starts the threads of a network. `AllocError` if memory is refused or a thread can't be started;
-/// the network is forgotten then, so that the next reload begins it again.
+/// Starts the threads of a network. `AllocError` if an allocation fails or a thread can't be
+/// started; the network is forgotten then, so that the next reload begins it again.
 pub(crate) fn start_network<R: Host + Net<Listener = TcpListener, Stream = TcpStream>>(
     rt: R,
     alloc: Global,
@@ -96,7 +96,7 @@ pub(crate) fn start_network<R: Host + Net<Listener = TcpListener, Stream = TcpSt
     started
 }
 
-/// Starts the threads of each network. `AllocError` if memory is refused or a thread can't be
+/// Starts the threads of each network. `AllocError` if an allocation fails or a thread can't be
 /// started; those started before then run on.
 pub fn start_networks<R: Host + Net<Listener = TcpListener, Stream = TcpStream>>(
     rt: R,
@@ -108,11 +108,12 @@ pub fn start_networks<R: Host + Net<Listener = TcpListener, Stream = TcpStream>>
     for one in begun {
         start_network(rt, alloc, shared, one, &mut threads)?;
     }
+    shared.journals().note_begun();
     Ok(threads)
 }
 
-/// Starts the thread that writes the journals, if networks are kept. `AllocError` if memory is refused
-/// or no thread can be started.
+/// Starts the thread that writes the journals, if networks are kept. `AllocError` if an allocation
+/// fails or no thread can be started.
 pub fn start_journals<R: Host>(
     rt: R,
     alloc: Global,
@@ -128,8 +129,8 @@ pub fn start_journals<R: Host>(
     }
 }
 
-/// Starts the thread that writes the figures, if there is a file for them. `AllocError` if memory is
-/// refused or no thread can be started.
+/// Starts the thread that writes the figures, if there is a file for them. `AllocError` if an
+/// allocation fails or no thread can be started.
 pub fn start_metrics<R: Host + Publish>(
     rt: R,
     alloc: Global,
@@ -145,7 +146,7 @@ pub fn start_metrics<R: Host + Publish>(
     }
 }
 
-/// Starts the thread that accepts clients. `AllocError` if memory is refused or no thread can be
+/// Starts the thread that accepts clients. `AllocError` if an allocation fails or no thread can be
 /// started.
 pub fn start_accepting<R: Host + Net<Listener = TcpListener, Stream = TcpStream>>(
     rt: R,
@@ -158,8 +159,8 @@ pub fn start_accepting<R: Host + Net<Listener = TcpListener, Stream = TcpStream>
     started.or(Err(AllocError))
 }
 
-/// Starts the thread that accepts the proxies that may connect. `AllocError` if memory is refused or
-/// no thread can be started.
+/// Starts the thread that accepts the proxies that may connect. `AllocError` if an allocation fails
+/// or no thread can be started.
 pub fn start_accepting_proxies<R: Host + Net<Listener = TcpListener, Stream = TcpStream>>(
     rt: R,
     alloc: Global,

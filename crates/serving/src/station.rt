@@ -1,4 +1,4 @@
-//! A network that is served, by its names, until the settings have it no more.
+//! A network that is served, by its names, until the settings no longer have it.
 
 use crate::joining::Joining;
 use crate::journals::Journals;
@@ -35,7 +35,7 @@ pub struct Station {
     pace: Pace,
     // how the last dial ended, and how often others ended alike after it
     repeats: Mutex<Repeats>,
-    // how often in succession the nick of a registration was not taken
+    // how often in succession the nick of a registration was refused
     nick_tries: Mutex<NickTries>,
     // on which the thread that dials rests
     bed: Parker,
@@ -102,7 +102,7 @@ impl Station {
         self.label
     }
 
-    /// Where its hub stands.
+    /// The slot of its hub.
     pub fn slot(&self) -> &Slot<QuickView> {
         &self.slot
     }
@@ -112,12 +112,13 @@ impl Station {
         &self.journal
     }
 
-    /// The channels that are joined after the registration. Who holds the hub's lock does not take it.
+    /// The channels that are joined after the registration. A thread that holds the hub's lock does
+    /// not take this one.
     pub(crate) fn joining(&self) -> &Mutex<Joining> {
         &self.joining
     }
 
-    /// How far these channels are at this time.
+    /// How far their joining is at this time.
     pub(crate) fn channels<R: Wait>(&self, rt: &R, now: u64) -> Channels {
         let mut joining = self.joining.lock(rt);
         if !joining.is_open(now) {
@@ -139,12 +140,12 @@ impl Station {
         &self.repeats
     }
 
-    /// How often in succession the nick of a registration was not taken.
+    /// How often in succession the nick of a registration was refused.
     pub(crate) fn nick_tries(&self) -> &Mutex<NickTries> {
         &self.nick_tries
     }
 
-    /// Rests, for so long or until it is woken.
+    /// Rests for this time, or until it is woken.
     pub(crate) fn rest<R: Wait>(&self, rt: &R, time: Duration) {
         self.bed.park_timeout(rt, time);
     }

@@ -24,7 +24,7 @@ pub fn begin_end<R: Wait + Clock>(rt: &R, shared: &Shared, listener: &TcpListene
     let _ = keep::shut_listener(listener);
 }
 
-/// Gives the orders of the end, one after the other, until there is none left or their time is up.
+/// Gives the orders of the end, one after the other, until none is left or their time is up.
 fn give_orders<R: Wait + Clock>(rt: &R, shared: &Shared) {
     for _ in rt.forever() {
         match shared.decide(rt, Event::Ends) {
@@ -36,7 +36,7 @@ fn give_orders<R: Wait + Clock>(rt: &R, shared: &Shared) {
     unreachable!()
 }
 
-/// Whether so much time has gone by since a moment.
+/// Whether this much time has gone by since a moment.
 fn is_past<R: Clock>(rt: &R, start: Instant, time: Duration) -> bool {
     match start.elapsed(rt) {
         Ok(passed) => passed >= time,
@@ -44,7 +44,7 @@ fn is_past<R: Clock>(rt: &R, start: Instant, time: Duration) -> bool {
     }
 }
 
-/// Whether what is left for a network's journal is still to be written, or is written just now.
+/// Whether what is left for a network's journal is still to be written, or is being written.
 fn is_unwritten(station: &Station) -> bool {
     match station.journal().try_lock() {
         Some(journal) => match &*journal {
@@ -55,8 +55,8 @@ fn is_unwritten(station: &Station) -> bool {
     }
 }
 
-/// Waits until what is left for a network's journal is written, or so much time has gone by since a
-/// moment; whether it is written.
+/// Waits until what is left for a network's journal is written, or this much time has gone by since
+/// a moment; whether it is written.
 fn waits_for_journal<R: Wait + Clock>(
     rt: &R,
     station: &Station,
@@ -75,8 +75,9 @@ fn waits_for_journal<R: Wait + Clock>(
     unreachable!()
 }
 
-/// Has what is left for the journals written, and waits for that until so much time has gone by since
-/// a moment, since a disk may hang. The log tells of each network of which not all is written then.
+/// Asks that what is left for the journals is written, and waits for that until this much time has
+/// gone by since a moment, because a disk may hang. Each network of which not everything is written
+/// then is logged.
 fn end_journals<R: Wait + Clock>(rt: &R, shared: &Shared, start: Instant, time: Duration) {
     shared.journals().end();
     let Ok(roster) = shared.roster(rt) else {
@@ -90,7 +91,7 @@ fn end_journals<R: Wait + Clock>(rt: &R, shared: &Shared, start: Instant, time: 
     }
 }
 
-/// Waits until the log is written out, or so much time has gone by since a moment.
+/// Waits until the log is written out, or this much time has gone by since a moment.
 fn wait_for_log<R: Wait + Clock>(rt: &R, log: &Log, start: Instant, time: Duration) {
     for _ in rt.forever() {
         if is_past(rt, start, time) || log.is_written() {
@@ -101,10 +102,11 @@ fn wait_for_log<R: Wait + Clock>(rt: &R, log: &Log, start: Instant, time: Durati
     unreachable!()
 }
 
-/// Ends the service: each client is sent `ERROR :bnc stops` after what waits for it, also one that
-/// logs in, then each network `QUIT :bnc stops`, and the journals and the log are written out. It
-/// takes no longer than the limits say; who has not taken all by then gets no more, and the log tells
-/// of a journal that is not written by a sixteenth of that time before.
+/// Ends the service: each client, also one that logs in, is sent `ERROR :bnc stops` after what
+/// waits for it, then each network `QUIT :bnc stops`, and the journals and the log are written out.
+/// It takes no longer than the limits say: a client or network that has not taken everything by
+/// then gets no more. A journal that is not written a sixteenth of that time before the end is
+/// logged.
 pub fn stop<R: Host>(rt: &R, _alloc: Global, shared: &Shared) {
     let Ok(start) = Instant::now(rt) else {
         return;

@@ -17,7 +17,7 @@ pub enum StrangerEvent<'a> {
         /// Where it comes from.
         peer: SocketAddr,
     },
-    /// A login was over before it was done.
+    /// A login ended before it was complete.
     NoLogin {
         /// Where it comes from.
         peer: SocketAddr,

@@ -14,11 +14,19 @@ struct Aboard {
     connection: Connection,
 }
 
-/// The connection to a network, and since when it has let us in.
+/// The connection to a network, to which address, and since when it has let us in.
 #[derive(Drop)]
 struct Upstream {
     connection: Connection,
+    address: Vec<u8>,
     since: Option<Moment>,
+}
+
+/// A network that is connected, and whether its connection is about to end.
+#[derive(Drop)]
+pub(crate) struct Neighbour {
+    pub(crate) station: Arc<Station>,
+    pub(crate) leaves: bool,
 }
 
 /// A network, until its thread has ended.
@@ -46,7 +54,7 @@ fn farewell_of(why: Why) -> Option<Farewell> {
 }
 
 impl Tables {
-    /// Nobody is there.
+    /// No client and no network.
     pub(crate) fn new(alloc: Global) -> Tables {
         Tables {
             clients: Vec::new(alloc),
@@ -146,10 +154,36 @@ impl Tables {
         }
     }
 
-    /// Notes a connection to a network that registers.
-    pub(crate) fn connect(&mut self, number: u64, connection: Connection) {
-        let since = None;
-        self.set_upstream(number, Some(Upstream { connection, since }));
+    /// Notes a connection to a network that registers, at this address.
+    pub(crate) fn connect(&mut self, number: u64, connection: Connection, address: Vec<u8>) {
+        let upstream = Upstream {
+            connection,
+            address,
+            since: None,
+        };
+        self.set_upstream(number, Some(upstream));
+    }
+
+    /// The other networks that are connected to this address.
+    pub(crate) fn neighbours(
+        &self,
+        alloc: Global,
+        number: u64,
+        address: &[u8],
+    ) -> Result<Vec<Neighbour>, AllocError> {
+        let mut neighbours = Vec::new(alloc);
+        for berth in &self.berths {
+            let Some(upstream) = &berth.upstream else {
+                continue;
+            };
+            if berth.station.number() != number && upstream.address.as_slice() == address {
+                neighbours.push(Neighbour {
+                    station: Arc::try_clone(&berth.station)?,
+                    leaves: upstream.connection.is_shut(),
+                })?;
+            }
+        }
+        Ok(neighbours)
     }
 
     /// Notes that a network has let us in.

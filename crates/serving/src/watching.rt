@@ -8,10 +8,11 @@ use crate::client_input::{ClientInput, Others, unsaid};
 use crate::connection::Farewell;
 use crate::guest::{Guest, LastLine};
 use crate::judging::{Judged, TurnedAway};
+use crate::leaving::seen_by;
 use crate::session_event::SessionEvent;
 use crate::station::Station;
 use client_caps::Caps;
-use hub_core::AttachError;
+use hub_core::{AttachError, Seen};
 use hub_ends::SessionId;
 use hub_threads::{Ended, Network};
 use quick_view::QuickView;
@@ -22,7 +23,7 @@ use std::rt::Clock;
 use std::sync::atomic::{AtomicBool, Ordering};
 use std::sync::{Arc, Wait};
 
-/// Why a login was over whose seat another took.
+/// Why a login ended whose seat another took.
 const GAVE_WAY: &str = "gave way, too many connections";
 
 /// What a client is sent whose time for a login is up, and that sent no PASS.
@@ -31,14 +32,13 @@ const SEND_PASS: &[u8] = b"ERROR :send PASS user@client/network:password\r\n";
 /// What a client is sent whose login was complete only after the service had begun to end.
 const STOPS: &[u8] = b"ERROR :bnc stops\r\n";
 
-/// Why a login was over before it was done.
+/// Why a login ended before it was complete.
 fn cause_of_login(fault: LoginFault) -> &'static str {
     match fault {
-        LoginFault::Memory => "out of memory",
+        LoginFault::OutOfMemory => "out of memory",
         LoginFault::Read => "gone, or too late",
         LoginFault::Write => "cannot write",
         LoginFault::TooLong => "line too long",
-        LoginFault::NoRoom => "out of memory",
     }
 }
 
@@ -69,7 +69,7 @@ pub(crate) struct Watching<'a, R: Wait + Clock + Copy + Drop> {
     guest: Guest<'a, R>,
     // how many bytes were written to the client
     count: Count,
-    // whom the client claims to be
+    // who the client claims to be
     claimed: Option<Claimed>,
     // why it is not served although its login is complete
     turned_away: Option<TurnedAway>,
@@ -116,7 +116,7 @@ impl<'a, R: Wait + Clock + Copy + Drop> Watching<'a, R> {
         }
     }
 
-    /// Whose the last line is. If it is not this thread's own, nothing more can be written.
+    /// Who writes the last line. Unless this thread may write its own, nothing more can be written.
     fn last_line(&mut self) -> LastLine
         ensures { self.new.session ≡ self.old.session }
     {
@@ -146,7 +146,7 @@ impl<'a, R: Wait + Clock + Copy + Drop> Watching<'a, R> {
         }
     }
 
-    /// The network that the client is let in to, at the pace of its clients.
+    /// The network that the client may enter, at the pace of its clients.
     fn enter(
         &mut self,
         reader: &mut ClientInput<'a, R>,
@@ -182,6 +182,7 @@ impl<'a, R: Wait + Clock + Copy + Drop> Watching<'a, R> {
             changed: Arc::try_clone(&changed)?,
         };
         self.changed = Some(changed);
+        self.guest.ear.enter(Arc::try_clone(&network)?);
         reader.begin_session(others, station.pace());
         self.count.begin();
         Ok(network)
@@ -206,7 +207,7 @@ impl<'a, R: Wait + Clock + Copy + Drop> Watching<'a, R> {
         }
     }
 
-    /// Logs why a login was over before it was done, unless the log has that already.
+    /// Logs why a login ended before it was complete, unless the log has that already.
     fn end_login(&self, input: &ClientInput<'a, R>, last: LastLine) {
         let is_logged = self.refusal == Some(Refusal::Denied);
         if is_logged || self.turned_away == Some(TurnedAway::Wrong) {
@@ -306,7 +307,7 @@ impl<'a, R: Wait + Clock + Copy + Drop> Watching<'a, R> {
 
 impl<'a, R: Wait + Clock + Copy + Drop> Watcher<QuickView, Arc<Station>, ClientInput<'a, R>>
     for Watching<'a, R> {
-    // it is noted why
+    // why is noted
     ghost turns_away = { λ w _. IsSome w.turned_away };
 
     ghost session = { λ w. w.session };
@@ -354,6 +355,7 @@ impl<'a, R: Wait + Clock + Copy + Drop> Watcher<QuickView, Arc<Station>, ClientI
 
     fn attached(&mut self, id: SessionId) {
         self.session = Some(id);
+        self.guest.ear.attached(id);
         self.guest.shared.journals().ring();
     }
 
@@ -364,7 +366,8 @@ impl<'a, R: Wait + Clock + Copy + Drop> Watcher<QuickView, Arc<Station>, ClientI
         self.tell(&SessionEvent::CapsChanged { caps });
     }
 
-    fn ended(&mut self, why: Leave) {
+    fn ended(&mut self, why: Leave) -> Seen {
         self.why = Some(why);
+        seen_by(&self.guest, why)
     }
 }

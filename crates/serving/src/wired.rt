@@ -22,7 +22,7 @@ impl Wire for Wired<'_> {
         self.0.stream().set_read_timeout(time)
     }
 
-    /// Also if it is to end after a last word: nobody is to wait for what its client has not said.
+    /// Also if it is to end after a last line: nobody is to wait for what its client has not said.
     fn is_shut(&self) -> bool {
         self.0.is_shut() || self.0.farewell().is_some()
     }

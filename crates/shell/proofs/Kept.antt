@@ -12,7 +12,7 @@ use Rattle.std.proofs.KnownBytes.{Keeps-trans, prepend_known-read}
 pub keeps_on : (a b c : Option (List ℕ)) → Keeps a b → Keeps b c → Keeps a c
 keeps_on = Keeps-trans
 
--- what stands at the front of a part of what is held stands at its own front
+-- what is at the front of a part of what is held is at its own front
 pub front_given : (held part left buf bytes : List ℕ) (m n taken : ℕ) → held ≡ drop taken bytes
     → part ≡ take m held → part ≡ take n buf ++ left → n ≤ length buf
     → held ≡ take n buf ++ drop (taken + n) bytes

@@ -13,7 +13,7 @@ none_in_part p xs zero h = refl
 none_in_part p [] (suc k) h = refl
 none_in_part p (x ∷ xs) (suc k) h = grind (arith, none_in_part p xs k)
 
--- a digit can stand in a nick
+-- a digit can be in a nick
 pub digit_within : (n : ℕ) → n < 10 → is_outside_nick (48 + n) ≡ false
 digit_within n h = grind (arith, nat_tests)
 

@@ -10,7 +10,7 @@ first_length held = option_map (λ place. place + 1) (position (λ b. b == 10) h
 abbrev pub line_length : List ℕ → ℕ
 line_length held = min (position_or_len (λ b. b == 10) held + 1) (length held)
 
--- whether a stream stands within a line after these bytes; `before` says whether it did before them
+-- whether a stream is within a line after these bytes; `before` says whether it was before them
 abbrev pub ends_within : Bool → List ℕ → Bool
 ends_within before bytes =
     if length bytes == 0 then before else not (slice_index bytes (length bytes - 1) == 10)

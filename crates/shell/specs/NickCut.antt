@@ -22,7 +22,7 @@ last_begin nick (suc n) = if begins_at nick (suc n) then suc n else last_begin n
 abbrev pub room_of : List ℕ → Option ℕ → ℕ
 room_of nick limit = max (min (unwrap_or limit (length nick) - 2) (length nick)) 1
 
--- how many bytes are kept: whole characters, as many as have room; all, if the first has none
+-- how many bytes are kept: the whole characters that have room; all, if the first has none
 abbrev pub kept_of : List ℕ → ℕ → ℕ
 kept_of nick room = if last_begin nick room == 0 then length nick else last_begin nick room
 

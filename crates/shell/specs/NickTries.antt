@@ -1,5 +1,5 @@
--- Which nick a registration asks for, after so many whose nick was not taken. Their order is our own
--- choice.
+-- Which nick a registration asks for, after this many whose nick was not taken. Their order is our
+-- own choice.
 use Rattle.std.specs.Prelude.{◌≡◌, ◌+◌, ◌<◌, ℕ}
 use Rattle.shell.specs.declared.nick_tries.NickChoice.{NickChoice}
 use Rattle.shell.specs.declared.nick_tries.NickChoice.TheVariants as choice

@@ -1,5 +1,5 @@
 -- What the readers of a connection will hand on: what they hold, and then what the connection has
--- left. `None` if the connection does not tell that, as a socket does not.
+-- left. `None` if the connection does not say, as a socket does not.
 use Rattle.std.specs.Prelude.{ℕ, List, Option}
 use Rattle.std.specs.Io.KnownBytes.{prepend_known}
 use Rattle.circular_buffer.specs.Buffer.{Buffer}

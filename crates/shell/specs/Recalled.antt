@@ -1,7 +1,6 @@
 -- What a network said last, and why it ends a connection or refuses a login.
 use Rattle.std.specs.Prelude.{ℕ, Bool, List, [], ◌∷◌, ◌++◌, ◌-◌, ◌==◌, ◌||◌, Option, None, Some}
 use Rattle.std.specs.Prelude.{codes, drop, if◌then◌else◌, length, option_and_then, slice_get}
-use Rattle.std.specs.Option.{option_or}
 use Rattle.circular_buffer.specs.Buffer.{Buffer, buffer, keep_last}
 use Rattle.irc_line.specs.Line.{Parts, has_command}
 use Rattle.irc_line.specs.Lines.{lines_of}
@@ -32,11 +31,6 @@ refusal_after about found [] = found
 refusal_after about found (line ∷ lines) =
     refusal_after about (if refuses about line then Some (last_param line) else found) lines
 
--- why a connection ends, by some lines: the text of the last that refuses us, or else of an ERROR at
--- their end
-abbrev pub parting_in : List Parts → Option (List ℕ)
-parting_in lines = option_or (refusal_after About.Entry None lines) (last_error lines)
-
 -- The lines among the last bytes of a stream. If they fill the room that there is for them, their
 -- first line may have lost its beginning, and does not count.
 abbrev pub whole_lines : ℕ → List ℕ → List Parts
@@ -47,13 +41,17 @@ whole_lines room bytes =
 abbrev pub and_then : Buffer ℕ → List ℕ → Buffer ℕ
 and_then kept bytes = buffer (keep_last kept.capacity (kept.items ++ bytes)) kept.capacity
 
--- why a connection ends, by what is kept of it
+-- the last words of a connection, by what is kept of it: the text of an ERROR at its end
 abbrev pub parting : Buffer ℕ → Option (List ℕ)
-parting kept = parting_in (whole_lines kept.capacity kept.items)
+parting kept = last_error (whole_lines kept.capacity kept.items)
 
 -- what refuses this, by what is kept
 abbrev pub refusal_of : About → Buffer ℕ → Option (List ℕ)
 refusal_of about kept = refusal_after about None (whole_lines kept.capacity kept.items)
+
+-- why we are not let in, by what is kept
+abbrev pub no_entry : Buffer ℕ → Option (List ℕ)
+no_entry kept = refusal_of About.Entry kept
 
 -- why we are not logged in to our account, by what is kept
 abbrev pub no_login : Buffer ℕ → Option (List ℕ)

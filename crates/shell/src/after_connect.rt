@@ -53,8 +53,8 @@ pub fn ends_greeting(line: &Line) -> bool
 }
 
 impl AfterConnect {
-    /// The welcome has come now. So many lines are to be sent, and the channels are joined this many
-    /// milliseconds after the last of them. The greeting may have ended already.
+    /// The welcome has come now. This many lines are to be sent, and the channels are joined this
+    /// many milliseconds after the last of them. The greeting may have ended already.
     pub fn start(lines: usize, join_after: u64, is_greeted: bool, now: u64) -> AfterConnect
         ensures lines { (result.lines ≡ lines) × (result.sent ≡ 0) }
         ensures times { (result.welcome ≡ now) × (result.last ≡ now)

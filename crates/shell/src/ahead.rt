@@ -119,7 +119,7 @@ impl Ahead {
         make_room(&mut self.bytes)
     }
 
-    /// Reads once; answers how many bytes came, 0 at the input's end. They stand after what was
+    /// Reads once; answers how many bytes came, 0 at the input's end. They come after what was
     /// there. If there is no room for them, nothing is read.
     pub(crate) fn fill<I: Read>(&mut self, input: &mut I) -> io::Result<usize>
         ensures kept { Keeps (prepend_known self.old (I.remaining input.old))
@@ -164,7 +164,7 @@ impl Ahead {
         Ok(self.line_length())
     }
 
-    /// Hands on what came first: at most this many bytes, and as many as there is room for.
+    /// Hands on what came first: at most this many bytes, and no more than there is room for.
     pub(crate) fn give(&mut self, buf: &mut [u8], most: usize) -> io::Result<usize>
         ensures bound { ReadsAtMost result buf.new }
         ensures ok { IsOk result }
@@ -180,7 +180,7 @@ impl Ahead {
     }
 }
 
-/// Reads on to the input's end, of which at most 64 MiB; answers how many lines came.
+/// Reads on to the input's end, at most 64 MiB of it; answers how many lines came.
 pub fn lines_left<I: Read>(input: &mut I) -> u64
     ensures { (bytes : List ℕ) × Consumes (I.remaining input.old) (I.remaining input.new) bytes
         × (result ≡ count_by (λ b. b == 10) bytes) }

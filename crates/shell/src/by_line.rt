@@ -13,8 +13,8 @@ use std::io;
 use std::io::Read;
 
 /// A reader that hands on one line at a time, and keeps what it has read after that. At the end of
-/// its input it hands on what stands there without an LF too. It notes whether a PASS was among the
-/// lines.
+/// its input it hands on what is left there without an LF too. It notes whether a PASS was among
+/// the lines.
 #[derive(Drop)]
 pub struct ByLine<I> {
     alloc: Global,

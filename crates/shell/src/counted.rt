@@ -48,7 +48,7 @@ impl<W: Write> Counted<W> {
 }
 
 impl Count {
-    /// Begins anew.
+    /// Begins again.
     pub fn begin(&self) {
         self.total.bytes.store(0, Ordering::SeqCst)
     }

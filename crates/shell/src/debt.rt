@@ -3,8 +3,8 @@
 ghost use Rattle.std.specs.Prelude.{◌≡◌, ◌+◌, ◌-◌, ◌*◌, ◌^◌, ◌≤◌, ◌<◌, min, max};
 ghost use Rattle.shell.specs.Pacing.{room_for};
 
-/// Into how many parts a byte is counted: with a pace in bytes a second, each microsecond frees as
-/// many of these as the pace is.
+/// Into how many parts a byte is counted: with a pace in bytes a second, each microsecond frees
+/// one of these for each byte of the pace.
 const PARTS: u64 = 1_000_000;
 
 /// What was said and is not yet made up for, in millionths of a byte.
@@ -44,7 +44,7 @@ impl Debt {
     }
 
     /// How many microseconds somebody waits who now says this many bytes, if `burst` may be said at
-    /// once and then `rate` a second, where 0 counts as 1: the fewest after which there is room for
+    /// once and then `rate` a second (0 counts as 1): the fewest after which there is room for
     /// them. More bytes than may be said at once wait until nothing is owed.
     pub fn wait(self, burst: u32, rate: u32, bytes: u32) -> u64
         ensures enough { self.parts ≤ room_for burst bytes + result * max rate 1 }

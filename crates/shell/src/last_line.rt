@@ -7,7 +7,7 @@ ghost use Rattle.shell.specs.Held.{ends_within};
 use std::io;
 use std::io::Write;
 
-/// Whether a stream stands within a line after this piece; `before` says whether it did before.
+/// Whether a stream is within a line after this piece; `before` says whether it was before.
 pub fn ends_within(before: bool, piece: &[u8]) -> bool
     ensures { result ≡ ends_within before piece.now }
 {
@@ -17,7 +17,7 @@ pub fn ends_within(before: bool, piece: &[u8]) -> bool
     }
 }
 
-/// Says a last line, unless the stream stands within a line: half a line is not to be taken for
+/// Says a last line, unless the stream is within a line: half a line is not to be taken for
 /// the beginning of this one.
 pub fn say_last<W: Write>(out: &mut W, is_within_line: bool, line: &[u8]) -> io::Result<()>
     ensures glued { is_within_line ≡ true → W.contents out.new ≡ W.contents out.old }

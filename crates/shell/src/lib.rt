@@ -35,7 +35,7 @@ pub use nick_tries::{NickChoice, NickTries};
 pub use pace::Pace;
 pub use paced::{Neighbours, Paced};
 pub use recalling::Recalling;
-pub use regain::{NickNews, Regain, WhenAsked, news_of};
+pub use regain::{Holder, NickNews, Regain, WhenAsked, news_of};
 pub use repeats::{Noted, Repeats};
 pub use timed::{OnSilence, Patient, Until, is_silence};
 pub use wire::Wire;

@@ -38,7 +38,7 @@ impl<'a, S: Wire + Drop, A: OnSilence + Drop, C: Clock> NetworkInput<'a, S, A, C
         })
     }
 
-    /// Reads to the connection's end from now on. It fails at the last of so many silences in
+    /// Reads to the connection's end from now on. It fails at the last of this many silences in
     /// succession, each of this time, and does something at each before it.
     fn begin_live(&mut self, silence: Duration, silences: u32, on_silence: A) -> io::Result<()>
         ensures kept { network_remaining S.remaining self.new ≡ network_remaining S.remaining self.old }
@@ -59,7 +59,7 @@ impl<'a, S: Wire + Drop, A: OnSilence + Drop, C: Clock> NetworkInput<'a, S, A, C
 }
 
 impl<S: Wire + Drop, A: OnSilence + Drop, C: Clock> Recalling<NetworkInput<'_, S, A, C>> {
-    /// Reads to the connection's end from now on. It fails at the last of so many silences in
+    /// Reads to the connection's end from now on. It fails at the last of this many silences in
     /// succession, each of this time, and does something at each before it.
     pub fn begin_live(&mut self, silence: Duration, silences: u32, on_silence: A) -> io::Result<()>
         ensures kept { network_remaining S.remaining (recalling_input self.new)

@@ -26,8 +26,8 @@ fn last_begin(nick: &[u8], place: usize) -> usize
     found
 }
 
-/// How many bytes of the nick have room beside two digits, on a network whose nicks have so many bytes
-/// at most; if that is not known, two fewer than it has. At least one.
+/// How many bytes of the nick have room beside two digits, on a network whose nicks have at most
+/// this many bytes; if that is not known, two fewer than it has. At least one.
 fn room_of(nick: &[u8], limit: Option<usize>) -> usize
     ensures { result ≡ room_of nick.now limit }
 {
@@ -35,7 +35,7 @@ fn room_of(nick: &[u8], limit: Option<usize>) -> usize
     most.min(nick.len()).max(1)
 }
 
-/// How many bytes of the nick are kept: whole characters, as many as have room; all, if its first
+/// How many bytes of the nick are kept: the whole characters that have room; all, if its first
 /// character has none.
 fn kept_of(nick: &[u8], room: usize) -> usize
     requires { room ≤ length nick.now }

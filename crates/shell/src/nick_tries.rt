@@ -30,7 +30,7 @@ impl NickTries {
         NickTries { refused: 0 }
     }
 
-    /// Which nick the next registration asks for, if there are so many further ones.
+    /// Which nick the next registration asks for, if there are this many further ones.
     pub fn next(&self, further: usize) -> NickChoice
         ensures { IsChoice self.now.refused further result }
     {

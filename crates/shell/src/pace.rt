@@ -42,7 +42,7 @@ impl Spent {
 }
 
 impl Pace {
-    /// This many bytes at once, and then this many a second, where 0 counts as 1.
+    /// This many bytes at once, and then this many a second; 0 counts as 1.
     pub fn new(burst: u64, rate: u64) -> Pace {
         let spent = Spent {
             debt: Debt { parts: 0 },
@@ -55,9 +55,9 @@ impl Pace {
         }
     }
 
-    /// Counts this many bytes; answers how long their speaker waits before it says them. Who comes
-    /// later waits for those before it too. More bytes than may be said at once wait until nothing
-    /// is left to make up for. If the clock can't be read nobody waits.
+    /// Counts this many bytes; answers how long their speaker waits before it says them. A speaker
+    /// that comes later waits for those before it too. More bytes than may be said at once wait
+    /// until nothing is left to make up for. If the clock can't be read nobody waits.
     pub fn take<R: Wait + Clock>(&self, rt: &R, bytes: u64) -> Duration {
         let Ok(now) = Instant::now(rt) else {
             return Duration::ZERO;

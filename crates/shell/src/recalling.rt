@@ -4,7 +4,7 @@ ghost use Rattle.std.specs.Prelude.{◌≡◌, IfOk, None, OnErr, drop, option_a
 ghost use Rattle.std.specs.Prelude.{take};
 ghost use Rattle.std.specs.Io.{ReadsAtMost};
 ghost use Rattle.std.specs.Io.KnownBytes.{ReadConsumes};
-ghost use Rattle.shell.specs.Recalled.{and_then, last_error, no_login, no_nick, parting, parting_in};
+ghost use Rattle.shell.specs.Recalled.{and_then, last_error, no_entry, no_login, no_nick, parting};
 ghost use Rattle.shell.specs.Recalled.{refusal_after, refusal_of, refuses};
 ghost use Rattle.shell.specs.Readers.{recalled, recalling_input};
 
@@ -89,17 +89,6 @@ fn without_first(lines: &[Line]) -> &[Line]
     }
 }
 
-/// What some lines say about why a connection ends: the text of the last that does not let us in, or
-/// else of the last line, if it is an ERROR.
-fn parting_in(alloc: Global, lines: &[Line]) -> Result<Option<Vec<u8>>, OutOfMemory>
-    ensures { IfOk result (λ text. option_map (λ t. t.items) text ≡ parting_in lines.now) }
-{
-    match refusal(alloc, About::Entry, lines)? {
-        Some(text) => Ok(Some(text)),
-        None => last_error(alloc, lines),
-    }
-}
-
 impl<I: Read> Recalling<I> {
     /// A reader that keeps what it reads from here on.
     pub fn new(alloc: Global, input: I) -> Recalling<I>
@@ -111,8 +100,8 @@ impl<I: Read> Recalling<I> {
         }
     }
 
-    /// What was read last says why the connection ends: the text of a 463 or 465, or that of the last
-    /// line, if it is an ERROR, as `ERROR :Closing Link: h (Ping timeout)`.
+    /// What was read last says why the connection ends: the text of the last line, if it is an ERROR, as
+    /// `ERROR :Closing Link: h (Ping timeout)`.
     pub fn parting(&self, alloc: Global) -> Result<Option<Vec<u8>>, OutOfMemory>
         ensures { IfOk result (λ text. option_map (λ t. t.items) text
             ≡ option_and_then parting (recalled self.now)) }
@@ -123,9 +112,9 @@ impl<I: Read> Recalling<I> {
         let lines = lines_in(alloc, &last.to_vec(alloc)?)?;
         // the first line may have lost its beginning
         if last.is_full() {
-            return parting_in(alloc, without_first(&lines));
+            return last_error(alloc, without_first(&lines));
         }
-        parting_in(alloc, &lines)
+        last_error(alloc, &lines)
     }
 
     /// The last parameter of the last line that refuses this, among what was read last.
@@ -142,6 +131,15 @@ impl<I: Read> Recalling<I> {
             return refusal(alloc, about, without_first(&lines));
         }
         refusal(alloc, about, &lines)
+    }
+
+    /// What was read last says why the network does not let us in, as the text of
+    /// `:s 465 ann :You are banned`.
+    pub fn no_entry(&self, alloc: Global) -> Result<Option<Vec<u8>>, OutOfMemory>
+        ensures { IfOk result (λ text. option_map (λ t. t.items) text
+            ≡ option_and_then no_entry (recalled self.now)) }
+    {
+        self.refusal_of(alloc, About::Entry)
     }
 
     /// What was read last says why the network does not log us in to our account, as the text of

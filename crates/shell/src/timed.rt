@@ -9,13 +9,13 @@ use std::io::{ErrorKind, Read};
 use std::rt::Clock;
 use std::time::{Duration, Instant};
 
-/// What is done where nothing came for a while.
+/// What is done if nothing came for a while.
 pub trait OnSilence {
     /// Does it.
     fn silent(&mut self);
 }
 
-/// A reader that does something where its input is silent, and fails where it stays so. How long a
+/// A reader that does something if its input is silent, and fails if it stays so. How long a
 /// silence is, is the input's own limit to a read.
 #[derive(Drop)]
 pub struct Patient<I, S> {
@@ -25,7 +25,7 @@ pub struct Patient<I, S> {
 }
 
 impl<I: Read, S: OnSilence> Patient<I, S> {
-    /// A reader that fails at the last of so many silences in succession, and does something at
+    /// A reader that fails at the last of this many silences in succession, and does something at
     /// each before it.
     pub fn new(input: I, on_silence: S, silences: u32) -> Patient<I, S>
         ensures { patient_input result ≡ input }

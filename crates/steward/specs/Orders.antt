@@ -75,8 +75,8 @@ IsBegunAnew answer.Nothing number bytes old new = (is_some old.stop ≡ true × 
     (count_by (has_number number) old.fleet.networks.items ≡ 0)
 IsBegunAnew _ number bytes old new = ⊥
 
--- the networks served are those of these settings, each name once; those that were there stand first,
--- each as the settings have it, and networks rest as these say; after a stop nothing changes
+-- the networks served are those of these settings, each name once; those that were there come
+-- first, each as the settings have it, and networks rest as these say; after a stop nothing changes
 abbrev pub IsReloaded : Answer → List Wanted → Times → ℕ → Steward → Steward → Type 0
 IsReloaded answer.Reloaded list times now old new = (old.stop ≡ None) × (old.settings < new.settings) ×
     (new.read_at ≡ now) × (new.fleet.times ≡ times) ×

@@ -11,7 +11,7 @@ use Rattle.steward.specs.declared.steward.Steward.{Steward}
 use Rattle.steward.specs.Clients.{is_seated_as, open_as, sessions, waiting}
 use Rattle.steward.specs.Networks.{is_served_as, served}
 
--- no network is served under the name, or the one that is has as many sessions as it may have
+-- no network is served under the name, or the one that is has reached its limit of sessions
 abbrev pub IsReason : Why → ℕ → Steward → Type 0
 IsReason why.NotServed name old = served name old.fleet.networks.items ≡ 0
 IsReason why.Full name old = Any (λ x. (is_served_as name x ≡ true) ×
@@ -34,8 +34,8 @@ IsRightFor answer.Nothing number name old = (is_some old.stop ≡ true) ⊎
     (count_by (is_seated_as number) old.door.clients.items ≡ 0)
 IsRightFor _ number name old = ⊥
 
--- the login of this number, which is wrong, waits for its answer, or is closed without one if as many
--- wait as may; nothing is done only if its seat is gone
+-- the login of this number, which is wrong, waits for its answer, or is closed without one if the
+-- limit of those that wait is reached; nothing is done only if its seat is gone
 abbrev pub IsWrongFor : Answer → ℕ → Steward → Type 0
 IsWrongFor (answer.AnswerAt client time) number old = client ≡ number
 IsWrongFor (answer.Drop client) number old = (client ≡ number) ×

@@ -12,7 +12,7 @@ use Rattle.upstream.specs.Registration.{is_welcome, join_lines, login_or, needs_
 use Rattle.upstream.specs.Registration.{sends, welcomes}
 use Rattle.upstream.specs.declared.registration.RegisterFault.{RegisterFault}
 
--- a welcome is the answer only where no login is needed
+-- a welcome is the answer only if no login is needed
 welcome_needs : (ended w needs : Bool) (joins lines replies : List Parts)
     (f : Option RegisterFault) (a : login.Answer)
     → (if ended then sends [] else if w then if needs then welcomes joins

@@ -19,7 +19,7 @@ begins_none u a = ([], a, Appends-nil u, refl)
 pub begins_all : (u v : Option (List ℕ)) (a : List ℕ) → Appends u v a → Begins u v a
 begins_all u v a x = (a, [], x, sym (append-nil a))
 
--- a beginning of what stands behind that which was sent
+-- a beginning of what comes after that which was sent
 begins_more : (u v w : Option (List ℕ)) (a b : List ℕ) → Appends u v a → Begins v w b
     → Begins u w (a ++ b)
 begins_more u v w a b x y = (a ++ y.0, y.1, Appends-trans u v w a y.0 x y.2, rw (y.3, append_assoc))
@@ -32,7 +32,7 @@ begins_longer u v a b x = (x.0, x.1 ++ b, x.2, rw (x.3, append_assoc))
 pub begins_kept : (u v w : Option (List ℕ)) (a : List ℕ) → Begins u v a → Keeps v w → Begins u w a
 begins_kept u v w a x y = (x.0, x.1, Appends-kept u v w x.0 x.2 y, x.3)
 
--- where the lines go on, behind those that were answered
+-- where the lines go on, after those that were answered
 pub begun_in : (network : NetworkSettings) (before done rest lines : List Parts)
     (u v w : Option (List ℕ)) → lines ≡ done ++ rest
     → Appends u v (bytes_of (sent_for network before done))
@@ -41,7 +41,7 @@ pub begun_in : (network : NetworkSettings) (before done rest lines : List Parts)
 begun_in network before done rest lines u v w is first next =
     rw (sent_bytes network before done rest lines is) (begins_more u v w _ _ first next)
 
--- of the line at a place, behind those that were answered
+-- of the line at a place, after those that were answered
 pub begun_line : (network : NetworkSettings) (before lines : List Parts) (i : ℕ) (line : Parts)
     (u v w : Option (List ℕ)) → i < length lines → line ≡ get_or lines i line
     → Appends u v (bytes_of (sent_for network before (take i lines)))
@@ -70,7 +70,7 @@ pub begun_first : (network : NetworkSettings) (lines : List Parts) (u v : Option
 begun_first network lines u v first =
     rw (bytes_more (first_lines network)) (begins_longer u v _ _ first)
 
--- so many of some bytes were written
+-- this many of some bytes were written
 pub begun_part : (bytes : List ℕ) (done : ℕ) (u v : Option (List ℕ))
     → Appends u v (take done bytes) → Begins u v bytes
 begun_part bytes done u v x =

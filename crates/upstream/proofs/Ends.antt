@@ -51,7 +51,7 @@ ended_more network before line =
     rw (list_any-append (λ x. is_final (heard network x)) before (line ∷ []))
     (rw (failed_more network before line, tries_more network before line, length_push before line))
 
--- what a line says, behind so many lines and tries
+-- what a line says, after this many lines and tries
 step_at : (network : NetworkSettings) (final lost : Bool) (before reply : List Parts) (w : Answer) (a : login.Answer) (s : Said)
     → is_end w ≡ true
     → ((final || (is_final s || false)) || ((lost || is_failed a)
@@ -71,7 +71,7 @@ welcome_ends : (network : NetworkSettings) (before : List Parts)
 welcome_ends network before =
     end_of_choice (needs_no_login network.sasl before) fault.SaslFailed (join_lines network)
 
--- it has ended after one more line where it had ended, or this line's answer is its end
+-- it has ended after one more line if it had ended, or this line's answer is its end
 pub ended_step : (network : NetworkSettings) (before : List Parts) (line : Parts)
     → has_ended network (before ++ line ∷ [])
     ≡ (has_ended network before || is_end (answer_to network before line))
@@ -103,7 +103,7 @@ nothing_more network before line ends after next =
     let all = ended_for_good network (before ++ line ∷ []) after ended in
     rw (rw (append_assoc before (line ∷ []) after) at all)
 
--- ---- one more line where it has not ended, by what it says
+-- ---- one more line if it has not ended, by what it says
 
 no_welcome : (s : Said) → (s ≡ says.Welcome → ⊥) → is_welcome s ≡ false
 no_welcome s h = grind arith
@@ -143,7 +143,7 @@ module _ (network : NetworkSettings) (before : List Parts) (line : Parts) (s : S
           → has_ended network (before ++ line ∷ []) ≡ false
       goes_on lines sent = ended_step network before line ∙ rw (answer_is, going, sent)
 
--- there is a login where one is wanted
+-- there is a login if one is wanted
 pub login_is_wanted : (account : Option SaslSettings) (lines : List Parts)
     (known : Option AccountLogin) → IsLoginAt account lines known → is_some known ≡ is_some account
 login_is_wanted None lines None h = refl
@@ -155,7 +155,7 @@ pub none_wanted : (known : Option AccountLogin) (b : Bool) → is_some known ≡
     → is_some known ≡ false
 none_wanted known b none is = none ∙ rw is
 
--- where it has ended, it knows so
+-- if it has ended, it knows so
 pub taken_over : (network : NetworkSettings) (lines : List Parts) (register : Progress)
     → register.is_over ≡ true → has_ended network lines ≡ true → HasTaken network lines register
 taken_over network lines register over ended =

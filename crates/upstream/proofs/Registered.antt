@@ -26,7 +26,7 @@ cause_behind network before lines (Register f) h =
     (before ++ h.0, h.1, h.2, rw (append_assoc, ← h.3), h.4)
 cause_behind network before lines _ h = absurd h
 
--- what is said of lines at each network, behind others that were taken
+-- what is said of lines at each network, after others that were taken
 abbrev Of : Progress → (NetworkSettings → List Parts → Type 0) → Type 0
 Of old P = (network : NetworkSettings) (before : List Parts) → HasTaken network before old
     → has_ended network before ≡ false → P network before
@@ -77,7 +77,7 @@ module _ (first : Progress) (u v w : Option (List ℕ)) (old : Progress) (before
 
 -- ---- to the end
 
--- what is known of the bytes up to the welcome, where these lines are sent for lines
+-- what is known of the bytes up to the welcome, if these lines are sent for lines
 abbrev pub WasWelcomed : (List Parts → List Parts) → NetworkSettings → Option (List ℕ)
     → Option (List ℕ) → Option (List ℕ) → Option (List ℕ) → List Parts → Pending → Type 0
 WasWelcomed sent network u w was now lines t =
@@ -139,7 +139,7 @@ module _ (N : Type 0) (u w was now : Option (List ℕ)) (first login : Progress)
       let at = h network taken in
       (bytes, read, (short, at.going), begins_all was now _ at.sent)
 
-  -- behind the bytes whose lines were answered stands a piece that was refused
+  -- after the bytes whose lines were answered comes a piece that was refused
   at_piece : (bytes piece : List ℕ) (f : DialFault) → Consumes u w (bytes ++ piece)
       → ((network : NetworkSettings) → IsCauseOf network (bytes ++ piece) f)
       → GoesOn first was now login (lines_of bytes) → Known first (Outcome u w was now t (Err f))

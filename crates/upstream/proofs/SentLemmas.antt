@@ -51,7 +51,7 @@ welcome_is network before line lines is =
     (fault_of network before (heard network line))
     (answer_of_login network.sasl before line) is
 
--- ---- the line at a place of some lines, behind those that were taken
+-- ---- the line at a place of some lines, after those that were taken
 
 module _ (network : NetworkSettings) (before lines : List Parts) (i : ℕ) (line : Parts)
     (within : i < length lines) (is : line ≡ get_or lines i line) where

@@ -1,4 +1,4 @@
--- What the settings hold can stand in a line.
+-- What the settings hold can be in a line.
 use Rattle.bnc_config.specs.Text as text
 use Rattle.irc_line.specs.{Line.{Parts, is_command, is_line_byte, is_space}, Writing.is_clean}
 use Rattle.irc_line.specs.Writing.{is_part, is_word, is_writable}
@@ -10,7 +10,7 @@ use Rattle.std.proofs.lemmas.List.{Folds.list_all-append, Sums.AllPass-from_list
 use Rattle.std.{proofs.lemmas.List.take-replicate, specs.List.{list_all, list_any}}
 use Rattle.{std.specs.Prelude.replicate, upstream.specs.Registration.{command, marked, pong_line}}
 
--- where no byte is barred, each passes what the bars leave
+-- if no byte is barred, each passes what the bars leave
 all_pass : (bars test : ℕ → Bool) → ((b : ℕ) → bars b ≡ false → test b ≡ true) → (bytes : List ℕ)
     → list_any bars bytes ≡ false → list_all test bytes ≡ true
 all_pass bars test each [] h = refl
@@ -90,7 +90,7 @@ keyed_is_writable channel key word clean =
       word_is_clean key (and_parts (text.is_word key) _ clean).0,
     )
 
--- PONG can be written where the PING can
+-- PONG can be written if the PING can
 pub pong_is_writable : (ping : Parts) → is_writable ping ≡ true
     → is_writable (pong_line ping) ≡ true
 pong_is_writable ping h =

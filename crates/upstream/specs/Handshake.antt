@@ -29,7 +29,7 @@ lines_in (sends lines) = lines
 lines_in (welcomes lines) = lines
 lines_in (fails f) = []
 
--- the lines that are sent for these lines, behind others
+-- the lines that are sent for these lines, after others
 abbrev pub sent_for : NetworkSettings → List Parts → List Parts → List Parts
 sent_for network before [] = []
 sent_for network before (line ∷ lines) =
@@ -39,7 +39,7 @@ sent_for network before (line ∷ lines) =
 abbrev pub all_sent : NetworkSettings → List Parts → List Parts
 all_sent network lines = first_lines network ++ sent_for network [] lines
 
--- the welcome stands behind these lines, before the others
+-- the welcome comes after these lines, before the others
 pub record IsWelcomed (network : NetworkSettings) (lines before : List Parts) (welcome : Parts)
     (after : List Parts) : Type 0 where
   pub whole : lines ≡ before ++ welcome ∷ after
@@ -51,7 +51,7 @@ HasFault network lines fault =
     (before : List Parts) × (line : Parts) × (after : List Parts)
     × (lines ≡ before ++ line ∷ after) × (answer_to network before line ≡ fault)
 
--- why it fails where these bytes were read: a line that is too long, or a fault of the
+-- why it fails if these bytes were read: a line that is too long, or a fault of the
 -- registration, or the input ended, or could not be read, before there was an end
 abbrev pub IsCauseOf : NetworkSettings → List ℕ → DialFault → Type 0
 IsCauseOf network bytes Memory = Unit {0}
@@ -82,7 +82,7 @@ abbrev pub IsEndedBy : NetworkSettings → Answer → Bool → Type 0
 IsEndedBy network answer true = answer ≡ welcomes (join_lines network)
 IsEndedBy network answer false = is_end answer ≡ false
 
--- the welcome stands at this place of some lines, behind others
+-- the welcome is at this place of some lines, after others
 abbrev pub IsWelcomeAt : NetworkSettings → List Parts → List Parts → ℕ → Type 0
 IsWelcomeAt network before lines place =
     (welcome : Parts) × (place < length lines)
@@ -96,7 +96,7 @@ outcome_of input.TooLong = Err TooLong
 outcome_of input.OutOfMemory = Err Memory
 outcome_of _ = Err Read
 
--- where a registration stands that has taken these lines, answered each, and goes on
+-- the state of a registration that has taken these lines, answered each, and goes on
 pub record IsGoing (network : NetworkSettings) (was now : Option (List ℕ)) (register : Progress)
     (lines : List Parts) : Type 0 where
   pub taken : HasTaken network lines register

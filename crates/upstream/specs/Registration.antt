@@ -10,7 +10,9 @@ use Rattle.std.specs.List.{join_by, list_any, slice_split}
 use Rattle.std.specs.Str.{bytes_eq}
 use Rattle.irc_line.specs.Line.{Parts}
 use Rattle.irc_line.specs.Writing.{untagged_line}
-use Rattle.bnc_config.specs.Settings.{ChannelKey, NetworkSettings, SaslSettings, key_for}
+use Rattle.bnc_config.specs.Settings.{ChannelKey, NetworkSettings, SaslSettings, key_by}
+use Rattle.irc_names.specs.declared.case_mapping.CaseMapping.{CaseMapping}
+use Rattle.irc_names.specs.declared.case_mapping.CaseMapping.TheVariants.{Ascii}
 use Rattle.sasl.specs.Login as login
 use Rattle.sasl.specs.Offer as sasl_offer
 use Rattle.sasl.specs.Response.{mechanism_of}
@@ -49,14 +51,14 @@ first_lines network =
     command (codes "CAP") (codes "LS" ∷ codes "302" ∷ [])
     ∷ (pass_lines network.password ++ (nick_line network.nick ∷ user_line network ∷ []))
 
--- the nick with so many marks behind it
+-- the nick with this many marks after it
 abbrev pub marked : List ℕ → ℕ → List ℕ
 marked nick marks = nick ++ replicate marks 95
 
 abbrev pub cap_end : Parts
 cap_end = command (codes "CAP") (codes "END" ∷ [])
 
--- the request for these capabilities, in one parameter; where there are none, the negotiation ends
+-- the request for these capabilities, in one parameter; if there are none, the negotiation ends
 abbrev pub request_of : List (List ℕ) → Parts
 request_of [] = cap_end
 request_of (name ∷ names) =
@@ -70,13 +72,18 @@ abbrev pub key_params : Option (List ℕ) → List (List ℕ)
 key_params None = []
 key_params (Some key) = key ∷ []
 
--- a channel is joined with its key, if the settings have one (RFC 2812, section 3.2.1)
-abbrev pub join_line : List ChannelKey → List ℕ → Parts
-join_line keys channel = command (codes "JOIN") (channel ∷ key_params (key_for keys channel))
+-- a channel is joined with its key under a mapping, if the settings have one (RFC 2812, section 3.2.1)
+abbrev pub join_line : CaseMapping → List ChannelKey → List ℕ → Parts
+join_line mapping keys channel =
+    command (codes "JOIN") (channel ∷ key_params (key_by mapping keys channel))
 
 -- a line for each channel, in the order of the settings
+abbrev pub channel_lines_by : CaseMapping → NetworkSettings → List Parts
+channel_lines_by mapping network = map (join_line mapping network.options.keys) network.join
+
+-- the same before the network has said which mapping it has
 abbrev pub channel_lines : NetworkSettings → List Parts
-channel_lines network = map (join_line network.options.keys) network.join
+channel_lines = channel_lines_by Ascii
 
 -- what is sent once we are in: if the settings have lines to be sent before the channels are joined,
 -- nothing
@@ -97,7 +104,7 @@ is_list says.List = true
 is_list says.LastList = true
 is_list _ = false
 
--- what stands in a word before its first `=`, else the word
+-- the text of a word before its first `=`, else the word
 abbrev pub before_value : List ℕ → List ℕ
 before_value word = take (unwrap_or (position (λ b. b == 61) word) (length word)) word
 
@@ -125,7 +132,7 @@ offered_by lines = record {
   server_time = is_offered lines (codes "server-time");
 }
 
--- a name, where it was offered
+-- a name, if it was offered
 abbrev pub named : Bool → List ℕ → List (List ℕ)
 named true name = name ∷ []
 named false name = []
@@ -139,7 +146,7 @@ names_of offered =
     ++ (named offered.away_notify (codes "away-notify")
     ++ named offered.server_time (codes "server-time"))))
 
--- ---- the login to an account, where the settings have one
+-- ---- the login to an account, if the settings have one
 
 -- the line has a list that offers a login by the account's mechanism
 abbrev pub offers_login : SaslSettings → Parts → Bool
@@ -153,7 +160,7 @@ abbrev pub is_last_list : Said → Bool
 is_last_list says.LastList = true
 is_last_list _ = false
 
--- what a login does for a line behind these: it fails if the last list has come and none offered it
+-- what a login does for a line after these: it fails if the last list has come and none offered it
 -- (IRCv3 sasl 3.1, 3.2); else as `sasl` has it
 abbrev pub account_answer : SaslSettings → List Parts → Parts → login.Answer
 account_answer account before line =
@@ -164,7 +171,7 @@ abbrev pub answer_of_login : Option SaslSettings → List Parts → Parts → lo
 answer_of_login None before line = login.nothing
 answer_of_login (Some account) before line = account_answer account before line
 
--- the login failed at one of the lines, behind those before it
+-- the login failed at one of the lines, after those before it
 abbrev pub fails_behind : Option SaslSettings → List Parts → List Parts → Bool
 fails_behind account before [] = false
 fails_behind account before (line ∷ lines) =
@@ -221,7 +228,7 @@ pub data Answer : Type 0 where
 abbrev pub fault_by_count : List Parts → Option RegisterFault
 fault_by_count before = if length before == 9999 then Some fault.NoWelcome else None
 
--- the fault that a line which says this is, behind lines that have not ended the registration
+-- the fault that a line which says this is, after lines that have not ended the registration
 abbrev pub fault_of : NetworkSettings → List Parts → Said → Option RegisterFault
 fault_of network before says.Welcome = None
 fault_of network before says.BadNick = Some fault.BadNick
@@ -230,7 +237,7 @@ fault_of network before says.NickInUse =
     if tries_in network before == 3 then Some fault.NickInUse else fault_by_count before
 fault_of network before _ = fault_by_count before
 
--- what is sent for a line which says this, behind lines that have not ended the registration, if the
+-- what is sent for a line which says this, after lines that have not ended the registration, if the
 -- login sends nothing for it; with a login the negotiation of capabilities ends by the login
 abbrev pub reply_to : NetworkSettings → List Parts → Parts → Said → List Parts
 reply_to network before line says.LastList =
@@ -261,7 +268,7 @@ answer_to_welcome network before =
     if needs_no_login network.sasl before then welcomes (join_lines network)
     else fails fault.SaslFailed
 
--- the answer to a line behind these lines: nothing once it has ended
+-- the answer to a line after these lines: nothing once it has ended
 abbrev pub answer_to : NetworkSettings → List Parts → Parts → Answer
 answer_to network before line =
     if has_ended network before then sends [] else

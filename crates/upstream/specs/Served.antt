@@ -32,7 +32,7 @@ pub record IsRegistered (network : NetworkSettings) (began left was now : Option
   pub sent : Appends was now (bytes_of (all_sent network (before ++ welcome ∷ [])))
 
 -- A connection was read to its end: these lines were put first, at one moment, and then what was
--- read behind them, and one loss.
+-- read after them, and one loss.
 pub record IsRead (was now : List Came) (lines : List Parts) (splitter : Pending)
     (began left : Option (List ℕ)) (ended : ReadEnd) : Type 0 where
   pub moment : ℕ
@@ -40,7 +40,7 @@ pub record IsRead (was now : List Came) (lines : List Parts) (splitter : Pending
 
 module _ {I W : Type 0} (remaining : I → Option (List ℕ)) (contents : W → Option (List ℕ))
     (network : NetworkSettings) (stream : Duplex I W) (link : Link) where
-  -- A connection was served to its end: its network took us in, its lines were put, and behind what
+  -- A connection was served to its end: its network took us in, its lines were put, and after what
   -- the keeper sent, the packets of the hub's outlet were written.
   pub record WasReadAndWritten (s : Served I W) (ended : ReadEnd) : Type 0 where
     pub left : Option (List ℕ)

@@ -1,4 +1,4 @@
--- Where a registration stands after a list of lines.
+-- The state of a registration after a list of lines.
 use Rattle.std.specs.Prelude.{◌≡◌, false, List, Option, Some, None, is_some, length}
 use Rattle.irc_line.specs.Line.{Parts}
 use Rattle.bnc_config.specs.Settings.{NetworkSettings, SaslSettings}

@@ -67,7 +67,7 @@ impl AccountLogin {
         }
     }
 
-    /// Takes a line of the network, which says this, and tells what the login does for it. After an
+    /// Takes a line of the network, which says this, and says what the login does for it. After an
     /// allocation that failed it is as it was.
     pub fn line(&mut self, says: Said, line: &Line) -> Result<LoginStep, OutOfMemory>
         requires { says ≡ said line.now }

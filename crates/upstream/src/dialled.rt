@@ -28,7 +28,7 @@ pub struct Duplex<R, W> {
     pub writer: W,
 }
 
-/// A stream to a network of which nothing was read, and to which nothing was sent.
+/// A stream to a network: nothing was read of it, and nothing was sent to it.
 #[derive(Drop)]
 pub struct Dialled<R, W> {
     stream: Duplex<R, W>,
@@ -49,14 +49,14 @@ pub struct Live<R, W> {
 }
 
 impl<R: Read, W: Write> Dialled<R, W> {
-    /// A stream of which nothing was read, and to which nothing was sent.
+    /// A stream: nothing was read of it, and nothing was sent to it.
     pub fn new(stream: Duplex<R, W>) -> Dialled<R, W>
         ensures { dialled_stream result ≡ stream }
     {
         Dialled { stream }
     }
 
-    /// Sends the first lines of a registration, in one write: `CAP LS 302`, PASS where the settings
+    /// Sends the first lines of a registration, in one write: `CAP LS 302`, PASS if the settings
     /// have a password, NICK and USER. After a fault, which is `Memory` or `Write`, the stream is
     /// handed back: nothing was read of it, and a beginning of the lines was sent.
     pub fn begin(

@@ -104,7 +104,7 @@ fn take_line<W: Write>(
     }
 }
 
-/// Takes lines, in order, up to the welcome; answers its place, from 0, where it is among them.
+/// Takes lines, in order, up to the welcome; answers its place, from 0, if it is among them.
 fn take_lines<W: Write>(
     alloc: Global,
     register: &mut Register,

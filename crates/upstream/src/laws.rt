@@ -9,8 +9,8 @@ ghost use Rattle.upstream.specs.Registration.{welcomes};
 ghost use Rattle.upstream.specs.Said.{said};
 ghost use Rattle.upstream.specs.declared.said.Said.TheVariants as says;
 
-/// A registration has ended after one more line exactly where it had ended before or this line's
-/// answer is its end; and what follows its end is answered by nothing.
+/// A registration has ended after one more line exactly if it had ended before or this line's
+/// answer is its end; and what follows its end has no answer.
 pub fn a_registration_ends_once()
     ensures begins { (network : NetworkSettings) → has_ended network [] ≡ false }
     ensures step { (network : NetworkSettings) (before : List Parts) (line : Parts) →

@@ -19,6 +19,6 @@ pub use handshake::{DialFault, Welcomed, register};
 pub use keeper::Keeper;
 pub use link::Link;
 pub use registration::{Register, RegisterFault, Step};
-pub use sending::channel_lines;
+pub use sending::{channel_lines, channel_lines_by};
 pub use serving::{NetworkEnd, Served, serve_network, serve_network_as};
 pub use std::alloc::AllocError as OutOfMemory;

@@ -46,7 +46,7 @@ fn has_word_for(name: &[u8], list: &[u8]) -> bool
     is_word_for(name, rest)
 }
 
-/// Adds the name of a capability, where it was offered.
+/// Adds the name of a capability, if it was offered.
 fn push_offered<'a>(
     names: &mut Vec<&'a str>,
     name: &'a str,

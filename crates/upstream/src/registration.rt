@@ -131,7 +131,7 @@ fn lines_of(step: LoginStep, reply: Vec<Line>) -> Option<Vec<Line>>
 }
 
 impl Register {
-    /// A registration, and the lines that it sends first: `CAP LS 302`, PASS where the settings
+    /// A registration, and the lines that it sends first: `CAP LS 302`, PASS if the settings
     /// have a password, NICK and USER.
     pub fn start(
         alloc: Global,
@@ -199,7 +199,7 @@ impl Register {
         }
     }
 
-    /// What is sent for a line, where it does not end the registration and the login sends nothing
+    /// What is sent for a line, if it does not end the registration and the login sends nothing
     /// for it; `offered` is with those of the line.
     fn reply_to(&self, says: Said, line: &Line, offered: Offered) -> Result<Vec<Line>, OutOfMemory>
         requires { says ≡ Said.NickInUse → self.now.tries < 3 }
@@ -255,7 +255,7 @@ impl Register {
         }
     }
 
-    /// Takes a line of the network, and tells what follows from it; once it has ended, that nothing
+    /// Takes a line of the network, and says what follows from it; once it has ended, that nothing
     /// is to be sent. Of the capabilities that a network offers, `multi-prefix`, `extended-join`,
     /// `account-notify`, `away-notify` and `server-time` are asked for, and `sasl` if the settings
     /// have an account. After a refused allocation the registration is as it was.

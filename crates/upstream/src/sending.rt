@@ -5,13 +5,14 @@ ghost use Rattle.std.specs.List.{list_all};
 ghost use Rattle.irc_line.specs.Writing.{is_clean, is_writable};
 ghost use Rattle.irc_names.specs.Nick.{is_nameable};
 ghost use Rattle.bnc_config.specs.Text.{is_word};
-ghost use Rattle.upstream.specs.Registration.{asked_as, cap_end, channel_lines, command, first_lines};
-ghost use Rattle.upstream.specs.Registration.{join_line, join_lines, marked, nick_line, pong_line};
-ghost use Rattle.upstream.specs.Registration.{request_of, user_line};
+ghost use Rattle.upstream.specs.Registration.{asked_as, cap_end, channel_lines, channel_lines_by};
+ghost use Rattle.upstream.specs.Registration.{command, first_lines, join_line, join_lines, marked};
+ghost use Rattle.upstream.specs.Registration.{nick_line, pong_line, request_of, user_line};
 
 use crate::OutOfMemory;
 use bnc_config::NetworkConfig;
 use irc_line::Line;
+use irc_names::CaseMapping;
 use std::alloc::Global;
 
 /// A line of ours, without a source.
@@ -56,7 +57,7 @@ fn user_line(alloc: Global, network: &NetworkConfig) -> Result<Line, OutOfMemory
     command(alloc, b"USER", &params)
 }
 
-/// What is sent before a line has come: `CAP LS 302`, PASS where there is a password, NICK with this
+/// What is sent before a line has come: `CAP LS 302`, PASS if there is a password, NICK with this
 /// nick and USER.
 pub(crate) fn first_lines(
     alloc: Global,
@@ -76,12 +77,19 @@ pub(crate) fn first_lines(
     Ok(lines)
 }
 
-/// `JOIN channel`, with the channel's key if the settings have one (RFC 2812, section 3.2.1).
-fn join_line(alloc: Global, network: &NetworkConfig, channel: &[u8]) -> Result<Line, OutOfMemory>
+/// `JOIN channel`, with the channel's key under a mapping, if the settings have one (RFC 2812, section
+/// 3.2.1).
+fn join_line(
+    alloc: Global,
+    network: &NetworkConfig,
+    mapping: CaseMapping,
+    channel: &[u8],
+) -> Result<Line, OutOfMemory>
     requires { IsTrue (is_word channel.now) }
-    ensures { IfOk result (λ line. line ≡ join_line network.now.options.keys channel.now) }
+    ensures { IfOk result (λ line.
+        line ≡ join_line mapping network.now.options.keys channel.now) }
 {
-    match network.key_of(channel) {
+    match network.key_by(mapping, channel) {
         Some(key) => command(alloc, b"JOIN", &[channel, key]),
         None => command(alloc, b"JOIN", &[channel]),
     }
@@ -97,10 +105,22 @@ fn join_line(alloc: Global, network: &NetworkConfig, channel: &[u8]) -> Result<L
 pub fn channel_lines(alloc: Global, network: &NetworkConfig) -> Result<Vec<Line>, OutOfMemory>
     ensures { IfOk result (λ lines. lines.items ≡ channel_lines network.now) }
 {
+    channel_lines_by(alloc, network, CaseMapping::Ascii)
+}
+
+/// The same once the network's CASEMAPPING is known: a key is for the channel that has its name under
+/// this mapping.
+pub fn channel_lines_by(
+    alloc: Global,
+    network: &NetworkConfig,
+    mapping: CaseMapping,
+) -> Result<Vec<Line>, OutOfMemory>
+    ensures { IfOk result (λ lines. lines.items ≡ channel_lines_by mapping network.now) }
+{
     let channels = network.join();
     let mut lines = Vec::with_capacity(alloc, channels.len())?;
     for channel in channels {
-        lines.push(join_line(alloc, network, channel.as_bytes())?)?;
+        lines.push(join_line(alloc, network, mapping, channel.as_bytes())?)?;
     }
     Ok(lines)
 }
@@ -124,7 +144,7 @@ pub(crate) fn cap_end(alloc: Global) -> Result<Line, OutOfMemory>
     command(alloc, b"CAP", &[b"END"])
 }
 
-/// `CAP REQ :names`, or `CAP END` where there are none.
+/// `CAP REQ :names`, or `CAP END` if there are none.
 pub(crate) fn request_line(alloc: Global, names: &[&str]) -> Result<Line, OutOfMemory>
     requires { IsTrue (list_all is_clean (map (λ name. name.now) names.now)) }
     ensures { IfOk result (λ line. line ≡ request_of (map (λ name. name.now) names.now)) }

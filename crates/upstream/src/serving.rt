@@ -48,7 +48,7 @@ pub struct Served<I, W: Write> {
 }
 
 impl<I, W: Write> Served<I, W> {
-    /// A connection of which the hub got nothing.
+    /// A connection that gave the hub nothing.
     fn unread(end: NetworkEnd, link: Link, stream: Duplex<I, W>) -> Served<I, W>
         ensures { (result.end ≡ end) × (result.link ≡ link) × (result.stream ≡ stream) }
     {

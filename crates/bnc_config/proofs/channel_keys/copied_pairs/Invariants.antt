@@ -1,5 +1,6 @@
 use Rattle.bnc_config.proofs.channel_keys.copied_pairs.Given as goal
-use Rattle.bnc_config.specs.Document.{all_members, is_text_where, pairs_of}
+use Rattle.bnc_config.specs.Allowed.{all_members, is_text_where}
+use Rattle.bnc_config.specs.Document.{pairs_of}
 use Rattle.bnc_config.specs.Text.{is_channel_key}
 use Rattle.std.proofs.Common.{◌++◌, ◌≡◌}
 use Rattle.toml.specs.View.{members_view, table_view}

@@ -1,5 +1,6 @@
 use Rattle.bnc_config.proofs.lists.copied_texts.Given as goal
-use Rattle.bnc_config.specs.Document.{all_items, allows_text, is_text_where, texts_of}
+use Rattle.bnc_config.specs.Allowed.{all_items, allows_text, is_text_where}
+use Rattle.bnc_config.specs.Document.{texts_of}
 use Rattle.{std.proofs.Common.{drop, ◌++◌, ◌≡◌}, toml.specs.View.items_view}
 
 abbrev pub invariant-loop-value : goal.invariant-loop-value

@@ -1,5 +1,5 @@
 use Rattle.upstream.proofs.Writable.{channel_is_word}
-use Rattle.upstream.proofs.sending.channel_lines.Goals as goal
+use Rattle.upstream.proofs.sending.channel_lines_by.Goals as goal
 
 pub join_line-requires : goal.join_line-requires
 join_line-requires c =
