@@ -67,6 +67,7 @@ pub fn limits(accepts: u64, dials: u64) -> Limits {
         spare: 1_024,
         packets: 256,
         unwritten: Duration::from_millis(20),
+        receipt: Duration::from_secs(5),
     }
 }
 

@@ -1,4 +1,4 @@
-//! A disk in memory for the tests of all crates, of which something may be wrong.
+//! A disk in memory for the tests of all crates, which may have a fault.
 #![tactic(auto)]
 
 mod small_disk;

@@ -1,4 +1,4 @@
-//! A small disk in memory, of which something may be wrong.
+//! A small disk in memory, which may have a fault.
 
 use journal_files::{Appending, Disk, Lock, Outcome};
 use std::alloc::Global;

@@ -12,6 +12,8 @@ const FILE: &str = "# Settings of bnc: docs/SETTINGS.md has each key.
 listen = \"127.0.0.1:6667\"
 history = 500
 retry = 30
+# what is kept over a restart, in a folder beside this file
+#kept = \"kept\"
 
 [[user]]
 name = \"ann\\\\\"
@@ -32,10 +34,15 @@ ctcp = false
 server_notices = false
 to_self = false
 never = [\"NickServ\", \"ChanServ\"]
+# who talks much pushes out nobody else
+by_person = true
 
-# private messages come person by person, for clients that know batches
+# private messages come person by person to clients that know batches, and with their times in the text to clients
+# that know none; a client that attaches just after a reconnect waits for the channels, at most 10 seconds
 [playback]
 private_batches = true
+times = \"UTC\"
+wait = 10
 ";
 
 #[test]

@@ -150,7 +150,7 @@ nicks = []
 away = true
 ";
 
-/// The texts of some, each with a space behind.
+/// The texts of some, each with a space after it.
 fn spaced(alloc: Global, texts: &[Text]) -> Result<String, Fail> {
     let mut out = String::new(alloc);
     for text in texts {

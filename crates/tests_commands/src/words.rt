@@ -1,7 +1,7 @@
 //! What the words of the command line are read as.
 
 use client_caps::{Caps, read_request};
-use commands::{Command, explain_words, read_words};
+use commands::{Command, explain_caps, explain_words, read_words};
 use std::process::Abort;
 use std::test::Fail;
 
@@ -152,4 +152,37 @@ fn check_good_words<R: AllocGlobal + Abort>(rt: &R, rows: &[&[&str]]) {
 #[test]
 fn nothing_is_wrong_with_good_words(rt: HostRuntime) {
     check_good_words(&rt, &GOOD_WORDS);
+}
+
+/// Words that have no unknown capability, or that are at fault in another way.
+static KNOWN_CAPS: [&[&str]; 5] = [
+    &["attach", "--caps", "batch,-batch, server-time"],
+    &["attach", "--caps", ",,"],
+    &["attach"],
+    &["attach", "--caps"],
+    &["check", "sasl"],
+];
+
+/// Words, and the name that no capability has.
+static UNKNOWN_CAPS: [(&[&str], &str); 3] = [
+    (&["attach", "--caps", "sasl"], "sasl"),
+    (&["attach", "--caps", "batch,-x,y"], "x"),
+    (&["attach", "--history=1", "--caps=Batch"], "Batch"),
+];
+
+#[test]
+fn which_capability_is_unknown(rt: HostRuntime) -> Result<(), Fail> {
+    let alloc = rt.alloc();
+    for words in KNOWN_CAPS {
+        assert!(rt; explain_caps(alloc, words)?.is_none());
+    }
+    for (words, name) in UNKNOWN_CAPS {
+        let want = format!(in alloc;
+            "error: unknown capability '{name}': there are multi-prefix, extended-join, \
+             account-notify, away-notify, server-time, batch"
+        )?;
+        let found = explain_caps(alloc, words)?;
+        assert!(rt; found.is_some_and(|text| text.as_str() == want.as_str()));
+    }
+    Ok(())
 }

@@ -13,6 +13,7 @@ pub(crate) mod replies;
 mod requests;
 pub(crate) mod scripts;
 mod state_parts;
+mod vanished;
 
 use crate::hub_rows::scripts::Story;
 use hub_core::Setup;

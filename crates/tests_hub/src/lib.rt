@@ -1,5 +1,6 @@
 //! Tests alone: scripts of events over a hub whose ends are in memory, late attach from both sides,
-//! a hub that goes on from what was before, and a hub's calls made again after an allocation failed.
+//! rings of persons, a hub that goes on from what was before, and a hub's calls made again after an
+//! allocation failed.
 #![tactic(auto)]
 
 #[cfg(test)]
@@ -8,5 +9,7 @@ mod hub_rows;
 mod late_attach;
 #[cfg(test)]
 mod once_refused;
+#[cfg(test)]
+mod persons;
 #[cfg(test)]
 mod restarts;

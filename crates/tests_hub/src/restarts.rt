@@ -56,7 +56,7 @@ fn past_of(alloc: Global, file: &[u8]) -> Result<Past, RecallError>
 /// Runs a script after a welcome and our own JOIN, from what was kept.
 fn runs(alloc: Global, script: &[&[u8]]) -> Result<Run<QuickView>, Fail> {
     let mut file = Vec::new(alloc);
-    push_header(&mut file)?;
+    push_header(&mut file, false)?;
     push_frame(&mut file, KEPT)?;
     let past = past_of(alloc, &file)?;
     let events = events_of(alloc, &WELCOME, script)?;
@@ -72,7 +72,7 @@ const ATTACHED: [&[u8]; 4] = [
     b"up :bob!b@h PRIVMSG #c :and now",
 ];
 
-/// The messages that each of the three is sent behind its burst.
+/// The messages that each of the three is sent after its burst.
 const MESSAGES: [(u64, &[&[u8]]); 3] = [
     (0, &[b":bob!b@h PRIVMSG #c :hi again"]),
     (

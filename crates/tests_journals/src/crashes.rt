@@ -33,7 +33,7 @@ fn opened<R: AllocGlobal + Abort>(rt: &R, disk: &SmallDisk) -> Result<(Journal, 
     ))
 }
 
-/// Writes `a`, and then `b` to a disk of which something is wrong.
+/// Writes `a`, and then `b` to a disk that has a fault.
 fn fails<R: AllocGlobal + Wait + Abort>(
     rt: &R,
     stage: &mut Stage<QuickView>,

@@ -6,6 +6,8 @@ mod crashes;
 #[cfg(test)]
 mod failing_disks;
 #[cfg(test)]
+mod long_file;
+#[cfg(test)]
 mod once_refused;
 #[cfg(test)]
 mod written;

@@ -26,7 +26,7 @@ const TORN: &[u8] = b"torn";
 /// A file of that batch.
 fn whole_file(alloc: Global) -> Result<Vec<u8>, Fail> {
     let mut file = Vec::new(alloc);
-    push_header(&mut file)?;
+    push_header(&mut file, false)?;
     push_frame(&mut file, BATCH)?;
     Ok(file)
 }
@@ -59,7 +59,7 @@ fn is_found<R: AllocGlobal + Abort>(
     }
 }
 
-/// Begins it, if need be again: nothing is cut before its damaged end stands beside it.
+/// Begins it, if need be again: nothing is cut before its damaged end is kept beside it.
 fn is_begun<R: AllocGlobal + Abort>(
     rt: &R,
     disk: &SmallDisk,

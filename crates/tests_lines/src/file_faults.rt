@@ -1,5 +1,5 @@
-//! The file of a journal on a disk that fails: what is told, what is done next, and what the file
-//! holds then.
+//! The file of a journal on a disk that fails: what is reported, what is done next, and what the
+//! file holds then.
 
 use crate::journals::push;
 use journal::recall;

@@ -1,6 +1,6 @@
 //! Journals: what is to be written after what was written, and a snapshot in several frames.
 
-use crate::journals::{file_of, recalled};
+use crate::journals::{file_of, file_with, recalled};
 use history::Entry;
 use journal::{
     Changes, Kept, Record, Written, push_batch, push_batches, push_header, recall, what_changed,
@@ -47,6 +47,17 @@ const CHANGES: &[(&str, &str, &str)] = &[
         "NEXT 7\r\nMARK pc 4\r\nSEEN pc 6\r\n",
         "NEXT 7\r\nMARK pc 4\r\nSEEN pc 6\r\n",
     ),
+    // a client that vanished leaves a mark that is no higher than the old one
+    (
+        "NEXT 7\r\nMARK pc 4\r\nSEEN pc 6\r\n",
+        "NEXT 7\r\nMARK pc 4\r\n",
+        "NEXT 7\r\nMARK pc 4\r\nSEEN pc 4\r\n",
+    ),
+    (
+        "NEXT 7\r\nNAME pc\r\nSEEN pc 6\r\n",
+        "NEXT 7\r\nNAME pc\r\n",
+        "NEXT 7\r\nGONE pc\r\nNAME pc\r\n",
+    ),
     (
         "NEXT 7\r\nON #c\r\n",
         "NEXT 7\r\nON #c key\r\n",
@@ -60,15 +71,17 @@ fn kept(alloc: Global, text: &str) -> Result<Kept, Fail> {
     Ok(recalled(alloc, &file_of(alloc, &[text])?)?.kept)
 }
 
-/// What a journal says that has this batch.
-fn written(alloc: Global, text: &str) -> Result<Written, Fail> {
+/// What a journal says that has this batch, after a header for rings or not.
+fn written(alloc: Global, rings: bool, text: &str) -> Result<Written, Fail> {
+    let recalled = recalled(alloc, &file_with(alloc, rings, &[text])?)?;
     let Kept {
         history,
         marks,
         marked,
         channels,
-    } = kept(alloc, text)?;
+    } = recalled.kept;
     Ok(Written {
+        rings: recalled.rings,
         next: history.next_number().ok_or("a number is left")?,
         marks: marked,
         latest: marks,
@@ -93,11 +106,12 @@ fn change_text(alloc: Global, changes: &Changes) -> Result<Vec<u8>, Fail> {
 
 fn changes_so<R: AllocGlobal + Abort>(
     rt: &R,
+    rings: bool,
     before: &str,
     now: &str,
     wanted: &str,
 ) -> Result<(), Fail> {
-    let (before, now) = (written(rt.alloc(), before)?, kept(rt.alloc(), now)?);
+    let (before, now) = (written(rt.alloc(), rings, before)?, kept(rt.alloc(), now)?);
     let (marks, latest, channels) = (&now.marked, &now.marks, &now.channels);
     let changes = what_changed(rt.alloc(), &before, &now.history, marks, latest, channels)?;
     assert!(rt; change_text(rt.alloc(), &changes)?.as_slice() == wanted.as_bytes());
@@ -107,15 +121,26 @@ fn changes_so<R: AllocGlobal + Abort>(
 #[test]
 fn what_is_to_be_written(rt: HostRuntime) -> Result<(), Fail> {
     for (before, now, wanted) in CHANGES {
-        changes_so(&rt, before, now, wanted)?;
+        changes_so(&rt, false, before, now, wanted)?;
     }
     Ok(())
+}
+
+/// A message with a ring, after which the next has number 8.
+const WITH_RING: &str = "NEXT 7\r\n@time=7;ring=bob :bob!b@h PRIVMSG Me :hi\r\n";
+
+/// A message with a ring is appended to a file that may have some, and else there is a new file.
+#[test]
+fn a_first_message_with_a_ring(rt: HostRuntime) -> Result<(), Fail> {
+    changes_so(&rt, false, "NEXT 7\r\n", WITH_RING, "snapshot")?;
+    changes_so(&rt, true, "NEXT 7\r\n", WITH_RING, WITH_RING)?;
+    changes_so(&rt, true, WITH_RING, WITH_RING, "nothing")
 }
 
 /// How many messages the large snapshot has; the line of each has 565 bytes.
 const MANY: usize = 2_000;
 
-/// Records of so many messages, numbered from 1, and of a channel.
+/// Records of this many messages, numbered from 1, and of a channel.
 fn many_records(alloc: Global) -> Result<Vec<Record>, Fail> {
     let text = vec![in alloc; b'x'; 512]?;
     let mut records = Vec::new(alloc);
@@ -152,7 +177,7 @@ fn is_in_two_frames<R: AllocGlobal + Abort>(rt: &R, frames: &[u8]) -> Result<(),
     let second = frames.get(size.saturating_add(2 * FRAME)..);
     assert!(rt; second.ok_or("a second frame")?.starts_with(b"NEXT 1"));
     let mut file = Vec::new(rt.alloc());
-    push_header(&mut file)?;
+    push_header(&mut file, false)?;
     file.extend_from_slice(frames)?;
     let recalled = recall(rt.alloc(), 10_000, 1, &file)?;
     assert!(rt; recalled.batches == 2 && recalled.kept.history.len() == MANY);

@@ -3,7 +3,8 @@
 use frames::push_frame;
 use history::{Entry, Marks};
 use journal::{
-    Damage, PushError, RecallError, Recalled, Record, push_batch, push_header, recall, snapshot,
+    Damage, PushError, RecallError, Recalled, Record, has_rings, push_batch, push_header, recall,
+    snapshot,
 };
 use std::alloc::Global;
 use std::process::Abort;
@@ -80,14 +81,19 @@ pub(crate) fn push(file: &mut Vec<u8>, text: &[u8]) -> Result<(), Fail> {
     Ok(push_frame(file, text)?)
 }
 
-/// A journal with a frame for each text behind its header.
-pub(crate) fn file_of(alloc: Global, texts: &[&str]) -> Result<Vec<u8>, Fail> {
+/// A journal with a frame for each text after its header, which is that for rings or not.
+pub(crate) fn file_with(alloc: Global, rings: bool, texts: &[&str]) -> Result<Vec<u8>, Fail> {
     let mut file = Vec::new(alloc);
-    push_header(&mut file)?;
+    push_header(&mut file, rings)?;
     for text in texts {
         push(&mut file, text.as_bytes())?;
     }
     Ok(file)
+}
+
+/// A journal without rings.
+pub(crate) fn file_of(alloc: Global, texts: &[&str]) -> Result<Vec<u8>, Fail> {
+    file_with(alloc, false, texts)
 }
 
 pub(crate) fn recalled(alloc: Global, file: &[u8]) -> Result<Recalled, Fail> {
@@ -136,6 +142,43 @@ const FILES: &[(&[&str], usize, Option<Damage>)] = &[
         Some(Damage::BadNumber),
     ),
     (&["SEEN pc\r\n"], 0, Some(Damage::NoRecord)),
+    (&["@time=7;ring=bob :bob!b@h PRIVMSG Me :hi\r\n"], 1, None),
+    (
+        &["@time=7;ring=a\\:\\\\b :bob!b@h PRIVMSG Me :hi\r\n"],
+        1,
+        None,
+    ),
+    // a name that is escaped otherwise, or not to its end; other tags; a time after the ring
+    (
+        &["@time=7;ring=a;b :bob!b@h PRIVMSG Me :hi\r\n"],
+        0,
+        Some(Damage::NoRecord),
+    ),
+    (
+        &["@time=7;ring=a\\s :bob!b@h PRIVMSG Me :hi\r\n"],
+        0,
+        Some(Damage::NoRecord),
+    ),
+    (
+        &["@time=7;ring=a\\ :bob!b@h PRIVMSG Me :hi\r\n"],
+        0,
+        Some(Damage::NoRecord),
+    ),
+    (
+        &["@time=7;ring :bob!b@h PRIVMSG Me :hi\r\n"],
+        0,
+        Some(Damage::NoRecord),
+    ),
+    (
+        &["@time=7;to=bob :bob!b@h PRIVMSG Me :hi\r\n"],
+        0,
+        Some(Damage::NoRecord),
+    ),
+    (
+        &["@ring=bob;time=7 :bob!b@h PRIVMSG Me :hi\r\n"],
+        0,
+        Some(Damage::NoRecord),
+    ),
 ];
 
 fn ends_so<R: AllocGlobal + Abort>(
@@ -213,22 +256,27 @@ fn files_that_are_cut(rt: HostRuntime) -> Result<(), Fail> {
     is_cut(&rt, &file, header.len(), front.len())
 }
 
-fn is_a_header<R: AllocGlobal + Abort>(rt: &R, file: &[u8]) -> Result<(), Fail> {
-    assert!(rt; file.len() == 43);
-    assert!(rt; file.starts_with(&[0, 0, 0, 7]) && file.ends_with(b"bnc 1\r\n"));
+fn is_a_header<R: AllocGlobal + Abort>(rt: &R, file: &[u8], text: &[u8]) -> Result<(), Fail> {
+    assert!(rt; file.len() == 36_usize.saturating_add(text.len()));
+    assert!(rt; file.starts_with(&[0, 0, 0]) && file.ends_with(text));
+    assert!(rt; file.get(3).map(|byte| usize::from(*byte)) == Some(text.len()));
     Ok(())
 }
 
-/// A file begins with the format's name and its version.
+/// A file begins with the format's name and its version, which is a later one if messages with rings
+/// may be in it.
 #[test]
-fn the_header_of_a_file(rt: HostRuntime) -> Result<(), Fail> {
-    is_a_header(&rt, &file_of(rt.alloc(), &[])?)
+fn the_headers_of_files(rt: HostRuntime) -> Result<(), Fail> {
+    is_a_header(&rt, &file_with(rt.alloc(), false, &[])?, b"bnc 1\r\n")?;
+    is_a_header(&rt, &file_with(rt.alloc(), true, &[])?, b"bnc 1.1\r\n")
 }
 
 /// Texts of a first frame that is not ours, and as what that is refused.
 const OTHER_HEADERS: &[(&str, RecallError)] = &[
     ("bnc 2\r\n", RecallError::LaterVersion),
     ("bnc 10\r\n", RecallError::LaterVersion),
+    ("bnc 1.2\r\n", RecallError::LaterVersion),
+    ("bnc 1.1\n", RecallError::LaterVersion),
     ("bnc 1\n", RecallError::LaterVersion),
     ("BNC 1\r\n", RecallError::NotAJournal),
     ("NEXT 1\r\n", RecallError::NotAJournal),
@@ -280,8 +328,14 @@ const ALL_KEPT: &str = "NEXT 7\r\n\
     ON #c\r\n\
     ON #d secret\r\n";
 
-fn is_said_again<R: AllocGlobal + Abort>(rt: &R, text: &str) -> Result<(), Fail> {
-    let file = file_of(rt.alloc(), &[text])?;
+/// The same with messages in the rings of persons, one with a name that is escaped.
+const RINGS_KEPT: &str = "NEXT 7\r\n\
+    @time=2020-01-02T03:04:05.678Z;ring=bob :bob!b@h PRIVMSG Me :hi you\r\n\
+    @time=2020-01-02T03:04:06.678Z;ring=a\\:\\\\b :Me!m@h PRIVMSG a;\\b :hi\r\n\
+    @time=2020-01-02T03:04:07.678Z :bob!b@h PRIVMSG #c :hi all\r\n";
+
+fn is_said_again<R: AllocGlobal + Abort>(rt: &R, rings: bool, text: &str) -> Result<(), Fail> {
+    let file = file_with(rt.alloc(), rings, &[text])?;
     let kept = recalled(rt.alloc(), &file)?.kept;
     let mut latest = Marks::new(rt.alloc())?;
     for (name, number) in [(b"laptop".as_slice(), 12), (b"phone".as_slice(), 13)] {
@@ -290,7 +344,7 @@ fn is_said_again<R: AllocGlobal + Abort>(rt: &R, text: &str) -> Result<(), Fail>
     }
     let (history, channels) = (&kept.history, &kept.channels);
     let records = snapshot(rt.alloc(), history, &kept.marked, &latest, channels)?;
-    let mut again = file_of(rt.alloc(), &[])?;
+    let mut again = file_with(rt.alloc(), has_rings(history), &[])?;
     push_batch(rt.alloc(), &mut again, &records.ok_or("a number is left")?)?;
     assert!(rt; again.as_slice() == file.as_slice());
     Ok(())
@@ -299,9 +353,45 @@ fn is_said_again<R: AllocGlobal + Abort>(rt: &R, text: &str) -> Result<(), Fail>
 #[test]
 fn snapshots(rt: HostRuntime) -> Result<(), Fail> {
     for text in ["NEXT 1\r\n", "NEXT 9\r\nNAME pc\r\n", ALL_KEPT] {
-        is_said_again(&rt, text)?;
+        is_said_again(&rt, false, text)?;
+    }
+    is_said_again(&rt, true, RINGS_KEPT)
+}
+
+/// The messages of that text, each with its time and the name of its ring.
+fn has_its_rings<R: AllocGlobal + Abort>(rt: &R, file: &[u8]) -> Result<(), Fail> {
+    let kept = recalled(rt.alloc(), file)?.kept;
+    let rings = [Some(b"bob".as_slice()), Some(b"a;\\b".as_slice()), None];
+    let times: [&[u8]; 3] = [
+        b"2020-01-02T03:04:05.678Z",
+        b"2020-01-02T03:04:06.678Z",
+        b"2020-01-02T03:04:07.678Z",
+    ];
+    assert!(rt; kept.history.len() == 3 && kept.history.person_count() == 2);
+    for i in 0..3 {
+        let entry = kept.history.entry(i).ok_or("a message")?;
+        assert!(rt; entry.ring() == rings[i] && entry.time() == times[i]);
     }
     Ok(())
+}
+
+/// A ring is read again with its name, and is no part of the time.
+#[test]
+fn rings_of_persons(rt: HostRuntime) -> Result<(), Fail> {
+    has_its_rings(&rt, &file_with(rt.alloc(), true, &[RINGS_KEPT])?)
+}
+
+fn tells_of_rings<R: AllocGlobal + Abort>(rt: &R, rings: bool) -> Result<(), Fail> {
+    let file = file_with(rt.alloc(), rings, &["NEXT 7\r\n"])?;
+    assert!(rt; recalled(rt.alloc(), &file)?.rings == rings);
+    Ok(())
+}
+
+/// A file's header says whether messages with rings may be in it.
+#[test]
+fn files_for_rings(rt: HostRuntime) -> Result<(), Fail> {
+    tells_of_rings(&rt, false)?;
+    tells_of_rings(&rt, true)
 }
 
 /// The text that admits this many names.

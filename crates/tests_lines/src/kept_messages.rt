@@ -158,7 +158,7 @@ fn check_missed<R: AllocGlobal + Abort>(
     Ok(())
 }
 
-/// Those of them that stand above a mark.
+/// Those of them that are above a mark.
 #[test]
 fn how_many_stand_above_a_mark(rt: HostRuntime) -> Result<(), Fail> {
     check_missed(
@@ -242,7 +242,7 @@ fn a_message_without_a_number(rt: HostRuntime) -> Result<(), Fail> {
     Ok(())
 }
 
-/// Whether a message is refused for want of a number, and one is kept.
+/// Whether a message is refused because no number is left, and one is kept.
 fn is_refused(history: &mut History) -> bool {
     let refused = history.push(b"2020-01-02T03:04:05.678Z", b"Me", b"NOTICE", b"bob", b"");
     matches!(refused, Err(PushError::Spent)) && history.len() == 1

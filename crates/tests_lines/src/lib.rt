@@ -1,5 +1,5 @@
 //! Tests alone: lines, names and network settings as they come, lines of proxies, logins to an
-//! account, the messages that are kept, and journals with their files.
+//! account, the messages that are kept, journals with their files, and what a client has received.
 #![tactic(auto)]
 
 #[cfg(test)]
@@ -20,5 +20,7 @@ mod logins;
 mod names;
 #[cfg(test)]
 mod proxies;
+#[cfg(test)]
+mod receipts_of_sessions;
 #[cfg(test)]
 mod settings;

@@ -14,14 +14,14 @@ const KEYS_OF_EACH_MAPPING: [(CaseMapping, &[u8], &[u8]); 5] = [
     (CaseMapping::Rfc1459, b"", b""),
 ];
 
-/// Whether a name stands at the place of this key.
+/// Whether a name is at the place of this key.
 fn is_at_key(mapping: CaseMapping, name: &[u8], key: &[u8]) -> bool {
     mapping.same(name, key)
         && mapping.order(name, key) == Ordering::Equal
         && mapping.order_to_key(name, key) == Ordering::Equal
 }
 
-/// Whether a name has this key, and stands at its place.
+/// Whether a name has this key, and is at its place.
 fn has_key(alloc: Global, mapping: CaseMapping, name: &[u8], key: &[u8]) -> Result<bool, Fail> {
     let made = mapping.key(alloc, name)?;
     Ok(made.as_slice() == key && is_at_key(mapping, name, &made))
@@ -52,7 +52,7 @@ const NAMES_THAT_ARE_THE_SAME: [(&[u8], &[u8], [bool; 3]); 5] = [
     (b"#c", b"#c ", [false, false, false]),
 ];
 
-/// Whether two names are the same and stand at one place, or neither.
+/// Whether two names are the same and are at one place, or neither.
 fn are_the_same(mapping: CaseMapping, a: &[u8], b: &[u8], same: bool) -> bool {
     mapping.same(a, b) == same && (mapping.order(a, b) == Ordering::Equal) == same
 }
@@ -112,7 +112,7 @@ fn names_before_and_behind_a_key(rt: HostRuntime) {
     }
 }
 
-/// A mapping, a byte, and the byte that stands for it in a key.
+/// A mapping, a byte, and the byte that represents it in a key.
 const FOLDED_BYTES: [(CaseMapping, u8, u8); 4] = [
     (CaseMapping::Ascii, b'Z', b'z'),
     (CaseMapping::Rfc1459, b'~', b'^'),

@@ -51,7 +51,7 @@ fn unknown_of(alloc: Global, length: usize) -> Result<Vec<u8>, AllocError> {
     Ok(line)
 }
 
-/// The longest line has 107 bytes. What stands after a line is left.
+/// The longest line has 107 bytes. What comes after a line is left.
 #[test]
 fn what_is_read_of_an_input(rt: HostRuntime) -> Result<(), Fail> {
     let alloc = rt.alloc();

@@ -31,7 +31,7 @@ impl Source for Gone {
 }
 
 /// The log's lines without their times.
-fn untimed(alloc: Global, log: &[u8]) -> Result<Vec<u8>, Fail> {
+pub(crate) fn untimed(alloc: Global, log: &[u8]) -> Result<Vec<u8>, Fail> {
     let mut text = Vec::new(alloc);
     for line in log.split(|byte| *byte == b'\n') {
         if let Some(line) = line.get(25..) {
@@ -168,7 +168,7 @@ fn a_network_is_added_and_one_removed(rt: HostRuntime) -> Result<(), Fail> {
     Ok(())
 }
 
-/// The network is left with a reason, its client hears so, and the network is dialled anew.
+/// The network is left with a reason, its client hears so, and the network is dialled again.
 fn dialled_anew(
     alloc: Global,
     bouncer: &Bouncer,
@@ -312,5 +312,40 @@ fn the_status_and_the_end(rt: HostRuntime) -> Result<(), Fail> {
     assert!(rt; stands_in(log.as_slice(), b"; sessions 1; messages 1, 43 bytes\n"));
     assert!(rt; stands_in(log.as_slice(), b"session ended: bnc stops; "));
     assert!(rt; stands_in(log.as_slice(), b"connection ended: bnc stops\n"));
+    Ok(())
+}
+
+/// Settings without a network, with this key at the top.
+fn settings_with(alloc: Global, key: &str) -> Result<Config, Fail> {
+    let text = format!(in alloc; "listen = \"127.0.0.1:6667\"\n{key}\n")?;
+    Ok(Config::read(alloc, text.as_str().as_bytes())?)
+}
+
+/// What each of these reloads logs, one after another, of a key that the settings of the start have as
+/// `history = 9`.
+static RESTARTS: [(&str, &str); 4] = [
+    ("history = 9", ""),
+    ("history = 8", "bnc: reloaded: history needs a restart\n"),
+    ("history = 8", "bnc: reloaded: history needs a restart\n"),
+    ("history = 9", ""),
+];
+
+/// A setting that needs a restart is compared with that of the start, and not with the last one.
+#[test]
+fn a_setting_that_is_changed_back_needs_no_restart(rt: HostRuntime) -> Result<(), Fail> {
+    let alloc = rt.alloc();
+    let first = settings_with(alloc, "history = 9")?;
+    let (shared, _begun) = Shared::new(&rt, alloc, first, limits(0, 0))?;
+    let shared = Arc::new(alloc, shared)?;
+    let mut want = Vec::new(alloc);
+    for (key, log) in RESTARTS {
+        go_by(rt, alloc, &shared, settings_with(alloc, key)?)?;
+        want.extend_from_slice(b"bnc: reloaded: networks new 0, removed 0, dialled anew 0\n")?;
+        want.extend_from_slice(log.as_bytes())?;
+    }
+    shared.log().end(&rt);
+    let mut log = Vec::new(alloc);
+    shared.log().write_to(&rt, &mut log);
+    assert!(rt; untimed(alloc, log.as_slice())?.as_slice() == want.as_slice());
     Ok(())
 }

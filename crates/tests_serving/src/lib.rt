@@ -12,4 +12,6 @@ mod pacing;
 #[cfg(test)]
 mod pasting;
 #[cfg(test)]
+mod proxied;
+#[cfg(test)]
 mod strangers;

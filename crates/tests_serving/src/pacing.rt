@@ -87,7 +87,7 @@ fn what_is_said_at_once_comes_in_order_at_the_pace(rt: HostRuntime) -> Result<()
     Ok(())
 }
 
-/// One client says all that may be said at once, and then another says as much. How long it took
+/// One client says all that may be said at once, and then another says the same. How long it took
 /// until both were heard.
 fn both_say<R: Clock + Net<Listener = TcpListener, Stream = TcpStream>>(
     rt: &R,
@@ -164,8 +164,8 @@ fn what_the_network_does_not_hear_counts_nothing(rt: HostRuntime) -> Result<(), 
     Ok(())
 }
 
-/// A client says four lines with its login, of which the pace lets one through, and leaves. Whether
-/// the network heard that one, and no session is left.
+/// A client says four lines with its login; the pace lets one through, and the client leaves.
+/// Whether the network heard that one, and no session is left.
 fn say_and_go<R: Clock + Wait + Net<Listener = TcpListener, Stream = TcpStream>>(
     rt: &R,
     alloc: Global,

@@ -22,7 +22,7 @@ fn wait_for_logins<R: Clock + Wait>(rt: &R, bouncer: &Bouncer, count: usize) {
     }
 }
 
-/// `count` connections that say nothing, each of which has a seat before the next comes.
+/// `count` connections that say nothing; each has a seat before the next comes.
 fn silent_ones<R: Clock + Wait + Net<Listener = TcpListener, Stream = TcpStream>>(
     rt: &R,
     alloc: Global,

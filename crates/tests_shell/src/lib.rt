@@ -9,6 +9,8 @@ mod clients;
 #[cfg(test)]
 mod last_lines;
 #[cfg(test)]
+mod last_words;
+#[cfg(test)]
 mod line_by_line;
 #[cfg(test)]
 mod memory;
@@ -18,5 +20,7 @@ mod networks;
 mod nicks;
 #[cfg(test)]
 mod pace;
+#[cfg(test)]
+mod regain;
 #[cfg(test)]
 mod watched;

@@ -3,7 +3,7 @@
 use crate::rows::{ONLINE, check, steward};
 use std::test::Fail;
 
-/// A client is let in by the settings of now and by no others, and ends once.
+/// A client is let in by the current settings and by no others, and ends once.
 #[test]
 fn a_client_is_let_in_by_the_settings_of_now(rt: HostRuntime) -> Result<(), Fail> {
     let mut steward = steward(rt.alloc());

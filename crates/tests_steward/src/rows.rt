@@ -20,8 +20,9 @@ pub(crate) const ONLINE: &str = "
         1 registered 0 => Welcome { network: 0 }
     ";
 
-/// Two seats, one late answer, two sessions; a denied login is answered
-/// after 1,000; a session waits 100 for channels; a removed network has 50 for its clients, and so have clients and networks at a stop.
+/// Two seats, one late answer, two sessions; a denied login is answered after 1,000; a session
+/// waits 100 for channels; a removed network has 50 for its clients, and so have clients and
+/// networks at a stop.
 pub(crate) fn steward(alloc: Global) -> Steward {
     let limits = Limits {
         seats: 2,
@@ -60,15 +61,10 @@ fn wanted_of(word: &str) -> Option<Wanted> {
     })
 }
 
-/// The event of a word, with these numbers or networks.
-fn event_of<'a>(word: &str, numbers: [u64; 3], wanted: &'a [Wanted]) -> Option<Event<'a>> {
-    let [first, second, third] = numbers;
-    let (client, network) = (first, first);
+/// The event of a word about a client, with these numbers.
+fn event_of_client<'a>(word: &str, numbers: [u64; 3]) -> Option<Event<'a>> {
+    let [client, second, third] = numbers;
     Some(match word {
-        "came" | "exempt" => Event::Came {
-            from: first,
-            is_exempt: word == "exempt",
-        },
         "right" => Event::Judged {
             client,
             settings: second,
@@ -93,6 +89,14 @@ fn event_of<'a>(word: &str, numbers: [u64; 3], wanted: &'a [Wanted]) -> Option<E
         },
         "tells" => Event::Tells { client },
         "gone" => Event::Gone { client },
+        _ => return None,
+    })
+}
+
+/// The event of a word about a network, with these numbers.
+fn event_of_network<'a>(word: &str, numbers: [u64; 3]) -> Option<Event<'a>> {
+    let [network, second, _] = numbers;
+    Some(match word {
         "asks" => Event::Asks { network },
         "connected" => Event::Connected { network },
         "registered" => Event::Registered { network },
@@ -105,15 +109,29 @@ fn event_of<'a>(word: &str, numbers: [u64; 3], wanted: &'a [Wanted]) -> Option<E
             network,
             bytes: second,
         },
-        "settings" => Event::Settings {
-            wanted,
-            times: TIMES,
-        },
         "parts" => Event::Parts { network },
-        "stop" => Event::Stop,
-        "ends" => Event::Ends,
         _ => return None,
     })
+}
+
+/// The event of a word, with these numbers or networks.
+fn event_of<'a>(word: &str, numbers: [u64; 3], wanted: &'a [Wanted]) -> Option<Event<'a>> {
+    match word {
+        "came" | "exempt" => Some(Event::Came {
+            from: numbers[0],
+            is_exempt: word == "exempt",
+        }),
+        "settings" => Some(Event::Settings {
+            wanted,
+            times: TIMES,
+        }),
+        "stop" => Some(Event::Stop),
+        "ends" => Some(Event::Ends),
+        _ => match event_of_client(word, numbers) {
+            Some(event) => Some(event),
+            None => event_of_network(word, numbers),
+        },
+    }
 }
 
 /// What the steward answers to a time and an event as text; `None` if the text means none.

@@ -43,8 +43,8 @@ fn beside_a_sleeper<R: Wait + Clock>(rt: &R, network: &Network<QuickView>, most:
     NOTHING
 }
 
-/// Four lines wait. None is taken while the pump is awake. While it sleeps, as many are taken as
-/// the call asks for, and then the rest.
+/// Four lines wait. None is taken while the pump is awake. While it sleeps, the number that the
+/// call asks for is taken, and then the rest.
 #[test]
 fn lines_are_taken_beside_a_pump_that_sleeps(rt: HostRuntime) -> Result<(), Fail> {
     let Stage {

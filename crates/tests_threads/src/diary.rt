@@ -3,7 +3,7 @@
 ghost use Rattle.std.specs.Prelude.{◌≡◌};
 
 use client_caps::Caps;
-use hub_core::AttachError;
+use hub_core::{AttachError, Seen};
 use hub_ends::SessionId;
 use hub_threads::Network;
 use net_view::NetworkView;
@@ -110,8 +110,9 @@ impl<V: NetworkView + Drop, I: Read> Watcher<V, Arc<Network<V>>, I> for Diary {
         self.note(noted.is_ok());
     }
 
-    fn ended(&mut self, why: Leave) {
+    fn ended(&mut self, why: Leave) -> Seen {
         let noted = writeln!(self.text, "ended: {why:?}");
         self.note(noted.is_ok());
+        Seen::All
     }
 }

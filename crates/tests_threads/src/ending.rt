@@ -1,6 +1,8 @@
 //! How a session ends, and what its writer says of it.
 
-use hub_threads::{Ended, FreeGate, Network, Turns, WriteFault, end_session, spawn_writer};
+use hub_threads::{
+    Ended, FreeGate, Network, Turns, WriteFault, end_session, end_session_at, spawn_writer,
+};
 use net_view::NetworkView;
 use std::alloc::Global;
 use std::sync::Wait;
@@ -96,5 +98,29 @@ fn is_refused_by<V: NetworkView + Drop, R: Threads + Wait + Send + Copy + 'stati
 #[test]
 fn no_such_session(rt: HostRuntime) -> Result<(), Fail> {
     assert!(&rt; is_refused(rt, rt.alloc())?);
+    Ok(())
+}
+
+/// A session of this network that is written to, and whose client vanishes.
+fn left_on<V: NetworkView + Drop, R: Threads + Wait + Send + Copy + 'static>(
+    rt: R,
+    alloc: Global,
+    network: &Network<V>,
+) -> Result<Ended<Sink>, Fail> {
+    let (id, end) = attach(&rt, alloc, network, b"", 8)?;
+    let writer = spawn_writer(rt, end, Sink::new(alloc), FreeGate, Turns::Endless)?;
+    match end_session_at(&rt, network, id, None, writer) {
+        Ok(ended) => Ok(ended),
+        Err(_) => Err("no session")?,
+    }
+}
+
+#[test]
+fn all_is_written_to_a_client_that_vanished(rt: HostRuntime) -> Result<(), Fail> {
+    let stage = stage_after(&rt, rt.alloc(), 1, &READY)?;
+    let ended = left_on(rt, rt.alloc(), &stage.network)?;
+    assert!(&rt; ended.token);
+    assert!(&rt; ended.written == Ok(201));
+    assert!(&rt; is_joined(rt.alloc(), &ended.out.bytes, &BURST)?);
     Ok(())
 }

@@ -213,7 +213,8 @@ fn started<R: Threads + Wait + Send + Copy + 'static>(
     Ok((stopper, writer))
 }
 
-/// Stops a writer, and has another one go on with its end. All that was written.
+/// Stops a writer, which may have taken the burst by then, and has another one go on with its end. All
+/// that both wrote.
 fn bytes_of_two<V: NetworkView + Drop, R: Threads + Wait + Send + Copy + 'static>(
     rt: R,
     alloc: Global,
@@ -226,7 +227,11 @@ fn bytes_of_two<V: NetworkView + Drop, R: Threads + Wait + Send + Copy + 'static
     put_and_take(&rt, alloc, stage, &MESSAGES)?;
     end.go_on();
     let writer = spawn_writer(rt, end, out, FreeGate, Turns::Endless)?;
-    bytes_at_end(&rt, &stage.network, id, writer)
+    match end_session(&rt, &stage.network, id, writer) {
+        Ok(ended) if ended.end.closed() == Some(id) => Ok(ended.out.bytes),
+        Ok(_) => Err("not all was taken")?,
+        Err(_) => Err("no session")?,
+    }
 }
 
 #[test]
@@ -247,7 +252,7 @@ where
 
 const MESSAGE: &[u8] = b":bob!b@h PRIVMSG #c m";
 
-/// Twice as many as the ring of the session holds.
+/// Twice the number that the ring of the session holds.
 const SIXTEEN_MESSAGES: [&[u8]; 16] = [MESSAGE; 16];
 
 /// Opens a door after a second.

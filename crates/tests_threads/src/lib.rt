@@ -26,4 +26,6 @@ mod served;
 #[cfg(test)]
 mod slow;
 #[cfg(test)]
+mod vanished;
+#[cfg(test)]
 mod watched;

@@ -98,7 +98,7 @@ fn sessions_that_are_cut_give_all_back(rt: HostRuntime) -> Result<(), Fail> {
     Ok(())
 }
 
-/// As many clients come as a network may have, and one more, and all leave.
+/// The most clients that a network may have come, and one more, and all leave.
 fn one_too_many<R: Net<Listener = TcpListener, Stream = TcpStream>>(
     rt: &R,
     alloc: Global,

@@ -2,11 +2,9 @@
 
 use client_caps::Caps;
 use hub_core::AttachError;
-use serving::{Ending, NetworkEvent, SessionEvent, Shown, StrangerEvent, Who};
-use shell::Recalling;
+use serving::{Ending, LastWords, NetworkEvent, SessionEvent, Shown, StrangerEvent, Who};
 use std::alloc::Global;
 use std::fmt;
-use std::io::Read;
 use std::net::SocketAddr;
 use std::test::Fail;
 use test_stage::peer::same;
@@ -71,11 +69,30 @@ fn what_the_log_tells(rt: HostRuntime) -> Result<(), Fail> {
     is_written(rt.alloc(), &event, "wrong password from 127.0.0.1:5000")
 }
 
+/// Last words of a network.
+fn last_words(
+    alloc: Global,
+    refusal: Option<&[u8]>,
+    error: Option<&[u8]>,
+) -> Result<LastWords, Fail> {
+    let mut words = LastWords {
+        refusal: None,
+        error: None,
+    };
+    if let Some(text) = refusal {
+        words.refusal = Some(Vec::from_slice(alloc, text)?);
+    }
+    if let Some(text) = error {
+        words.error = Some(Vec::from_slice(alloc, text)?);
+    }
+    Ok(words)
+}
+
 #[test]
 fn what_the_log_tells_of_an_end(rt: HostRuntime) -> Result<(), Fail> {
     let alloc = rt.alloc();
     let cause = "closed";
-    let said = Some(Vec::from_slice(alloc, b"Closing Link: h (\x1bbye)")?);
+    let said = last_words(alloc, None, Some(b"Closing Link: h (\x1bbye)"))?;
     let ending = Ending::Lost { cause, said };
     let event = NetworkEvent::Ended {
         ending: &ending,
@@ -85,6 +102,11 @@ fn what_the_log_tells_of_an_end(rt: HostRuntime) -> Result<(), Fail> {
         alloc,
         &event,
         "connection lost: closed; it said: Closing Link: h (?bye); dials again in 30 s",
+    )?;
+    is_written(
+        alloc,
+        &NetworkEvent::EndedAlike { count: 1 },
+        "last reason repeated once",
     )?;
     is_written(
         alloc,
@@ -108,40 +130,51 @@ fn what_the_log_tells_of_an_end(rt: HostRuntime) -> Result<(), Fail> {
     )
 }
 
-/// What a reader of this text, ten bytes at a time, keeps as the network's last words.
-fn last_words(alloc: Global, text: &[u8]) -> Result<Option<Vec<u8>>, Fail> {
-    let mut reader = Recalling::new(alloc, text);
-    let mut buffer = [0u8; 10];
-    for _ in 0..text.len() {
-        if reader.read(&mut buffer)? == 0 {
-            break;
-        }
+/// What is logged of these last words of a network.
+#[test]
+fn a_refusal_and_the_error_after_it(rt: HostRuntime) -> Result<(), Fail> {
+    let alloc = rt.alloc();
+    let rows: [(Option<&[u8]>, Option<&[u8]>, &str); 7] = [
+        (None, None, ""),
+        (None, Some(b"Closing link"), "; it said: Closing link"),
+        (Some(b"Banned"), None, "; it said: Banned"),
+        (
+            Some(b"You're banned!"),
+            Some(b"Closing link: h (G-lined: spam)"),
+            "; it said: You're banned!; then: Closing link: h (G-lined: spam)",
+        ),
+        (Some(b"Banned"), Some(b"Banned"), "; it said: Banned"),
+        (
+            Some(b"no open proxies"),
+            Some(b"Closing link: h (no open proxies)"),
+            "; it said: Closing link: h (no open proxies)",
+        ),
+        (
+            Some(b"Banned: spam"),
+            Some(b"spam"),
+            "; it said: Banned: spam",
+        ),
+    ];
+    for (refusal, error, want) in rows {
+        is_written(alloc, &last_words(alloc, refusal, error)?, want)?;
     }
-    Ok(reader.parting(alloc)?)
+    Ok(())
 }
 
+/// A text of the network that has a password of ours within it is not logged.
 #[test]
-fn the_last_words_of_a_network(rt: HostRuntime) -> Result<(), Fail> {
+fn last_words_without_a_password(rt: HostRuntime) -> Result<(), Fail> {
     let alloc = rt.alloc();
-    let rows: [(&[u8], Option<&[u8]>); 6] = [
-        (
-            b":s 465 a :You are banned\r\nERROR :Closing Link: h\r\n",
-            Some(b"You are banned"),
-        ),
-        (
-            b":s 463 a :Your host is not let in\r\n",
-            Some(b"Your host is not let in"),
-        ),
-        (
-            b":s 376 a :end\r\nERROR :Closing Link: h (Ping timeout)\r\n",
-            Some(b"Closing Link: h (Ping timeout)"),
-        ),
-        (b":s ERROR bye\r\n", Some(b"bye")),
-        (b"ERROR :bye\r\n:s PING x\r\n", None),
-        (b":b PRIVMSG a :ERROR x\r\n", None),
+    let rows: [(Option<&[u8]>, &str); 5] = [
+        (None, "; it said: login as ann s3cret; then: bye"),
+        (Some(b""), "; it said: login as ann s3cret; then: bye"),
+        (Some(b"other"), "; it said: login as ann s3cret; then: bye"),
+        (Some(b"s3cret"), "; it said: bye"),
+        (Some(b"bye"), "; it said: login as ann s3cret"),
     ];
-    for (text, want) in rows {
-        assert!(rt; last_words(alloc, text)?.as_deref() == want);
+    for (secret, want) in rows {
+        let words = last_words(alloc, Some(b"login as ann s3cret"), Some(b"bye"))?;
+        is_written(alloc, &words.without(secret), want)?;
     }
     Ok(())
 }

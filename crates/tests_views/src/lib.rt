@@ -23,4 +23,8 @@ mod refusing;
 #[cfg(test)]
 mod said;
 #[cfg(test)]
+mod times;
+#[cfg(test)]
 mod views;
+#[cfg(test)]
+mod visits;

@@ -76,7 +76,7 @@ fn push_ten(text: &mut Vec<u8>) -> Result<(), Fail> {
     Ok(())
 }
 
-/// A name list of eleven members, of whom the last has a nick of this length: all between `start`
+/// A name list of eleven members, the last with a nick of this length: all between `start`
 /// and `end`, and the last after a gap and its symbols.
 fn name_list(
     alloc: Global,
@@ -119,7 +119,7 @@ const NAMES_UP_TO_400_BYTES: [(&[u8], &[u8], &[u8], usize, &[u8]); 6] = [
 ];
 
 /// A 353 of 400 bytes of words is one line, and one of 401 bytes two: capabilities, the last
-/// member's symbols, those that are shown, the length of its nick, what stands before it.
+/// member's symbols, those that are shown, the length of its nick, what comes before it.
 #[test]
 fn names_up_to_400_bytes(rt: HostRuntime) -> Result<(), Fail> {
     for (names, symbols, shown, len, gap) in &NAMES_UP_TO_400_BYTES {
@@ -173,7 +173,7 @@ fn tokens_up_to_twelve(rt: HostRuntime) -> Result<(), Fail> {
     Ok(())
 }
 
-/// Four tokens, of which three take 299 bytes with the spaces between them: all after `start`, and
+/// Four tokens, three of them with 299 bytes and the spaces between them: all after `start`, and
 /// the last, of this length, after `gap`.
 fn token_list(
     alloc: Global,
@@ -195,7 +195,7 @@ fn token_list(
     Ok(text)
 }
 
-/// Four tokens, of which the last has this length, are sent with this before the last.
+/// Four tokens, the last with this length, are sent with this before the last.
 fn check_four_tokens<R: AllocGlobal + Abort>(rt: &R, len: usize, gap: &[u8]) -> Result<(), Fail> {
     let told = token_list(rt.alloc(), b":s 005 Me", b" ", len, b" :are supported")?;
     let end = b" :are supported by this server\r\n";

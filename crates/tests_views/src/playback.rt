@@ -53,7 +53,7 @@ impl Rows for Playbacks<'_> {
 }
 
 /// What is played of the messages of these lines above a mark, by a profile.
-fn check_played_by<R: AllocGlobal + Abort>(
+pub(crate) fn check_played_by<R: AllocGlobal + Abort>(
     rt: &R,
     playing: Playing,
     texts: &[&[u8]],
@@ -213,7 +213,7 @@ const MESSAGES_ABOVE_A_MARK: [(&[u8], &[u8]); 2] = [
     ),
 ];
 
-/// Those of the last messages that stand above the mark, one of them for us.
+/// Those of the last messages that are above the mark, one of them for us.
 #[test]
 fn messages_above_a_mark(rt: HostRuntime) -> Result<(), Fail> {
     check_played(

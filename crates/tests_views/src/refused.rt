@@ -47,7 +47,7 @@ const ITS_LINES: &[u8] = b":s 001 Me hi\r\n\
     :bob!b@h NICK rob\r\n\
     :s MODE #c -o rob\r\n";
 
-/// Feeds a piece. Where that is refused, nothing has changed, and the piece is fed again.
+/// Feeds a piece. If that is refused, nothing has changed, and the piece is fed again.
 fn feed<R: AllocGlobal + Abort, A: Allocator + Copy>(
     rt: &R,
     splitter: &mut Splitter<A>,

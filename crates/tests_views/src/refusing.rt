@@ -4,7 +4,7 @@
 use std::alloc::{AllocError, Allocator};
 use std::cell::Cell;
 
-/// Another allocator, of which one allocation is refused, as if there were no memory left then.
+/// Another allocator, which refuses one allocation, as if there were no memory left then.
 pub(crate) struct Refusing<B: Allocator> {
     inner: B,
     /// How many allocations there are up to the refused one; 0 if none is to be refused, or it

@@ -4,7 +4,7 @@ ghost use Rattle.std.specs.Prelude.{IfOk};
 ghost use Rattle.std.specs.List.{AllByRecursion};
 ghost use Rattle.history.specs.Entry.{IsWrittenEntry};
 
-use client_caps::{Moment, time_text};
+use client_caps::{Moment, shown_time};
 use history::{Entry, History};
 use std::alloc::Global;
 use std::marker::Model;
@@ -35,10 +35,11 @@ impl SaidLines {
         })
     }
 
-    /// Adds the message of a line that came at this moment.
+    /// Adds the message of a line that came at this moment, unless it has a time of its own.
     fn add(&mut self, alloc: Global, text: &[u8], moment: Moment) -> Result<(), Fail> {
-        let time = time_text(moment);
-        let entry = Entry::of_message(alloc, &time, &line(alloc, text)?)?;
+        let line = line(alloc, text)?;
+        let time = shown_time(&line, moment);
+        let entry = Entry::of_message(alloc, &time, &line)?;
         let entry = entry.ok_or("a message")?;
         let _number = self.history.add(entry);
         Ok(())

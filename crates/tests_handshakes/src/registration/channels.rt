@@ -3,9 +3,10 @@
 use super::registers;
 use crate::settings::{network_of, text_with};
 use bnc_config::Config;
+use irc_names::CaseMapping;
 use std::test::Fail;
 use test_texts::texts_of;
-use upstream::channel_lines;
+use upstream::{channel_lines, channel_lines_by};
 
 /// Keys of a network with a password and channels, one of which has a key.
 const MORE: &str = "password = \"secret\"\njoin = [\"#c\", \"#d key\", \"&x\"]\n";
@@ -53,6 +54,31 @@ fn channels_with_keys(rt: HostRuntime) -> Result<(), Fail> {
     )?;
     let lines = channel_lines(rt.alloc(), network_of(&config)?)?;
     assert!(rt; texts_of(rt.alloc(), lines.as_slice())?.as_slice() == b"JOIN #c k".as_slice());
+    Ok(())
+}
+
+/// Channels whose names are spelled in other letters among the keys.
+const SPELLED: &str = "join = [\"#a{B\", \"#x~\", \"#y\"]\n\
+    keys = { \"#A[b\" = \"k\", \"#x^\" = \"l\", \"#Y\" = \"m\" }\n";
+
+/// A mapping, and the lines.
+const BY_MAPPING: [(CaseMapping, &str); 3] = [
+    (CaseMapping::Ascii, "JOIN #a{B / JOIN #x~ / JOIN #y m"),
+    (CaseMapping::Rfc1459, "JOIN #a{B k / JOIN #x~ l / JOIN #y m"),
+    (CaseMapping::Strict, "JOIN #a{B k / JOIN #x~ / JOIN #y m"),
+];
+
+#[test]
+fn keys_by_the_network_s_mapping(rt: HostRuntime) -> Result<(), Fail> {
+    let config = Config::read(
+        rt.alloc(),
+        text_with(rt.alloc(), SPELLED)?.as_str().as_bytes(),
+    )?;
+    for (mapping, want) in &BY_MAPPING {
+        let lines = channel_lines_by(rt.alloc(), network_of(&config)?, *mapping)?;
+        let found = texts_of(rt.alloc(), lines.as_slice())?;
+        assert!(rt; found.as_slice() == want.as_bytes(), "at {want}");
+    }
     Ok(())
 }
 

@@ -2,8 +2,9 @@
 //!
 //! `up TEXT` is a line of the network, `piece TEXT` bytes of it without LF, `lost` the loss of the
 //! connection. `attach CAPS NAME CAPACITY` attaches a client, with `-` for no capabilities and for
-//! no name; `detach ID` detaches a session; `said ID LINE` is a line of its client. `drained ID N`
-//! takes packets out of a session's outlet, `sent N` out of the one to the network.
+//! no name; `detach ID` detaches a session; `leave ID N` leaves its name at that message, with `-`
+//! for no number; `said ID LINE` is a line of its client. `drained ID N` takes packets out of a
+//! session's outlet, `sent N` out of the one to the network.
 
 use client_caps::{Caps, Moment, read_request};
 use hub_runs::Event;
@@ -55,6 +56,23 @@ fn attach(alloc: Global, text: &[u8]) -> Result<Event, Fail> {
     Ok(Event::Attach(caps(alloc, asked)?, name, capacity as usize))
 }
 
+/// The event of a session, by its word and what follows the session's number.
+fn event_of_session(alloc: Global, word: &[u8], id: u64, text: &[u8]) -> Result<Event, Fail> {
+    if word == b"detach".as_slice() {
+        return Ok(Event::Detach(id));
+    }
+    if word == b"leave".as_slice() && text == b"-".as_slice() {
+        return Ok(Event::Leave(id, None));
+    }
+    if word == b"leave".as_slice() {
+        return Ok(Event::Leave(id, Some(number(text)?)));
+    }
+    if word == b"drained".as_slice() {
+        return Ok(Event::Drained(Some(id), number(text)? as usize));
+    }
+    Ok(Event::Said(id, line(alloc, text)?, Moment(0)))
+}
+
 /// The event of a line of text.
 fn event(alloc: Global, text: &[u8]) -> Result<Event, Fail> {
     let (word, rest) = cut(b' ', text);
@@ -75,15 +93,7 @@ fn event(alloc: Global, text: &[u8]) -> Result<Event, Fail> {
         return Ok(Event::Drained(None, number(rest)? as usize));
     }
     let (id, after) = cut(b' ', rest);
-    let id = number(id)?;
-    if word == b"detach".as_slice() {
-        return Ok(Event::Detach(id));
-    }
-    let after = after.unwrap_or(b"");
-    if word == b"drained".as_slice() {
-        return Ok(Event::Drained(Some(id), number(after)? as usize));
-    }
-    Ok(Event::Said(id, line(alloc, after)?, Moment(0)))
+    event_of_session(alloc, word, number(id)?, after.unwrap_or(b""))
 }
 
 /// A welcome and our own JOIN.

@@ -7,7 +7,7 @@ use crate::hub_rows::scripts::{Story, check_client};
 use std::process::Abort;
 use std::test::Fail;
 
-/// Three clients, of which two have the same capabilities: a message comes, then the first speaks,
+/// Three clients, two with the same capabilities: a message comes, then the first speaks,
 /// then the third.
 const OF_THREE: [&[u8]; 6] = [
     b"attach - - 8",

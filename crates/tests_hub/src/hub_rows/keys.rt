@@ -77,7 +77,7 @@ const KEYS: [(&[&[u8]], &[u8], &[u8]); 38] = [
         b"#k",
         b"bees",
     ),
-    // a key that is no word can't stand in a list again
+    // a key that is no word can't be in a list again
     (&[b"said 0 JOIN #k :two words", JOINED], b"#k", b""),
     (&[b"said 0 JOIN #k ::bees", JOINED], b"#k", b""),
     (
@@ -101,7 +101,7 @@ const KEYS: [(&[&[u8]], &[u8], &[u8]); 38] = [
         b"#k",
         b"bees",
     ),
-    // who is not on the channel any more knows no key of it
+    // who is no longer on the channel knows no key of it
     (&[SAID, JOINED, b"up :Me!m@h PART #K"], b"#k", b""),
     (&[SAID, JOINED, b"up :bob!b@h KICK #k Me :out"], b"#k", b""),
     (

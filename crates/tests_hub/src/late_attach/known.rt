@@ -115,10 +115,10 @@ fn is_known(
     is_top_after(alloc, before, channel, &name, rank)
 }
 
-/// What the last of some lines tells of a member's rank.
+/// What the last of some lines says about a member's rank.
 #[derive(Drop)]
 enum Told {
-    /// Whether the client knows of it.
+    /// Whether the client knows it.
     Known(bool),
     /// That the member had another name before.
     Under(Vec<u8>),
@@ -136,7 +136,7 @@ fn is_top_after(
     Ok(top_after(alloc, lines, channel, nick)? == Some(rank))
 }
 
-/// What the last of these lines tells.
+/// What the last of these lines says.
 fn told_last(
     alloc: Global,
     lines: &[&[u8]],

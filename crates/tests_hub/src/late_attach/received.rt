@@ -39,7 +39,7 @@ fn request(alloc: Global, old: Caps, new: Caps) -> Result<Event, Fail> {
 }
 
 /// The lines of a session, with the client that comes among them; and its request for the last
-/// client's capabilities, after as many lines as that one came after.
+/// client's capabilities, after the same number of lines as that one.
 fn events_of(
     alloc: Global,
     session: &[&[u8]],

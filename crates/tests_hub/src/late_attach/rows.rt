@@ -63,7 +63,7 @@ fn ranks_for_each_set(rt: HostRuntime) -> Result<(), Fail> {
     Ok(())
 }
 
-/// A person joins two channels, and only the first JOIN tells of the account.
+/// A person joins two channels, and only the first JOIN gives the account.
 const ACCOUNT: [&[u8]; 7] = [
     b":s 001 Me :hi",
     b":s 005 Me PREFIX=(ov)@+ CHANTYPES=# :are supported",

@@ -64,7 +64,7 @@ fn another_attaches<R: AllocGlobal + Abort>(
     Ok(())
 }
 
-/// 64 clients with other names attach, as many as a network has names and sessions for.
+/// 64 clients with other names attach, the most that a network has names and sessions for.
 fn all_others_attach<R: AllocGlobal + Abort>(rt: &R, hub: &mut QuickHub) -> Result<(), Fail> {
     for name in NAMES.chunks(1) {
         another_attaches(rt, hub, name)?;

@@ -32,8 +32,8 @@ fn hub_of(run: Run<QuickView>) -> QuickHub {
     hub
 }
 
-/// The hub after a welcome, our own JOIN and a script. It is the test's own: if memory is refused
-/// for it, the test ends.
+/// The hub after a welcome, our own JOIN and a script. It is the test's own: if an allocation is
+/// refused for it, the test ends.
 pub(crate) fn hub_after(alloc: Global, script: &[&[u8]]) -> Result<QuickHub, Fail> {
     let events = events_of(alloc, &WELCOME, script)?;
     let run = run(alloc, QuickView::new(alloc)?, SETUP, UPSTREAM, &events)?;

@@ -117,3 +117,40 @@ fn a_join_by_keys(rt: HostRuntime) -> Result<(), Fail> {
     is_joined_by(&rt, &mut hub, b":Me!m@h JOIN #l", b"#l", b"wasps")?;
     is_joined_by(&rt, &mut hub, b":Me!m@h JOIN #k", b"#k", b"bees")
 }
+
+/// A key of a channel is expected. A refusal changes nothing: what a client asked by still counts.
+fn expects_a_key<R: AllocGlobal + Abort>(rt: &R, hub: &mut QuickHub) -> Result<(), Fail> {
+    match hub.expect_key(b"#k", b"wasps") {
+        Ok(()) => Ok(()),
+        Err(_) => {
+            is_joined_by(rt, hub, b":Me!m@h JOIN #k", b"#k", b"ants")?;
+            again(hub.expect_key(b"#k", b"wasps"))
+        }
+    }
+}
+
+/// A key that is expected counts as that of a JOIN: it is known once our own JOIN comes, and outlives a
+/// loss then; without one it does not.
+#[test]
+fn a_key_that_is_expected(rt: HostRuntime) -> Result<(), Fail> {
+    let script: [&[u8]; 2] = [b"attach - - 8", b"said 0 JOIN #k ants"];
+    let mut hub = hub_after(rt.alloc(), &script)?;
+    expects_a_key(&rt, &mut hub)?;
+    is_joined_by(&rt, &mut hub, b":Me!m@h JOIN #k", b"#k", b"wasps")?;
+    takes(&rt, &mut hub, Item::Lost)?;
+    assert!(&rt; hub.joined_key(b"#k") == Some(b"wasps"));
+    hub.expect_key(b"#l", b"ants")?;
+    takes(&rt, &mut hub, Item::Lost)?;
+    takes(
+        &rt,
+        &mut hub,
+        Item::Line(line(rt.alloc(), b":s 001 Me :hi")?),
+    )?;
+    takes(
+        &rt,
+        &mut hub,
+        Item::Line(line(rt.alloc(), b":Me!m@h JOIN #l")?),
+    )?;
+    assert!(&rt; hub.joined_key(b"#l") == None);
+    Ok(())
+}

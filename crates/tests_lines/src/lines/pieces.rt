@@ -30,7 +30,7 @@ fn is_too_long<R: AllocGlobal + Abort>(
     assert!(rt; fed == Err(FeedError::TooLong) && lines.len() == count);
 }
 
-/// Two pieces of a line, of which the first has no end.
+/// Two pieces of a line; the first has no end.
 fn feed_two<R: AllocGlobal + Abort>(
     rt: &R,
     splitter: &mut Splitter,

@@ -6,7 +6,7 @@ use std::alloc::{Allocator, Global};
 use std::process::Abort;
 use std::test::Fail;
 
-/// All that a history's readers tell: each message with its number, and the counts.
+/// All that a history's readers say: each message with its number, and the counts.
 fn all_kept<A: Allocator>(alloc: Global, history: &History<A>) -> Result<Vec<u8>, Fail> {
     let mut text = Vec::new(alloc);
     for place in 0..history.len() {
@@ -34,7 +34,7 @@ fn push<A: Allocator + Copy + Drop>(
     history.push(b"now", b"bob!b@h", b"PRIVMSG", target, text)
 }
 
-/// Keeps a message, with the next number. Where that is refused, nothing has changed, and it is
+/// Keeps a message, with the next number. If that is refused, nothing has changed, and it is
 /// kept then.
 fn push_again<R: AllocGlobal + Abort, A: Allocator + Copy + Drop>(
     rt: &R,

@@ -25,7 +25,7 @@ fn all_shown<V: NetworkView>(alloc: Global, view: &V) -> Result<Vec<u8>, Fail> {
     Ok(text)
 }
 
-/// Takes an item. Where that is refused, the view shows what it showed, and takes it then.
+/// Takes an item. If that is refused, the view shows what it showed, and takes it then.
 fn take<R: AllocGlobal + Abort, V: NetworkView>(
     rt: &R,
     view: &mut V,
@@ -41,7 +41,7 @@ fn take<R: AllocGlobal + Abort, V: NetworkView>(
     }
 }
 
-/// Takes items, of which one is refused, into a view, which shows in the end what it shows with
+/// Takes items, one of which is refused, into a view, which shows in the end what it shows with
 /// memory.
 fn take_all<R: AllocGlobal + Abort, V: NetworkView>(
     rt: &R,
@@ -106,7 +106,7 @@ fn lines_that_the_searching_view_takes(rt: HostRuntime) -> Result<(), Fail> {
     Err(Fail::new(format_args!("refused on and on")))
 }
 
-/// The view by tables enters all that a line tells, or nothing.
+/// The view by tables enters all that a line says, or nothing.
 #[test]
 fn lines_that_the_view_by_tables_takes(rt: HostRuntime) -> Result<(), Fail> {
     let wanted = all_shown(rt.alloc(), &quick_of(rt.alloc(), &TEXTS)?)?;

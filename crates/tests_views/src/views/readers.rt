@@ -132,7 +132,7 @@ fn no_account_of_what_is_no_nick(rt: HostRuntime) -> Result<(), Fail> {
     )
 }
 
-/// Whether a line tells that bob left a channel.
+/// Whether a line says that bob left a channel.
 fn tells_of_a_part(line: &Line) -> bool {
     match told(line) {
         Telling::Parted { channel, who } => {
@@ -142,7 +142,7 @@ fn tells_of_a_part(line: &Line) -> bool {
     }
 }
 
-/// The command of a line, and what the line tells.
+/// The command of a line, and what the line says.
 #[test]
 fn what_one_line_tells(rt: HostRuntime) -> Result<(), Fail> {
     let part = line(rt.alloc(), b":bob!b@h part #c")?;

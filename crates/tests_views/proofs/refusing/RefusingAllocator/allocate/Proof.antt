@@ -1,4 +1,4 @@
--- It refuses where the count says so, and else answers what the inner allocator answers. Assumes `Logic`.
+-- It refuses if the count says so, and else answers what the inner one answers. Assumes `Logic`.
 use seplogic.Ra.Ura.{Ura}
 use mir.{Syntax.{Ty, Args, Fn, a_type, dnil, dcons}, Val.{Val, vbool, vint, vptr}, MapTy.inst_fn}
 use base.{Logic.{SProp, ent, id⊢, ex, sep, guard}, Fml.{Lft, Share, ftrue, flft, fsep}}
