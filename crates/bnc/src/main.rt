@@ -9,14 +9,15 @@ mod serve;
 
 use crate::serve::serve_file;
 use commands::{
-    Command, Fault, WordsFault, attach_file, check_file, explain_words, log_file, print_password,
-    read_words, run_attach, run_view, send_control, setup_file, tell_bad_words, tell_fault,
+    Command, Fault, WordsFault, attach_file, check_file, explain_caps, explain_words, log_file,
+    print_password, read_words, run_attach, run_view, send_control, setup_file, tell_bad_words,
+    tell_fault,
 };
 use journal_files::Disk;
 use serving::Publish;
 use std::alloc::{AllocError, Global};
 use std::fs::File;
-use std::io::ErrorKind;
+use std::io::{ErrorKind, IsTerminal};
 use std::net::{Net, TcpListener, TcpStream};
 use std::process::ExitCode;
 use std::random::RandomSource;
@@ -54,10 +55,13 @@ fn command_of<R: AllocGlobal + Env>(rt: &R) -> Result<Command, WordsFault> {
 fn explanation_of<R: AllocGlobal + Env>(rt: &R) -> Result<Option<String>, WordsFault> {
     let words = words_of(rt)?;
     let words = lent(rt.alloc(), words.as_slice())?;
-    Ok(explain_words(rt.alloc(), words.as_slice())?)
+    match explain_words(rt.alloc(), words.as_slice())? {
+        Some(text) => Ok(Some(text)),
+        None => Ok(explain_caps(rt.alloc(), words.as_slice())?),
+    }
 }
 
-/// Tells that the words after the program's name ask for nothing, and what is wrong with them.
+/// Reports a bad command line, and what is wrong with it.
 fn refuse_words<R: AllocGlobal + Env + Eprint>(rt: &R) -> ExitCode
     ensures { exit_status result ≡ 2 }
 {
@@ -67,7 +71,7 @@ fn refuse_words<R: AllocGlobal + Env + Eprint>(rt: &R) -> ExitCode
     }
 }
 
-/// Does what the command line asks for.
+/// Does what the command line asks for. `is_typed`: whether standard input is a terminal.
 fn run<
     R: AllocGlobal
         + Files<File = File>
@@ -86,7 +90,7 @@ fn run<
         + Sync
         + Drop
         + 'static,
->(rt: R, command: &Command) -> Result<(), Fault> {
+>(rt: R, command: &Command, is_typed: bool) -> Result<(), Fault> {
     match command {
         Command::View => run_view(rt.alloc(), &mut rt.reader(), &mut io::writer(&rt)),
         Command::Attach(caps, history) => run_attach(
@@ -100,7 +104,7 @@ fn run<
             attach_file(&rt, path.as_str(), *caps, *history)
         }
         Command::Check(path) => check_file(&rt, path.as_str()),
-        Command::Setup(path) => setup_file(&rt, path.as_str()),
+        Command::Setup(path) => setup_file(&rt, path.as_str(), is_typed),
         Command::Log(path) => log_file(&rt, path.as_str()),
         Command::Password => print_password(&rt),
         Command::Control(control) => send_control(&rt, control),
@@ -110,7 +114,7 @@ fn run<
 
 fn main(rt: HostRuntime) -> ExitCode {
     let done = match command_of(&rt) {
-        Ok(command) => run(rt, &command),
+        Ok(command) => run(rt, &command, rt.stdin().is_terminal()),
         Err(WordsFault::Help(text)) => print!(rt; "{text}").map_err(|_| Fault::CannotWrite),
         Err(WordsFault::OutOfMemory) => Err(Fault::OutOfMemory),
         Err(WordsFault::Bad) => return refuse_words(&rt),

@@ -44,8 +44,8 @@ impl<R: AllocGlobal + Files> Source for SettingsFile<'_, R> {
     }
 }
 
-/// Where connections come in: a listener, the one by which the thread that accepts there is woken,
-/// a second descriptor taken while there are some, and whether proxies name their clients there.
+/// Where connections come in: a listener, a second descriptor of it that wakes the thread that accepts
+/// there, taken while there are some, its address, and whether proxies name their clients there.
 #[derive(Drop)]
 struct Door {
     listener: TcpListener,
@@ -103,8 +103,8 @@ fn open_file<R: AllocGlobal + Files + Eprint + Net<Listener = TcpListener, Strea
     Ok((config, doors))
 }
 
-/// A path that the settings at another one name, if they do: if it begins with no slash it is one from
-/// the folder of the settings.
+/// The path that a settings file names, if it names one. A path that begins with no slash is taken from
+/// the folder of the settings file.
 fn path_by(
     alloc: Global,
     settings: &str,
@@ -148,7 +148,7 @@ fn start_all<
 
 /// Obeys the words that come by the FIFO beside the settings file, if there is one; whether one asks
 /// to stop.
-fn is_told_to_stop<
+fn is_asked_to_stop<
     R: Host
         + AllocGlobal
         + Files<File = File>
@@ -216,7 +216,7 @@ pub fn serve_file<
         }
     }
     let (wakers, accepting) = start_doors(rt, &shared, doors)?;
-    if !is_told_to_stop(rt, path, &shared) {
+    if !is_asked_to_stop(rt, path, &shared) {
         for thread in accepting {
             thread.join(&rt);
         }
