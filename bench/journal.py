@@ -101,7 +101,7 @@ class Reader:
 
 
 def read_all(readers, count, network_done):
-    """Reads until each session has so many lines, with all else left to another process."""
+    """Reads until each session has this many lines, with all else left to another process."""
     with selectors.DefaultSelector() as selector:
         for reader in readers:
             selector.register(reader.socket, selectors.EVENT_READ, reader)

@@ -6,8 +6,8 @@
 #   run.sh kept CAPACITY TARGETS               what the messages that are kept cost
 #
 # The gate reads each .rt file of the repository, and the programs are no crates of it. So their
-# files stand here as text, and are built in the folder BNC_BENCH, or else ~/bnc_bench, beside copies
-# of the crates below, which are made where there is no such folder yet.
+# files are here as text, and are built in the folder BNC_BENCH, or else ~/bnc_bench, beside copies
+# of the crates below, which are made if there is no such folder yet.
 set -eu
 here="$(cd "$(dirname "$0")" && pwd)"
 top="$(cd "$here/.." && pwd)"
@@ -15,7 +15,7 @@ there="${BNC_BENCH:-$HOME/bnc_bench}"
 program="$1"
 shift
 below="irc_names irc_line irc_support net_view block_list network_tables quick_view client_caps"
-below="$below history frames journal welcome hub_ends hub_core hub_threads"
+below="$below history frames journal welcome hub_ends hub_core receipts hub_threads"
 if [ ! -d "$there" ]; then
     mkdir -p "$there/crates"
     git init -q "$there"

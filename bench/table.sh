@@ -1,12 +1,12 @@
 #!/usr/bin/env bash
-# Measures bnc beside ZNC and bip, where these are installed (Debian: apt install znc bip), and bnc's
+# Measures bnc beside ZNC and bip, if these are installed (Debian: apt install znc bip), and bnc's
 # view beside plain Rust, in turn, and prints the medians side by side:
 #
 #   bench/table.sh ~/.local/bin/bnc [ROUNDS [STEP..]]
 #
-# The steps are lines, attach, many, listening and view; all where none is named, and three rounds.
+# The steps are lines, attach, many, listening and view; all if none is named, and three rounds.
 # It uses two ports of the loopback range, 26660 and 26667. It is not for root, for whom ZNC waits
-# half a minute before it starts. rustc builds what it needs into bench/out, where that is empty.
+# half a minute before it starts. rustc builds what it needs into bench/out, if that is empty.
 set -eu
 bnc=$1 rounds=${2:-3}
 shift $(($# < 2 ? $# : 2))

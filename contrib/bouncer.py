@@ -75,6 +75,12 @@ class Bouncer:
         self.reloads += 1
         wait_for("reload", lambda: self.log.read_text().count(" reloaded: networks ") >= self.reloads)
 
+    def has_ended(self, name, network, port):
+        """Whether the session of a client name that logged in from this port has ended, by the log."""
+        who = f" ann@{name}/{network}: "
+        _, came, since = self.log.read_text().rpartition(f"{who}logged in from 127.0.0.1:{port},")
+        return came != "" and f"{who}session ended: " in since
+
     def wait_for_end(self):
         """Waits until bnc has ended by itself."""
         try:

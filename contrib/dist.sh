@@ -15,7 +15,7 @@ cd "$(dirname "$0")/.."
 name=bnc-x86_64-linux-gnu
 built=crates/bnc/out/bnc
 
-# bnc and the crates that it stands on, as crates.txt has them
+# bnc and the crates that it uses, as crates.txt has them
 crates() {
   local known=bnc before=
   while [ "$known" != "$before" ]; do

@@ -76,14 +76,23 @@ if [ "$(id -u)" = 0 ] && [ -d /run/systemd/system ]; then
   start='systemctl enable --now bnc'
 fi
 
+# a path as it is typed: in quotes if it has a space or another character that the shell reads
+typed() {
+  case $1 in
+    *[!A-Za-z0-9_./,:@%+=~-]*) printf "'%s'" "$(printf '%s' "$1" | sed "s/'/'\\\\''/g")" ;;
+    *) printf '%s' "$1" ;;
+  esac
+}
+
 # what to type next
 bnc=bnc
 case ":$PATH:" in
   *":$prefix/bin:"*) ;;
-  *) bnc=$prefix/bin/bnc
+  *) bnc=$(typed "$prefix/bin/bnc")
      echo "$prefix/bin is not in your PATH, so call it by its whole name" ;;
 esac
+file=$(typed "$settings")
 echo 'next:'
-echo "  \${EDITOR:-vi} $settings        # your network and your nick"
-echo "  $bnc check $settings"
-echo "  ${start:-$bnc serve $settings}"
+echo "  \${EDITOR:-vi} $file        # your network and your nick"
+echo "  $bnc check $file"
+echo "  ${start:-$bnc serve $file}"

@@ -1,5 +1,5 @@
 #!/usr/bin/env bash
-# Proves bnc and the crates that it stands on, leaves the program at crates/bnc/out/bnc, and compares
+# Proves bnc and the crates that it uses, leaves the program at crates/bnc/out/bnc, and compares
 # it with the one that dist/ hands out, if dist/ is there.
 #
 # `rt ci` does it, in a folder with a copy of these crates alone, without their planted bugs: as many

@@ -14,6 +14,7 @@ class Past:
         self.since = []  # what it was sent since it had taken all
         self.unsure = []  # lists of messages, of each of which it may have taken the first ones
         self.got, self.own = collections.defaultdict(list), collections.defaultdict(set)
+        self.again = collections.defaultdict(set)  # what a name may get again, whose client vanished
         self.channels = set()  # those to be joined when this name is served again
 
     def take(self):
@@ -28,7 +29,10 @@ class Past:
         self.since = []
 
     def compare(self):
-        """Each client name must have got every message once, but for its own."""
+        """Each client name must have got every message once, but for its own.
+
+        What a client had got or said that then vanished, its name may have got more often.
+        """
         counts = {name: collections.Counter(got) for name, got in self.got.items()}
         everything = set(self.sent)
         for group in self.unsure:
@@ -38,8 +42,10 @@ class Past:
             everything.update(taken)
         for name, count in counts.items():
             expected = everything - self.own[name]
+            may_repeat = self.again[name]
             wrong = {message: count[message] for message in expected if count[message] != 1}
             wrong |= {message: count[message] for message in set(count) - expected}
+            wrong = {m: n for m, n in wrong.items() if m not in may_repeat or n == 0 and m in expected}
             if wrong:
                 raise Wrong(f"{name} got so often: {wrong}")
 

@@ -56,7 +56,7 @@ done
 status=0
 wait "$asks" || status=$?
 if [ "$status" = 0 ]; then
-  sed -i "s|^retry = .*|&\nkept = \"$kept\"|" "$file"
+  sed -i "s|^#kept = .*|kept = \"$kept\"|" "$file"
   [ -e "$file.control" ] || mkfifo -m 600 "$file.control"
 fi
 exit "$status"

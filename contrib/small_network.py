@@ -1,6 +1,7 @@
 """A small IRC network on the loopback range, bnc at it, and clients.
 
-For random_network.py, try_random.py, try_sasl.py, try_services.py, try_networks.py, try_metrics.py and demo.py.
+For random_network.py, try_random.py, try_vanished.py, try_sasl.py, try_services.py, try_networks.py,
+try_metrics.py and demo.py.
 """
 
 import base64
@@ -9,7 +10,10 @@ import collections
 import contextlib
 import hashlib
 import os
+import pathlib
+import re
 import socket
+import struct
 import subprocess
 import tempfile
 import threading
@@ -50,12 +54,37 @@ def wait_for(what, is_there, meanwhile=lambda: time.sleep(0.002)):
         meanwhile()
 
 
-def reserve_port():
+def reserve_port(host="127.0.0.1"):
     """A socket that keeps a free port for bnc: both may bind it, since this one never listens."""
-    reserved = socket.socket()
+    reserved = socket.socket(socket.AF_INET6 if ":" in host else socket.AF_INET)
     reserved.setsockopt(socket.SOL_SOCKET, socket.SO_REUSEADDR, 1)
-    reserved.bind(("127.0.0.1", 0))
+    reserved.bind((host, 0))
     return reserved
+
+
+def sound_texts(data):
+    """The texts of the whole frames at the beginning of a journal.
+
+    A frame is the length of its text in four bytes, the text's SHA-256, and the text.
+    """
+    texts, at = [], 0
+    while True:
+        size = int.from_bytes(data[at : at + 4], "big")
+        text = data[at + 36 : at + 36 + size]
+        if len(text) < size or hashlib.sha256(text).digest() != data[at + 4 : at + 36]:
+            return texts
+        texts.append(text)
+        at += 36 + size
+
+
+def marks_of(path):
+    """The last mark of each client name in a journal: its word, MARK or SEEN, and its number.
+
+    There is none before the file is there.
+    """
+    text = b"".join(sound_texts(path.read_bytes() if path.exists() else b""))
+    found = re.findall(rb"^(MARK|SEEN) (\S+) (\d+)\r?$", text, re.MULTILINE)
+    return {name.decode(): (word.decode(), int(number)) for word, name, number in found}
 
 
 class Channel:
@@ -93,6 +122,7 @@ class Client:
         self.nick, self.channels, self.messages = None, {}, []
         self.marks, self.last, self.wrong = set(), collections.deque(maxlen=5), None
         self.is_welcome, self.lock, self.is_closed = False, threading.Lock(), threading.Event()
+        self.pongs = 0
         self.socket = socket.create_connection((host, port), PATIENCE)
         hello = before + ("CAP LS 302\r\n" if caps else "")
         hello += f"PASS ann@{name}/{network}:bc\r\nNICK x\r\nUSER x 0 * :x\r\n"
@@ -138,6 +168,8 @@ class Client:
             self.nick, self.channels = params[0], {}
         elif command == "422":
             self.is_welcome = True
+        elif command == "PONG":
+            self.pongs += 1
         elif command == "332":
             self.channels[params[1]].topic = params[2]
         elif command == "TOPIC":
@@ -181,6 +213,14 @@ class Client:
 
     def say(self, line):
         self.socket.sendall(line.encode() + b"\r\n")
+
+    def reset(self):
+        """Its connection is reset, as of a client that vanished; what comes of it after that is nothing."""
+        self.socket.setsockopt(socket.SOL_SOCKET, socket.SO_LINGER, struct.pack("ii", 1, 0))
+        self.socket.shutdown(socket.SHUT_RD)
+        if not self.is_closed.wait(PATIENCE):
+            raise Wrong(f"{self.name} still reads")
+        self.socket.close()
 
     def compare(self, network):
         """Compares what this client knows with what the network does."""
@@ -352,14 +392,16 @@ class Network:
 
 
 @contextlib.contextmanager
-def serving(program, network, join, more="", log=None, top="", listen=None):
+def serving(program, network, join, more="", log=None, top="", listen=None, path_of=None, told=()):
     """Runs bnc, which joins these channels of the network, and gives the port of its clients.
 
     `more` has further keys of the network, `top` those above it, and `listen` where bnc listens if
-    not at that port alone; "PORT" stands for it. It ends bnc at the end, and adds the end of its log to
-    what was wrong; a list `log` gets the whole of it.
+    not at that port alone; "PORT" stands for it. It ends bnc at the end, once its log has each text of
+    `told`, since a thread of its own writes that, and adds the end of its log to what was wrong; a list
+    `log` gets the whole of it, and a list `path_of` the path of the settings, with which it takes control
+    words.
     """
-    reserved = reserve_port()
+    reserved = reserve_port("::1" if listen and "[::1]:PORT" in listen else "127.0.0.1")
     client_port = reserved.getsockname()[1]
     host, port = network.listener.getsockname()[:2]
     settings = SETTINGS.format(
@@ -374,16 +416,20 @@ def serving(program, network, join, more="", log=None, top="", listen=None):
         path = os.path.join(folder, "bnc.toml")
         with open(path, "w", encoding="utf-8", opener=lambda p, f: os.open(p, f, 0o600)) as file:
             file.write(settings)
-        with open(os.path.join(folder, "log"), "w+", encoding="utf-8") as out:
+        if path_of is not None:
+            path_of.append(path)
+            os.mkfifo(f"{path}.control", 0o600)
+        written = pathlib.Path(folder, "log")
+        with written.open("w", encoding="utf-8") as out:
             bnc = subprocess.Popen([program, "serve", path], stdout=out, stderr=out)
             try:
                 yield client_port
+                for text in told:
+                    wait_for(f"'{text}' in the log", lambda: text in written.read_text())  # noqa: B023
             except (Wrong, OSError) as wrong:
-                out.seek(0)
-                raise Wrong(f"{wrong}\n{out.read()[-600:]}") from wrong
+                raise Wrong(f"{wrong}\n{written.read_text()[-600:]}") from wrong
             finally:
                 bnc.kill()
                 bnc.wait(PATIENCE)
                 if log is not None:
-                    out.seek(0)
-                    log.append(out.read())
+                    log.append(written.read_text())

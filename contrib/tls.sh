@@ -26,9 +26,25 @@ done
 shift $((OPTIND - 1))
 key=${key:-$certificate}
 base=${file%.toml}
+for network; do
+  case $network in
+    *[!0-9]*=* | =* | *=:* | *=*:*[!0-9]* | *: ) usage ;;
+    *=*:*) ;;
+    *) usage ;;
+  esac
+done
 
-# the text at a key of the top of the settings, or the first of a list of them
-text_at() { sed -n "/^\[/q; s/^$1 *= *\[\{0,1\} *\"\([^\"]*\)\".*/\1/p" "$file"; }
+# the first text at a key of the top of the settings, in quotes of either kind, also of a list
+text_at() {
+  awk -v key="$1" -v quotes="[\"']" '
+    /^[ \t]*\[[^"]*\]?[ \t]*(#.*)?$/ && !is_value { exit }
+    $0 ~ "^[ \t]*" key "[ \t]*=" { is_value = 1; sub(/^[^=]*=/, "") }
+    is_value { sub(/^[ \t]*#.*/, "") }
+    is_value && match($0, quotes) {
+      quote = substr($0, RSTART, 1); text = substr($0, RSTART + 1)
+      print substr(text, 1, index(text, quote) - 1); exit
+    }' "$file"
+}
 
 clients=$(text_at listen_proxy) protocol='protocol = proxy'
 if [ -z "$clients" ]; then clients=$(text_at listen) protocol=''; fi
@@ -82,7 +98,7 @@ END
   done
 } > "$base.stunnel.conf"
 for network; do
-  if ! grep -q "^address *= *\"127\.0\.0\.1:${network%%=*}\"" "$file"; then
+  if ! grep -q "^[[:blank:]]*address *= *[\"']127\.0\.0\.1:${network%%=*}[\"']" "$file"; then
     echo "tls: no network of $file has the address 127.0.0.1:${network%%=*}" >&2
   fi
 done

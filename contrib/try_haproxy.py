@@ -117,6 +117,15 @@ class Client:
         await self.task
 
 
+async def end_tasks(server):
+    """Ends the network and what still reads, so that nothing is left when the loop closes."""
+    server.close()
+    others = asyncio.all_tasks() - {asyncio.current_task()}
+    for task in others:
+        task.cancel()
+    await asyncio.gather(*others, return_exceptions=True)
+
+
 def memory(pid):
     """The MiB that a process has for itself."""
     text = pathlib.Path(f"/proc/{pid}/smaps_rollup").read_text()
@@ -288,6 +297,7 @@ async def trial(program, count, folder):
         raise
     finally:
         front.end()
+        await end_tasks(server)
 
 
 def main():

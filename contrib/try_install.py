@@ -121,7 +121,7 @@ def install(newcomer):
 
 
 def chat(newcomer, password):
-    """A network is named, a client logs in, hears what is said, and bnc is told to stop."""
+    """A network is named, a client logs in, hears what is said, and bnc is asked to stop."""
     network = Network(["#c"])
     port = network.listener.getsockname()[1]
     newcomer.type(EDIT, f"sed -i s/127.0.0.1:6660/127.0.0.1:{port}/")

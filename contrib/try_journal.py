@@ -30,10 +30,15 @@ import sys
 import tempfile
 import time
 
-from small_network import PATIENCE, SETTINGS, Client, Network, Wrong, reserve_port, wait_for
+from small_network import (
+    PATIENCE, SETTINGS, Client, Network, Wrong, marks_of, reserve_port, sound_texts, wait_for,
+)
 
 NAMES = ["desk", "phone"]
 AWAY = "tablet"
+MOST = 19_000  # messages that are said over all kills: each target gets half, and 10,000 of it are kept
+ROOM_FOR_THE_LOG = 8192
+STOP = 2  # seconds that a stop takes at most
 ANOTHER = """[[user.network]]
 name = "net2"
 address = "127.0.0.1:1"
@@ -49,18 +54,12 @@ def numbers_in(text):
 
 
 def sound_frames(data):
-    """Of each beginning of a file that is whole frames: its length, and how many messages it has.
-
-    A frame is the length of its text in four bytes, the text's SHA-256, and the text.
-    """
+    """Of each beginning of a file that is whole frames: its length, and how many messages it has."""
     frames = [(0, 0)]
-    while True:
+    for text in sound_texts(data):
         at, count = frames[-1]
-        size = int.from_bytes(data[at : at + 4], "big")
-        text = data[at + 36 : at + 36 + size]
-        if len(text) < size or hashlib.sha256(text).digest() != data[at + 4 : at + 36]:
-            return frames
         frames.append((at + 36 + len(text), count + text.count(b" PRIVMSG ")))
+    return frames
 
 
 class TalkingNetwork(Network):
@@ -127,6 +126,15 @@ class Program:
         given = lambda: subprocess.run(words, capture_output=True, timeout=PATIENCE).returncode == 0
         wait_for(f"reader of the word {word}", given)
 
+    def size(self):
+        """The length of the file, and 0 before it is there."""
+        return self.file.stat().st_size if self.file.exists() else 0
+
+    def mark(self, name):
+        """Up to which message a client name has seen all, by the file; 0 if it has no mark there."""
+        _, number = marks_of(self.file).get(name, ("", 0))
+        return number
+
     def kept(self, path=None):
         """The numbers of the messages in a file, as `bnc log` prints them, and its status."""
         done = subprocess.run(
@@ -178,7 +186,11 @@ class Trial:
         self.settle()
         self.go(AWAY)
         self.last[AWAY] = self.network.count
-        time.sleep(1)  # until that stands on the disk
+        wait_for(
+            f"mark of {AWAY} in the file",
+            lambda: self.bnc.mark(AWAY) == self.network.count,
+            lambda: self.network.hear(0.05),
+        )
 
     def settle(self):
         """Waits until each client has all that was said."""
@@ -208,7 +220,7 @@ class Trial:
     def round(self):
         """Talks for a while, kills bnc, looks at its file, and starts it again."""
         until = time.monotonic() + self.rng.uniform(0.02, 0.6)
-        while time.monotonic() < until:
+        while time.monotonic() < until and self.network.count < MOST:
             self.network.talk(self.rng)
             self.network.hear(self.rng.uniform(0.0005, 0.02))
         self.bnc.kill()
@@ -267,11 +279,12 @@ class Trial:
             self.network.talk(self.rng)
             self.network.ask()
             time.sleep(0.3)
-        time.sleep(1)  # what is left is written after a rest
+        whole = list(range(before + 1, self.network.count + 1))
+        self.wait_for_file(whole)
         self.bnc.kill()
         self.network.socket.close()
         data, path = self.bnc.file.read_bytes(), self.bnc.folder / "damaged"
-        whole, frames = list(range(before + 1, self.network.count + 1)), sound_frames(data)
+        frames = sound_frames(data)
         if frames[-1] != (len(data), len(whole)) or self.bnc.kept() != (whole, 0, ""):
             raise Wrong(f"the file holds {self.bnc.kept()}, and not {whole}")
         for turn in range(200):
@@ -309,36 +322,52 @@ class Trial:
         got, new = sorted(self.got(name)), list(range(before + 1, self.network.count + 1))
         if got != messages + new:
             raise Wrong(f"of {len(messages)} messages of a damaged file {len(got)} were sent")
+        left = len(data) - end
+        if is_foreign:
+            self.wait_for_log("not a journal")
+        elif end and left:
+            self.wait_for_log(f"the last {left} bytes are damaged, and were set aside")
         self.bnc.kill()
         self.network.socket.close()
         self.network.channels["#c0"].members.clear()
-        log, left = self.bnc.log.read_text(), len(data) - end
-        if is_foreign and ("not a journal" not in log or self.bnc.file.read_bytes() != data):
-            raise Wrong("a file that is no journal was changed, or the log does not name it")
-        if end and left:
-            aside = pathlib.Path(f"{self.bnc.file}:damaged").read_bytes()
-            told = f"the last {left} bytes are damaged, and were set aside"
-            if told not in log or not aside.endswith(data[end:]):
-                raise Wrong(f"a damaged end of {left} bytes was not set aside")
+        if is_foreign and self.bnc.file.read_bytes() != data:
+            raise Wrong("a file that is no journal was changed")
+        if end and left and not pathlib.Path(f"{self.bnc.file}:damaged").read_bytes().endswith(data[end:]):
+            raise Wrong(f"a damaged end of {left} bytes was not set aside")
+
+    def wait_for_log(self, text):
+        """Waits until the log says this; it is written by a thread of its own."""
+        wait_for(f"'{text}' in the log", lambda: text in self.bnc.log.read_text())
+
+    def wait_for_file(self, messages):
+        """Waits until the file holds these messages: what is left is written after a rest."""
+        wait_for(
+            f"file with {len(messages)} messages",
+            lambda: self.bnc.kept() == (messages, 0, ""),
+            lambda: self.network.hear(0.05),
+        )
 
     def full_disk(self):
         """A file that may not grow for a while is written later, with all that came since."""
         before = self.network.count
         self.begin_afresh()
-        self.network.talk(self.rng)
-        self.network.ask()
-        time.sleep(1)
+        # the limit is the log's too, which has to stay below it
+        while self.bnc.size() < ROOM_FOR_THE_LOG:
+            self.network.talk(self.rng)
+            self.network.ask()
+            time.sleep(0.3)
+        self.wait_for_file(list(range(before + 1, self.network.count + 1)))
         limits, process = resource.RLIMIT_FSIZE, self.bnc.process.pid
         _, most = resource.prlimit(process, limits)
-        resource.prlimit(process, limits, (self.bnc.file.stat().st_size + 2, most))
+        resource.prlimit(process, limits, (self.bnc.size() + 2, most))
         began = time.monotonic()
         for _ in range(3):
             self.network.talk(self.rng)
             self.network.ask()
             time.sleep(1)
-        log = self.bnc.log.read_text()
-        if "journal not written, tries again: not written" not in log or "written again" in log:
-            raise Wrong("of a file that may not grow the log does not say so")
+        self.wait_for_log("journal not written, tries again: not written")
+        if "written again" in self.bnc.log.read_text():
+            raise Wrong("a file that may not grow was written again")
         resource.prlimit(process, limits, (most, most))
         wait_for(
             "journal that is written again",
@@ -360,23 +389,34 @@ class Trial:
         fifos = [f"{self.bnc.file}:new", f"{self.bnc.file}2", f"{self.bnc.settings}.control"]
         for fifo in fifos:
             os.mkfifo(fifo, 0o600)
+        wait_for("word in the log of a disk that hangs", self.tells_of_hung_disk)
+        for fifo in fifos:
+            os.unlink(fifo)
+
+    def tells_of_hung_disk(self):
+        """Whether the log has that a journal was not written. It must, unless the stop took all its time.
+
+        The line comes in the last sixteenth of that time, and on a busy machine bnc may not run then.
+        """
         self.begin_afresh()
         self.network.talk(self.rng)
         self.network.ask()
         time.sleep(1)  # its journal is begun meanwhile
         self.bnc.write_settings(self.bnc.settings, self.bnc.port, "kept", ANOTHER)
         self.bnc.order("reload")
-        self.bnc.order("stop")
         began = time.monotonic()
+        self.bnc.order("stop")
         self.bnc.process.wait(PATIENCE)
         self.hung = time.monotonic() - began
-        log = self.bnc.log.read_text()
-        if "networks new 1" not in log or "ann/net: journal not written to its end" not in log:
-            raise Wrong("of a disk that hangs the log does not say so")
         self.network.socket.close()
         self.bnc.write_settings(self.bnc.settings, self.bnc.port, "kept")
-        for fifo in fifos:
-            os.unlink(fifo)
+        log = self.bnc.log.read_text()
+        if "networks new 1" not in log:
+            raise Wrong("while a disk hangs no network is added")
+        is_told = "ann/net: journal not written to its end" in log
+        if not is_told and self.hung < STOP:
+            raise Wrong("of a disk that hangs the log does not say so")
+        return is_told
 
     def two_programs(self):
         """The second program on a folder writes nothing there, and says so."""
@@ -393,11 +433,13 @@ class Trial:
             for network in (self.network, other):
                 network.talk(self.rng)
                 network.ask()
-            time.sleep(1)  # until that stands on the disk
+            whole = list(range(before + 1, self.network.count + 1))
+            self.wait_for_file(whole)
+            time.sleep(1)  # so that the second one could write, too
         finally:
             second.kill()
         self.bnc.kill()
-        kept, whole = self.bnc.kept(), list(range(before + 1, self.network.count + 1))
+        kept = self.bnc.kept()
         if kept != (whole, 0, ""):
             raise Wrong(f"beside a second program the file holds {kept}, and not {whole}")
 

@@ -5,18 +5,22 @@
 
 The file is there soon after the start and has every figure once; names cannot break out of their labels;
 the word `metrics` has it written anew, with the session, the message, the refusal and the dials since; a
-folder that is not there is logged once; and without the key the word is answered in the log. The status
-is 1 if anything else happens.
+folder that is not there is logged once; without the key the word is answered in the log; and while the
+program is stopped and its FIFO full, `bnc control` does not wait. The status is 1 if anything else happens.
 """
 
 import hashlib
+import os
+import pathlib
 import re
+import signal
 import socket
+import subprocess
 import sys
 import tempfile
 
 from bouncer import Bouncer
-from small_network import PATIENCE, Client, Network, Wrong, wait_for
+from small_network import PATIENCE, Client, Network, Wrong, reserve_port, wait_for
 
 SETTINGS = """listen = "127.0.0.1:{port}"
 retry = 1
@@ -67,19 +71,21 @@ def read_figures(path):
     return figures
 
 
-def begin(bouncer, network, metrics):
-    """Starts bnc with this line in its settings."""
-    with socket.create_server(("127.0.0.1", 0)) as dead:
-        text = SETTINGS.format(
-            port=bouncer.port,
-            metrics=metrics,
-            digest=hashlib.sha256(b"abc").hexdigest(),
-            network=network.listener.getsockname()[1],
-            dead=dead.getsockname()[1],
-        )
+def begin(bouncer, metrics):
+    """Starts bnc with this line in its settings; answers its network."""
+    network = bouncer.network = Network(["#c"])  # which is there as long as bnc dials it
+    bouncer.dead = reserve_port()  # at which nobody ever listens
+    text = SETTINGS.format(
+        port=bouncer.port,
+        metrics=metrics,
+        digest=hashlib.sha256(b"abc").hexdigest(),
+        network=network.listener.getsockname()[1],
+        dead=bouncer.dead.getsockname()[1],
+    )
     bouncer.settings.write_text(text)
     bouncer.settings.chmod(0o600)
     bouncer.start()
+    return network
 
 
 def refuse_one(port):
@@ -103,12 +109,12 @@ def ask(bouncer, is_there):
 
 
 def figures_written(bouncer):
-    network = Network(["#c"])
-    begin(bouncer, network, 'metrics = "bnc.prom"\n')
+    network = begin(bouncer, 'metrics = "bnc.prom"\n')
     path = bouncer.folder / "bnc.prom"
     wait_for("file", path.exists)
     network.let_in()
     wait_for("JOIN", lambda: network.joined, network.hear)
+    network.ask()  # until it has taken that, a client is told that the network is not ready
     client = Client(bouncer.port, "pc", [])
     wait_for("channel", lambda: "#c" in client.channels, network.hear)
     network.put(":bob!b@h PRIVMSG #c :hello")
@@ -127,12 +133,12 @@ def figures_written(bouncer):
     }
     if figures != want:
         raise Wrong(f"figures {figures}, not {want}")
-    if (bouncer.folder / "bnc.prom.new").exists():
-        raise Wrong("the file beside it stays")
+    # the last word may still be carried out
+    wait_for("end of the file beside it", lambda: not (bouncer.folder / "bnc.prom.new").exists())
 
 
 def a_folder_that_is_missing(bouncer):
-    begin(bouncer, Network(["#c"]), 'metrics = "missing/bnc.prom"\n')
+    begin(bouncer, 'metrics = "missing/bnc.prom"\n')
     for _ in range(3):
         bouncer.order("metrics")
     bouncer.order("status")
@@ -147,21 +153,53 @@ def a_folder_that_is_missing(bouncer):
 
 
 def without_the_key(bouncer):
-    begin(bouncer, Network(["#c"]), "")
+    begin(bouncer, "")
     bouncer.order("metrics")
     wait_for("line of the log", lambda: "no key `metrics`" in bouncer.log.read_text())
+
+
+def has_stopped(process):
+    """Whether each of its threads is stopped."""
+    try:
+        stats = [path.read_text() for path in pathlib.Path(f"/proc/{process.pid}/task").glob("*/stat")]
+    except OSError:  # one of them has just ended
+        return False
+    return all(stat.rpartition(") ")[2].startswith("T") for stat in stats)
+
+
+def a_full_fifo(bouncer):
+    begin(bouncer, "")
+    bouncer.order("metrics")
+    wait_for("line of the log", lambda: "no key `metrics`" in bouncer.log.read_text())
+    words = [bouncer.program, "control", bouncer.settings, "status"]
+    os.kill(bouncer.process.pid, signal.SIGSTOP)
+    try:
+        wait_for("stop of each thread", lambda: has_stopped(bouncer.process))
+        fifo = os.open(bouncer.fifo, os.O_WRONLY | os.O_NONBLOCK)
+        try:
+            while True:
+                os.write(fifo, b"status\n")
+        except BlockingIOError:
+            os.close(fifo)
+        told = subprocess.run(words, capture_output=True, text=True, timeout=PATIENCE)
+    finally:
+        os.kill(bouncer.process.pid, signal.SIGCONT)
+    want = (1, f"bnc: nobody reads {bouncer.fifo}\n")
+    if (told.returncode, told.stderr) != want:
+        raise Wrong(f"{told}, not {want}")
+    wait_for("reader of the FIFO", lambda: subprocess.run(words, capture_output=True).returncode == 0)
 
 
 def main():
     if len(sys.argv) != 2:
         sys.exit(__doc__)
-    tries = [figures_written, a_folder_that_is_missing, without_the_key]
+    tries = [figures_written, a_folder_that_is_missing, without_the_key, a_full_fifo]
     for one in tries:
         with tempfile.TemporaryDirectory() as folder:
             bouncer = Bouncer(sys.argv[1], folder)
             try:
                 one(bouncer)
-            except (Wrong, OSError) as wrong:
+            except (Wrong, OSError, subprocess.TimeoutExpired) as wrong:
                 log = bouncer.log.read_text()[-600:] if bouncer.log.exists() else ""
                 sys.exit(f"try_metrics: {one.__name__}: {wrong}\n{log}")
             finally:

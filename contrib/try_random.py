@@ -9,10 +9,12 @@ line; the settings rename the network, move it to another port, and add and remo
 word by the FIFO puts them in force; a word stops BNC, which is started again. That happens at any
 moment: while BNC is still sent lines, and while a client logs in.
 
+Clients that have sent a PING vanish too: their connection is reset.
+
 After each round the nick, channels, topics, modes and members of every client, as its lines tell them,
 are compared with the network's own. Who has to go is told why, and nobody else is. At the end each
 client name must have got every message of each name of a network exactly once, and the network what the
-clients said. Only of messages that BNC may not have read before a connection ended the last ones may be
+clients said. What a client had got or said before it vanished, its name may get again. Only of messages that BNC may not have read before a connection ended the last ones may be
 missing, for all names alike. The same seed gives the same lines.
 
 It uses free ports of the loopback range, and a folder that it makes and removes. It prints `ok` and
@@ -20,6 +22,7 @@ counts, or what was wrong, with status 1; also if something has not come after 6
 """
 
 import collections
+import os
 import random
 import re
 import sys
@@ -30,7 +33,7 @@ from random_network import Past, PastNetwork, RandomNetwork
 from small_network import CAPABILITIES, PATIENCE, Client, Wrong, wait_for
 
 JOIN = {"#c0", "#c1"}
-LATE = ["464 "]  # what one may be told that logs in at a reload
+LATE = ["464 "]  # the answer that a login may get at a reload
 
 
 class Trial:
@@ -118,8 +121,21 @@ class Trial:
         self.wait_for_end(client)
         self.network.past.got[name] += client.messages
 
+    def vanish(self, name):
+        """A client that has sent a PING vanishes: nothing is lost, and some is sent again."""
+        client, past = self.clients.pop(name), self.network.past
+        # the line of another session that ended just before may be written only now
+        its = (name, self.name, client.socket.getsockname()[1])
+        client.say("PING :here")
+        wait_for(f"PONG for {name}", lambda: client.pongs, self.network.hear)
+        client.reset()
+        wait_for(f"end of {name}", lambda: self.bnc.has_ended(*its), self.network.hear)
+        past.again[name].update(client.messages, past.own[name])
+        past.got[name] += client.messages
+        self.done["vanished"] += 1
+
     def end(self, past, clients, text):
-        """These clients are told why they have to go."""
+        """These clients hear why they have to go."""
         for client in clients:
             self.wait_for_end(client)
             if client.wrong != f"ERROR :{text}":
@@ -127,7 +143,7 @@ class Trial:
             past.got[client.name] += client.messages
 
     def meet(self, late, text):
-        """One that logged in meanwhile is served, or was told why not; with a text, it has to go."""
+        """One that logged in meanwhile is served, or has heard why not; with a text, it has to go."""
         if text:
             self.wait_for_end(late)
         else:
@@ -250,7 +266,8 @@ class Trial:
         if kind < 0.45:
             self.come()
         elif kind < 0.6 and self.clients:
-            self.go(self.rng.choice(list(self.clients)))
+            leave = self.vanish if self.rng.random() < 0.4 else self.go
+            leave(self.rng.choice(list(self.clients)))
         elif kind < 0.67:
             self.lose()
         elif kind < 0.85:
@@ -290,7 +307,9 @@ class Trial:
 
 
 def main(program, seed, rounds):
-    with tempfile.TemporaryDirectory() as folder:
+    # in memory where that can be: a stop waits 2 s for the disk at most, which others may keep busy
+    memory = "/dev/shm" if os.access("/dev/shm", os.W_OK) else None
+    with tempfile.TemporaryDirectory(dir=memory) as folder:
         bnc = Bouncer(program, folder)
         trial = Trial(bnc, seed)
         try:
