@@ -469,10 +469,13 @@ def a_nick_of_one_that_leaves(program):
                 raise Wrong(f"asked for a nick that the user's other network has: {crowd.asked}")
             change(program, path_of[0], "net" if crowd.user_of("ann") == "ann" else "second", new)
             wait_for("end of the first", lambda: crowd.quit_at, crowd.hear)  # noqa: B023
-            wait_for("the nick", lambda: crowd.user_of("ann"), crowd.hear)  # noqa: B023
-            # it is some 5 s; without what is tried here it would be a minute
-            if time.monotonic() - crowd.quit_at > 30:
-                raise Wrong(f"it took too long to get a nick of one that left: {crowd.asked}")
+            # it is some 5 s; without what is tried here it would be a minute, which it may still be after a
+            # rename, at a network that reads the new NICK before the old QUIT
+            until = crowd.quit_at + (90 if new else 30)
+            while not crowd.user_of("ann"):
+                if time.monotonic() > until:
+                    raise Wrong(f"it took too long to get a nick of one that left: {crowd.asked}")
+                crowd.hear()
 
 
 def a_key_by_the_mapping(program):
