@@ -39,12 +39,12 @@ pub fn limits(accepts: u64, dials: u64) -> Limits {
         logins: 8,
         logins_of_address: 4,
         exempts_loopback: true,
-        login: Duration::from_secs(60),
-        crowded_login: Duration::from_secs(60),
+        login: Duration::from_secs(10),
+        crowded_login: Duration::from_secs(10),
         wrong_password: Duration::from_millis(1),
         late: 8,
         pause: Duration::from_millis(1),
-        write: Duration::from_secs(60),
+        write: Duration::from_secs(10),
         watch: Watch {
             idle: 60,
             limit: 60_000,
@@ -53,10 +53,10 @@ pub fn limits(accepts: u64, dials: u64) -> Limits {
         retry: Duration::from_millis(50),
         most: Duration::from_millis(50),
         gap: Duration::ZERO,
-        connect: Duration::from_secs(60),
-        connect_in_turn: Duration::from_secs(60),
-        registration: Duration::from_secs(60),
-        silence: Duration::from_secs(60),
+        connect: Duration::from_secs(10),
+        connect_in_turn: Duration::from_secs(10),
+        registration: Duration::from_secs(10),
+        silence: Duration::from_secs(10),
         silences: 2,
         sessions: 64,
         burst: 1_000_000,
@@ -154,9 +154,9 @@ impl Bouncer {
         }
     }
 
-    /// Waits until no client is served, at most some sixty seconds. Whether none is.
+    /// Waits until no client is served, at most some ten seconds. Whether none is.
     pub fn is_left<R: Wait + Clock>(&self, rt: &R) -> bool {
-        for _ in 0..60_000 {
+        for _ in 0..10_000 {
             if self.shared.sessions(rt) == 0 {
                 return true;
             }
@@ -190,11 +190,8 @@ fn register(alloc: Global, network: &mut Peer) -> Result<(), Fail> {
     network.hears(alloc, "CAP REQ multi-prefix\r\n")?;
     network.say(":s CAP * ACK :multi-prefix\r\n")?;
     network.hears(alloc, "CAP END\r\n")?;
-    // at once: a network that falls silent after its welcome is asked and left
-    network.say(
-        ":s 001 ann :Welcome\r\n:s 005 ann PREFIX=(ov)@+ CHANTYPES=# :are supported\r\n\
-        :s 376 ann :End of MOTD\r\n",
-    )?;
+    network.say(":s 001 ann :Welcome\r\n:s 005 ann PREFIX=(ov)@+ CHANTYPES=# :are supported\r\n")?;
+    network.say(":s 376 ann :End of MOTD\r\n")?;
     network.hears(alloc, "JOIN #c\r\n")
 }
 

@@ -10,7 +10,7 @@ use std::time::Duration;
 use std::{thread, time};
 
 /// How often a test looks for what another thread is to do: it sleeps 1 ms each time.
-const TURNS: u64 = 60_000;
+const TURNS: u64 = 10_000;
 
 /// Waits until a flag is up, at most for those turns. Whether it is.
 fn comes_to_be<R: time::Clock>(rt: &R, flag: &AtomicBool) -> bool {

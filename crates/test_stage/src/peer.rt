@@ -7,7 +7,7 @@ use std::test::Fail;
 use std::time::Duration;
 
 /// How many seconds a test waits for a byte.
-const WAIT: u64 = 60;
+const WAIT: u64 = 10;
 
 /// How many bytes of a connection are read at most.
 const MOST: usize = 65_536;

@@ -44,12 +44,11 @@ impl Write for Gone {
 const PART: usize = 1_000;
 
 /// A client that takes 1,000 bytes, and then nothing until a door is opened: until then each write
-/// ends after 40 ms, or at once when it is hurried. Afterwards it takes at most 1,000 bytes in a call.
-/// Each third call is interrupted.
+/// ends after 4 ms. Afterwards it takes at most 1,000 bytes in a call. Each third call is
+/// interrupted.
 pub struct Slow<R: Clock> {
     pub rt: R,
     pub door: SharedDoor,
-    pub hurried: SharedFlag,
     pub dropped: SharedFlag,
     pub bytes: Vec<u8>,
     pub calls: u64,
@@ -60,14 +59,12 @@ impl<R: Clock + Drop> Drop for Slow<R> {
         let Slow {
             rt,
             door,
-            hurried,
             dropped,
             bytes,
             calls: _,
         } = self;
         dropped.store(true, Ordering::SeqCst);
         drop(dropped);
-        drop(hurried);
         drop(door);
         drop(bytes);
         drop(rt);
@@ -81,9 +78,7 @@ impl<R: Clock> Write for Slow<R> {
             return Err(io::Error::from(ErrorKind::Interrupted));
         }
         if self.bytes.len() >= PART && !self.door.is_open() {
-            if !self.hurried.load(Ordering::SeqCst) {
-                thread::sleep(&self.rt, Duration::from_millis(40));
-            }
+            thread::sleep(&self.rt, Duration::from_millis(4));
             return Err(io::Error::from(ErrorKind::WouldBlock));
         }
         let count = buf.len().min(PART);

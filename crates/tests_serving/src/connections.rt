@@ -24,41 +24,23 @@ fn silence<R: Clock + Net<Listener = TcpListener, Stream = TcpStream>>(
     Ok(began.elapsed(rt)?)
 }
 
-/// A client says a part of a login.
-fn begins<R: Net<Listener = TcpListener, Stream = TcpStream>>(
-    rt: &R,
-    bouncer: &Bouncer,
-    says: &str,
-) -> Result<Peer, Fail> {
-    let mut client = Peer::dial(rt, bouncer.address)?;
-    client.say(says)?;
-    Ok(client)
-}
-
-/// Two clients say parts of a login, with and without PASS, and a third one says nothing: what the first
-/// two get when their time is up, and how long the third was kept.
-fn all_too_late<R: Clock + Net<Listener = TcpListener, Stream = TcpStream>>(
-    rt: &R,
-    alloc: Global,
-    bouncer: &Bouncer,
-) -> Result<Duration, Fail> {
-    let mut half = begins(rt, bouncer, "PASS ann/net:bc\r\nNICK x\r\n")?;
-    let mut nameless = begins(rt, bouncer, "NICK x\r\nUSER ann/net 0 * :x\r\n")?;
-    let took = silence(rt, alloc, bouncer)?;
-    nameless.ends_with(alloc, SEND_PASS)?;
-    half.ends_with(alloc, "")?;
-    Ok(took)
-}
-
 #[test]
 fn a_login_has_its_time(rt: HostRuntime) -> Result<(), Fail> {
     let alloc = rt.alloc();
     let mut limits = limits(3, 0);
-    // longer than a thread of a busy machine stands still
-    limits.login = Duration::from_secs(4);
+    limits.login = Duration::from_millis(500);
     let bouncer = start(rt, alloc, limits)?;
-    let took = all_too_late(&rt, alloc, &bouncer)?;
-    assert!(rt; took >= Duration::from_millis(3_900));
+    let took = silence(&rt, alloc, &bouncer)?;
+    assert!(rt; took >= Duration::from_millis(400));
+    let address = bouncer.address;
+    turned_away(
+        &rt,
+        alloc,
+        address,
+        "NICK x\r\nUSER ann/net 0 * :x\r\n",
+        SEND_PASS,
+    )?;
+    turned_away(&rt, alloc, address, "PASS ann/net:bc\r\nNICK x\r\n", "")?;
     bouncer.join(&rt);
     Ok(())
 }
@@ -104,8 +86,7 @@ fn left_and_dialled_again(alloc: Global, bouncer: &Bouncer) -> Result<(), Fail> 
 fn a_silent_network_is_asked_and_then_left(rt: HostRuntime) -> Result<(), Fail> {
     let alloc = rt.alloc();
     let mut limits = limits(0, 2);
-    // as long, since the PING is written by another thread
-    limits.silence = Duration::from_secs(4);
+    limits.silence = Duration::from_millis(200);
     let bouncer = start(rt, alloc, limits)?;
     left_and_dialled_again(alloc, &bouncer)?;
     bouncer.join(&rt);

@@ -82,7 +82,7 @@ fn what_is_said_at_once_comes_in_order_at_the_pace(rt: HostRuntime) -> Result<()
     let bouncer = start(rt, alloc, paced(2, 200, 1_000))?;
     let (half, whole) = come_and_say(&rt, alloc, &bouncer)?;
     assert!(rt; half >= Duration::from_millis(220));
-    assert!(rt; whole >= Duration::from_millis(620) && whole < Duration::from_secs(40));
+    assert!(rt; whole >= Duration::from_millis(620) && whole < Duration::from_secs(8));
     bouncer.join(&rt);
     Ok(())
 }
@@ -114,7 +114,7 @@ fn all_clients_of_a_network_have_one_pace(rt: HostRuntime) -> Result<(), Fail> {
     let alloc = rt.alloc();
     let bouncer = start(rt, alloc, paced(2, 20, 40))?;
     let took = both_say(&rt, alloc, &bouncer)?;
-    assert!(rt; took >= Duration::from_millis(500) && took < Duration::from_secs(40));
+    assert!(rt; took >= Duration::from_millis(500) && took < Duration::from_secs(8));
     bouncer.join(&rt);
     Ok(())
 }

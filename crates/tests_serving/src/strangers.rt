@@ -12,9 +12,9 @@ use test_bouncer::refusal::{SEND_PASS, turned_away};
 use test_stage::ann::LOGIN;
 use test_stage::peer::Peer;
 
-/// Waits until `count` logins wait, at most some sixty seconds.
+/// Waits until `count` logins wait, at most some ten seconds.
 fn wait_for_logins<R: Clock + Wait>(rt: &R, bouncer: &Bouncer, count: usize) {
-    for _ in 0..60_000 {
+    for _ in 0..10_000 {
         if bouncer.shared.logins(rt) == count {
             return;
         }
@@ -120,7 +120,7 @@ fn above_half_of_the_seats_a_login_has_less_time(rt: HostRuntime) -> Result<(), 
     limits.crowded_login = Duration::from_millis(300);
     let bouncer = start(rt, alloc, limits)?;
     let took = kept_in_a_crowd(&rt, alloc, &bouncer)?;
-    assert!(rt; took >= Duration::from_millis(200) && took < Duration::from_secs(40));
+    assert!(rt; took >= Duration::from_millis(200) && took < Duration::from_secs(5));
     bouncer.join(&rt);
     Ok(())
 }

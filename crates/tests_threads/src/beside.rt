@@ -33,7 +33,7 @@ fn sleeper<R: Threads + Wait + Send + Copy + 'static>(
 
 /// Takes at most `most` items once the pump sleeps.
 fn beside_a_sleeper<R: Wait + Clock>(rt: &R, network: &Network<QuickView>, most: u64) -> Beside {
-    for _ in 0..60_000 {
+    for _ in 0..10_000 {
         let beside = network.pump_beside(rt, most);
         if beside != NOTHING {
             return beside;

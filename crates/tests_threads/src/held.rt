@@ -15,7 +15,7 @@ use std::sync::{Arc, Wait};
 use std::test::Fail;
 use std::thread::{self, JoinHandle, Threads};
 use std::time::{Clock, Duration};
-use test_stage::gates::{Door, Dragging, Held, SharedDoor, shut_door};
+use test_stage::gates::{Door, Held, SharedDoor, Stepping, shut_door};
 use test_stage::stage::{
     BURST, JOINED, Stage, attach, is_joined, is_sent, put, put_and_take, say, stage_after,
 };
@@ -255,13 +255,13 @@ const MESSAGE: &[u8] = b":bob!b@h PRIVMSG #c m";
 /// Twice the number that the ring of the session holds.
 const SIXTEEN_MESSAGES: [&[u8]; 16] = [MESSAGE; 16];
 
-/// Opens a door after two seconds.
+/// Opens a door after a second.
 fn open_later<R: Clock>(rt: &R, door: &Door) {
-    thread::sleep(rt, Duration::from_secs(2));
+    thread::sleep(rt, Duration::from_secs(1));
     door.let_go();
 }
 
-/// A thread that opens a door after two seconds.
+/// A thread that opens a door after a second.
 fn opener<R: Threads + Clock + Send + Copy + Drop + 'static>(
     rt: R,
     door: &SharedDoor,
@@ -270,16 +270,15 @@ fn opener<R: Threads + Clock + Send + Copy + Drop + 'static>(
     Ok(thread::spawn(&rt, move || open_later(&rt, &door))?)
 }
 
-/// The writer of a session gets no processor for two seconds, while more comes than its ring holds: the
-/// session is not cut, and is sent everything. The pump would wait one second for a client that stands
-/// still, and waits twenty for a writer.
+/// The writer of a session gets no processor for a second, while more comes than its ring holds: the
+/// session is not cut, and is sent everything.
 #[test]
 fn a_writer_that_gets_no_processor(rt: HostRuntime) -> Result<(), Fail> {
     let mut stage = stage_after(&rt, rt.alloc(), 1, &JOINED)?;
     nothing_is_lost(rt, &mut stage)
 }
 
-/// A session whose writer is held for two seconds is sent everything.
+/// A session whose writer is held for a second is sent everything.
 fn nothing_is_lost<V: NetworkView + Drop, R>(rt: R, stage: &mut Stage<V>) -> Result<(), Fail>
 where
     R: AllocGlobal + Threads + Wait + Clock + Abort + Send + Copy + Drop + 'static,
@@ -288,7 +287,7 @@ where
     nothing_is_lost_at(rt, stage, &door)
 }
 
-/// A session whose writer is held at this door for two seconds is sent everything.
+/// A session whose writer is held at this door for a second is sent everything.
 fn nothing_is_lost_at<V: NetworkView + Drop, R>(
     rt: R,
     stage: &mut Stage<V>,
@@ -305,7 +304,7 @@ where
         rt.alloc(),
         &stage.network,
         &FreeGate,
-        &Dragging::new(),
+        &Stepping::new(),
         Turns::AtMost(16),
         0,
     );

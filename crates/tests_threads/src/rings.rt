@@ -101,7 +101,7 @@ fn take_so_many<V: NetworkView + Drop, R: Wait + Clock>(
     count: u64,
 ) -> Result<(), Fail> {
     let mut taken: u64 = 0;
-    for _ in 0..60_000 {
+    for _ in 0..10_000 {
         taken = taken.saturating_add(take_all(rt, network)?.0);
         if taken >= count {
             return Ok(());
@@ -190,7 +190,7 @@ fn wait_for_a_channel<V: NetworkView + Drop, R: Wait + Clock>(
     rt: &R,
     network: &Network<V>,
 ) -> Result<(), Fail> {
-    for _ in 0..60_000 {
+    for _ in 0..10_000 {
         if has_a_channel(rt, network) {
             return Ok(());
         }

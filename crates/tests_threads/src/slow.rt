@@ -15,7 +15,7 @@ use std::test::Fail;
 use std::thread;
 use std::time::{Clock, Duration};
 use test_stage::ann::{is_cut, many_questions};
-use test_stage::gates::{Stepping, Still, shut_door};
+use test_stage::gates::{Dragging, shut_door};
 use test_stage::slow_streams::{Dripping, Gone, Slow, flag};
 use test_stage::stage::{BURST, JOINED, Stage, attach, put, say, stage_after};
 use test_streams::Sink;
@@ -53,7 +53,7 @@ fn long_packet(alloc: Global, count: u64) -> Result<Packet, Fail> {
 /// Offers a packet until there is room for it. Whether it was taken.
 fn is_offered<R: Clock>(rt: &R, outlet: &mut RingOutlet, packet: Packet) -> bool {
     let mut packet = packet;
-    for _ in 0..60_000 {
+    for _ in 0..2_000 {
         match outlet.offer(packet) {
             Ok(()) => return true,
             Err(back) => packet = back,
@@ -90,7 +90,6 @@ fn who_reads_slowly_gets_all(rt: HostRuntime) -> Result<(), Fail> {
     let slow = Slow {
         rt,
         door: Arc::try_clone(&door)?,
-        hurried: flag(alloc)?,
         dropped: flag(alloc)?,
         bytes: Vec::new(alloc),
         calls: 0,
@@ -116,21 +115,22 @@ fn long_message(alloc: Global) -> Result<Vec<u8>, Fail> {
     Ok(text)
 }
 
-/// Puts this message 40 times, and has a pump take it each time, whose patience goes by this clock.
-fn flood<V: NetworkView + Drop, C: hub_threads::Clock, R: AllocGlobal + Wait + Abort>(
+/// Puts this message `times` times, and has a pump take it each time.
+fn flood<V: NetworkView + Drop, R: AllocGlobal + Wait + Abort>(
     rt: &R,
     stage: &mut Stage<V>,
     text: &[u8],
-    clock: &C,
+    times: u64,
 ) -> Result<(), Fail> {
-    for _ in 0..40 {
+    let clock = Dragging::new();
+    for _ in 0..times {
         put(rt.alloc(), &mut stage.end, &[text])?;
         let ended = pump_loop(
             rt,
             rt.alloc(),
             &stage.network,
             &FreeGate,
-            clock,
+            &clock,
             Turns::AtMost(1),
             0,
         );
@@ -155,12 +155,10 @@ fn who_stops_is_cut_and_another_is_not(rt: HostRuntime) -> Result<(), Fail> {
     let alloc = rt.alloc();
     let mut stage = stage_after(&rt, alloc, 1, &JOINED)?;
     let dropped = flag(alloc)?;
-    let hurried = flag(alloc)?;
     let (id, end) = attach(&rt, alloc, &stage.network, b"", 8)?;
     let slow = Slow {
         rt,
         door: shut_door(alloc)?,
-        hurried: Arc::try_clone(&hurried)?,
         dropped: Arc::try_clone(&dropped)?,
         bytes: Vec::new(alloc),
         calls: 0,
@@ -169,11 +167,10 @@ fn who_stops_is_cut_and_another_is_not(rt: HostRuntime) -> Result<(), Fail> {
     let (other, end) = attach(&rt, alloc, &stage.network, b"", 256)?;
     let others = spawn_writer(rt, end, Sink::new(alloc), FreeGate, Turns::Endless)?;
     let text = long_message(alloc)?;
-    flood(&rt, &mut stage, &text, &Still)?;
+    flood(&rt, &mut stage, &text, 40)?;
     assert!(rt; asked(&rt, &stage, id)? == Said::Answered);
-    flood(&rt, &mut stage, &text, &Stepping::new())?;
+    flood(&rt, &mut stage, &text, 40)?;
     assert!(rt; asked(&rt, &stage, id)? == Said::NoSession);
-    hurried.store(true, Ordering::SeqCst);
     assert!(rt; end_session(&rt, &stage.network, id, writer).is_err());
     assert!(rt; dropped.load(Ordering::SeqCst));
     let lines = text.len().saturating_add(2).saturating_mul(80);

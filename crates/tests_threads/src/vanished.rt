@@ -41,7 +41,7 @@ fn has_written<V: NetworkView + Drop, R: Wait + Clock>(
     network: &Network<V>,
     id: SessionId,
 ) -> bool {
-    for _ in 0..60_000 {
+    for _ in 0..10_000 {
         let hub = network.lock(rt);
         let is_written = hub.outlet(id).is_some_and(|outlet| outlet.is_written());
         drop(hub);

@@ -237,11 +237,11 @@ fn a_network_begun_anew_is_dialled_and_serves(rt: HostRuntime) -> Result<(), Fai
     Ok(())
 }
 
-/// Waits until the bouncer's slot is empty, at most some sixty seconds.
+/// Waits until the bouncer's slot is empty, at most some ten seconds.
 fn wait_for_none<R: Clock + Wait>(rt: &R, bouncer: &Bouncer) -> Result<(), Fail> {
     let roster = bouncer.shared.roster(rt)?;
     let (_, station) = roster.networks().first().ok_or("no network")?;
-    for _ in 0..60_000 {
+    for _ in 0..10_000 {
         if station.slot().network(rt).is_none() {
             break;
         }

@@ -45,13 +45,13 @@ fn count_in<R: Files + Alloc + Clone + Drop>(rt: &R, folder: &str) -> Result<usi
     Ok(count)
 }
 
-/// Waits until the process has as much as before, at most some sixty seconds. Whether it has. A
+/// Waits until the process has as much as before, at most some ten seconds. Whether it has. A
 /// thread that was joined may still be seen for a moment.
 fn is_given_back<R: Files + Alloc + Clock + Clone + Drop>(
     rt: &R,
     before: &InUse,
 ) -> Result<bool, Fail> {
-    for _ in 0..6_000 {
+    for _ in 0..1_000 {
         if in_use(rt)? == *before {
             return Ok(true);
         }

@@ -12,7 +12,7 @@ use std::time::Duration;
 use std::{io, thread};
 
 /// How many milliseconds a test waits for another thread, at most.
-const WAIT: u32 = 60_000;
+const WAIT: u32 = 10_000;
 
 /// More lines than may wait.
 const LINES: u32 = 1_124;
