@@ -127,7 +127,7 @@ fn what_is_to_be_written(rt: HostRuntime) -> Result<(), Fail> {
 }
 
 /// A message with a ring, after which the next has number 8.
-const WITH_RING: &str = "NEXT 7\r\n@time=7;ring=bob :bob!b@h PRIVMSG Me :hi\r\n";
+const WITH_RING: &str = "NEXT 7\r\n@time=7;ring=bob :bob!b@h PRIVMSG Me :hi all\r\n";
 
 /// A message with a ring is appended to a file that may have some, and else there is a new file.
 #[test]

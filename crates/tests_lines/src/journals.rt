@@ -142,40 +142,44 @@ const FILES: &[(&[&str], usize, Option<Damage>)] = &[
         Some(Damage::BadNumber),
     ),
     (&["SEEN pc\r\n"], 0, Some(Damage::NoRecord)),
-    (&["@time=7;ring=bob :bob!b@h PRIVMSG Me :hi\r\n"], 1, None),
     (
-        &["@time=7;ring=a\\:\\\\b :bob!b@h PRIVMSG Me :hi\r\n"],
+        &["@time=7;ring=bob :bob!b@h PRIVMSG Me :hi all\r\n"],
+        1,
+        None,
+    ),
+    (
+        &["@time=7;ring=a\\:\\\\b :bob!b@h PRIVMSG Me :hi all\r\n"],
         1,
         None,
     ),
     // a name that is escaped otherwise, or not to its end; other tags; a time after the ring
     (
-        &["@time=7;ring=a;b :bob!b@h PRIVMSG Me :hi\r\n"],
+        &["@time=7;ring=a;b :bob!b@h PRIVMSG Me :hi all\r\n"],
         0,
         Some(Damage::NoRecord),
     ),
     (
-        &["@time=7;ring=a\\s :bob!b@h PRIVMSG Me :hi\r\n"],
+        &["@time=7;ring=a\\s :bob!b@h PRIVMSG Me :hi all\r\n"],
         0,
         Some(Damage::NoRecord),
     ),
     (
-        &["@time=7;ring=a\\ :bob!b@h PRIVMSG Me :hi\r\n"],
+        &["@time=7;ring=a\\ :bob!b@h PRIVMSG Me :hi all\r\n"],
         0,
         Some(Damage::NoRecord),
     ),
     (
-        &["@time=7;ring :bob!b@h PRIVMSG Me :hi\r\n"],
+        &["@time=7;ring :bob!b@h PRIVMSG Me :hi all\r\n"],
         0,
         Some(Damage::NoRecord),
     ),
     (
-        &["@time=7;to=bob :bob!b@h PRIVMSG Me :hi\r\n"],
+        &["@time=7;to=bob :bob!b@h PRIVMSG Me :hi all\r\n"],
         0,
         Some(Damage::NoRecord),
     ),
     (
-        &["@ring=bob;time=7 :bob!b@h PRIVMSG Me :hi\r\n"],
+        &["@ring=bob;time=7 :bob!b@h PRIVMSG Me :hi all\r\n"],
         0,
         Some(Damage::NoRecord),
     ),
@@ -331,7 +335,7 @@ const ALL_KEPT: &str = "NEXT 7\r\n\
 /// The same with messages in the rings of persons, one with a name that is escaped.
 const RINGS_KEPT: &str = "NEXT 7\r\n\
     @time=2020-01-02T03:04:05.678Z;ring=bob :bob!b@h PRIVMSG Me :hi you\r\n\
-    @time=2020-01-02T03:04:06.678Z;ring=a\\:\\\\b :Me!m@h PRIVMSG a;\\b :hi\r\n\
+    @time=2020-01-02T03:04:06.678Z;ring=a\\:\\\\b :Me!m@h PRIVMSG a;\\b :hi all\r\n\
     @time=2020-01-02T03:04:07.678Z :bob!b@h PRIVMSG #c :hi all\r\n";
 
 fn is_said_again<R: AllocGlobal + Abort>(rt: &R, rings: bool, text: &str) -> Result<(), Fail> {
