@@ -4,6 +4,7 @@ pub mod WordCuts
 pub mod SymbolRun
 pub mod Spelling
 pub mod TokenTable
+pub mod TokenBytes
 pub mod TokensRead
 pub mod PendingTokens
 pub mod ModesRead

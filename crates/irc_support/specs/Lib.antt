@@ -1,6 +1,7 @@
 pub mod Text
 pub mod Tokens
 pub mod Edits
+pub mod Weights
 pub mod Ranking
 pub mod Ranks
 pub mod RankBits

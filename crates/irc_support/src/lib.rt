@@ -2,6 +2,7 @@
 //! lists.
 #![tactic(auto)]
 
+mod bytes;
 mod chan_modes;
 mod cuts;
 mod kind;

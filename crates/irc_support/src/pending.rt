@@ -1,17 +1,20 @@
 //! The changes of a 005 line, made in one pass over the tokens (isupport draft, section 2).
 
-ghost use Rattle.std.specs.Prelude.{◌≡◌, ◌<◌, ◌≤◌, ◌+◌, List, IfOk, MatchOption, false, fold};
-ghost use Rattle.std.specs.Prelude.{slice_get, vec_len};
+ghost use Rattle.std.specs.Prelude.{◌≡◌, ◌<◌, ◌≤◌, ◌+◌, ◌%◌, ◌^◌, List, IfOk, MatchOption, false};
+ghost use Rattle.std.specs.Prelude.{fold, slice_get, vec_len};
 ghost use Rattle.irc_support.specs.Tokens.{Token, with_token};
 ghost use Rattle.irc_support.specs.Edits.{tokens_in, token_in, edited, AreApart, is_kept, kept};
 ghost use Rattle.irc_support.specs.Edits.{left_to};
+ghost use Rattle.irc_support.specs.Weights.{settings_bytes};
 ghost use Rattle.indexmap.specs.IndexMap.{spare};
 
 use crate::OutOfMemory;
+use crate::bytes::{counted, token_bytes};
 use crate::tokens::{Edit, Table};
 use indexmap::IndexSet;
 use std::alloc::Allocator;
 use std::hash::{BuildHasherDefault, FoldHasher};
+use weights::{less, more};
 
 type Names<A> = IndexSet<Vec<u8, A>, BuildHasherDefault<FoldHasher>, A>;
 
@@ -37,14 +40,16 @@ fn stays<A: Allocator>(tokens: &Table<A>, names: &Names<A>, place: usize) -> boo
 }
 
 /// Takes the tokens of these names away, in one pass: each token that stays moves to the front,
-/// after those that stayed before it.
-fn remove<A: Allocator + Copy>(tokens: &mut Table<A>, names: &Names<A>)
+/// after those that stayed before it. The bytes of those before give the bytes of those that stay.
+fn remove<A: Allocator + Copy>(tokens: &mut Table<A>, bytes: u64, names: &Names<A>) -> u64
+    requires { bytes ≡ settings_bytes (tokens_in tokens.old.entries) % 2 ^ 64 }
     ensures entries { tokens_in tokens.new.entries
         ≡ kept names.now.keys (tokens_in tokens.old.entries) }
     ensures room { spare tokens.old ≤ spare tokens.new }
+    ensures bytes { result ≡ settings_bytes (tokens_in tokens.new.entries) % 2 ^ 64 }
 {
     if names.is_empty() {
-        return;
+        return bytes;
     }
     let mut kept = 0;
     for place in 0..tokens.len() {
@@ -54,17 +59,29 @@ fn remove<A: Allocator + Copy>(tokens: &mut Table<A>, names: &Names<A>)
         }
     }
     tokens.truncate(kept);
+    counted(tokens)
 }
 
+/// Sets a token. The bytes of the tokens before give those after.
 #[tactic(auto, using(crate::proofs::TokenTable::tokens_in_insert_entry))]
-fn set<A: Allocator + Copy>(tokens: &mut Table<A>, name: Vec<u8, A>, value: Option<Vec<u8, A>>)
-    requires { 0 < spare tokens.old }
+fn set<A: Allocator + Copy>(
+    tokens: &mut Table<A>,
+    bytes: u64,
+    name: Vec<u8, A>,
+    value: Option<Vec<u8, A>>,
+) -> u64
+    requires room { 0 < spare tokens.old }
+    requires bytes { bytes ≡ settings_bytes (tokens_in tokens.old.entries) % 2 ^ 64 }
     ensures after { tokens_in tokens.new.entries
         ≡ with_token (tokens_in tokens.old.entries) (token_in (name, value)) }
     ensures room { spare tokens.old ≤ spare tokens.new + 1 }
+    ensures bytes { result ≡ settings_bytes (tokens_in tokens.new.entries) % 2 ^ 64 }
 {
+    let named = name.len();
+    let with_it = more(bytes, token_bytes(named, &value));
     match tokens.insert(name, value) {
-        Ok(_) => (),
+        Ok(Some(before)) => less(with_it, token_bytes(named, &before)),
+        Ok(None) => with_it,
         Err(_) => unreachable!(),
     }
 }
@@ -102,20 +119,24 @@ impl<A: Allocator + Copy> Pending<A> {
         self.set.len()
     }
 
-    /// Does what is left to do. There is room for all of it.
+    /// Does what is left to do. There is room for all of it. The bytes of the tokens before give
+    /// those after.
     #[tactic(auto, using(crate::proofs::PendingTokens::with_all_push))]
-    pub fn make(self, tokens: &mut Table<A>)
-        requires { vec_len self.set ≤ spare tokens.old }
-        ensures { tokens_in tokens.new.entries
+    pub fn make(self, tokens: &mut Table<A>, bytes: u64) -> u64
+        requires room { vec_len self.set ≤ spare tokens.old }
+        requires bytes { bytes ≡ settings_bytes (tokens_in tokens.old.entries) % 2 ^ 64 }
+        ensures after { tokens_in tokens.new.entries
             ≡ left_to self.removed.keys self.set.items (tokens_in tokens.old.entries) }
+        ensures bytes { result ≡ settings_bytes (tokens_in tokens.new.entries) % 2 ^ 64 }
     {
         let Pending {
             removed,
             set: mut left,
         } = self;
-        remove(tokens, &removed);
+        let mut bytes = remove(tokens, bytes, &removed);
         while let Some((name, value)) = left.pop() {
-            set(tokens, name, value);
+            bytes = set(tokens, bytes, name, value);
         }
+        bytes
     }
 }

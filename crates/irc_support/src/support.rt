@@ -17,6 +17,7 @@ ghost use Rattle.irc_support.specs.Ranks.{ranks_that};
 ghost use Rattle.irc_support.specs.NamesReply.{shows_rank, symbols_before, after_symbols};
 ghost use Rattle.irc_support.specs.Line.{settings_after};
 ghost use Rattle.irc_support.specs.Shown.{shown_token};
+ghost use Rattle.irc_support.specs.Weights.{settings_bytes};
 
 use crate::chan_modes::{LETTERS, kinds_by_lists};
 use crate::cuts::has;
@@ -29,6 +30,7 @@ use irc_line::Line;
 use irc_names::CaseMapping;
 use std::alloc::{Allocator, Global};
 use std::marker::Model;
+use weights::Weighed;
 
 /// What a network said of itself by 005 RPL_ISUPPORT, as in
 /// `:s 005 Me PREFIX=(ov)@+ CHANTYPES=# :are supported by this server`: its tokens, in order.
@@ -36,6 +38,8 @@ use std::marker::Model;
 /// A name that is set again keeps its place; one that is set again after it was removed goes last.
 pub struct Support<A: Allocator = Global> {
     tokens: Table<A>,
+    // what the tokens take, modulo 2^64
+    bytes: u64,
     // what PREFIX and CASEMAPPING mean, and the kind that CHANMODES gives each letter
     prefix: Prefix,
     mapping: CaseMapping,
@@ -48,6 +52,7 @@ impl<A: Allocator> Drop for Support<A> {
     fn drop(self) {
         let Support {
             tokens: _tokens,
+            bytes: _,
             prefix: _prefix,
             mapping: _,
             kinds: _,
@@ -56,9 +61,10 @@ impl<A: Allocator> Drop for Support<A> {
 }
 
 impl<A: Allocator> Model for Support<A> {
-    ghost use Rattle.std.specs.Prelude.{◌≡◌, ◌<◌, ℕ, List, slice_index_or};
+    ghost use Rattle.std.specs.Prelude.{◌≡◌, ◌<◌, ◌%◌, ◌^◌, ℕ, List, slice_index_or};
     ghost use Rattle.irc_support.specs.Tokens.{Token};
     ghost use Rattle.irc_support.specs.Edits.{tokens_in, AreApart};
+    ghost use Rattle.irc_support.specs.Weights.{settings_bytes};
     ghost use Rattle.irc_support.specs.Ranking.{ranking_of};
     ghost use Rattle.irc_support.specs.ChanModes.{kind_in, mode_lists};
     ghost use Rattle.irc_support.specs.declared.kind.Kind.TheVariants.{Prefix as FirstKind};
@@ -72,6 +78,7 @@ impl<A: Allocator> Model for Support<A> {
         (s.prefix ≡ ranking_of (tokens_in s.tokens.entries)) ×
         (s.mapping ≡ mapping_of (tokens_in s.tokens.entries)) ×
         AreApart (tokens_in s.tokens.entries) ×
+        (s.bytes ≡ settings_bytes (tokens_in s.tokens.entries) % 2 ^ 64) ×
         ((letter : ℕ) → letter < 256 → slice_index_or s.kinds letter FirstKind
         ≡ kind_in (mode_lists (tokens_in s.tokens.entries)) letter) };
 }
@@ -117,6 +124,7 @@ fn has_outside(name: &[u8]) -> bool
 
 impl<A: Allocator + Copy> Support<A> {
     /// No token: each setting has its default. Takes no memory yet.
+    #[tactic(auto, unfolding(crate::specs::Weights::settings_bytes))]
     pub fn new(alloc: A) -> Result<Support<A>, OutOfMemory>
         ensures { IsOkAnd result (λ settings. settings ≡ []) }
     {
@@ -126,6 +134,7 @@ impl<A: Allocator + Copy> Support<A> {
         let kinds = kinds_in(&tokens);
         Ok(Support {
             tokens,
+            bytes: 0,
             prefix,
             mapping,
             kinds,
@@ -147,7 +156,7 @@ impl<A: Allocator + Copy> Support<A> {
         let alloc = *self.tokens.allocator();
         let pending = Pending::of(alloc, edits(alloc, line)?)?;
         self.tokens.reserve(pending.set_count())?;
-        pending.make(&mut self.tokens);
+        self.bytes = pending.make(&mut self.tokens, self.bytes);
         self.prefix = prefix_in(&self.tokens);
         self.mapping = mapping_in(&self.tokens);
         self.kinds = kinds_in(&self.tokens);
@@ -255,5 +264,13 @@ impl<A: Allocator> Support<A> {
                 has(types, *first) && *first != b':' && !has_outside(name)
             }
         }
+    }
+}
+
+impl<A: Allocator> Weighed for Support<A> {
+    ghost weight = { settings_bytes };
+
+    fn weight(&self) -> u64 {
+        self.bytes
     }
 }

@@ -5,12 +5,13 @@ use Words.{◌++◌, ◌+◌, ◌<◌, ◌∙◌, ◌∷◌, ◌≡◌, Bool, Ch
 use Words.{false, is_seen, length, list_any, map, nat_list_cmp_total, refl, suc, sym, take, true, ℕ}
 use Rattle.{net_view.proofs.AfterMaps.{seen_in, seen_somewhere}, std.proofs.lemmas.List.map-set}
 use Rattle.{net_view.proofs.Tests.both_or_neither, std.proofs.lemmas.List.Edits.map_over_more}
-use Rattle.network_tables.{proofs.{MarkLemmas.marked_shown, Sorted.find_at}, specs.Marks.AreMarked}
+use Rattle.network_tables.proofs.{BytesLemmas.map_weighs, MarkLemmas.marked_shown, Sorted.find_at}
 use Rattle.network_tables.{proofs.ShownLemmas.{entries-shown, sorted_shown}, specs.Table.entry_of}
+use Rattle.network_tables.specs.Table.{AreNoted, entry_bytes}
 use Rattle.network_tables.specs.Rooms.{channel_of, copy_for, each_changed, room_entry, rooms_of}
 use Rattle.{network_tables.specs.Rooms.{copies_of, is_in}, std.proofs.Common.{drop, get_or, set}}
 use Rattle.network_tables.specs.{Shown.shown, declared.{room.Room.Room, slot.Slot.Slot}}
-use Rattle.std.{proofs.Common.length-append, specs.{Option.option_map_or, Prelude.{T, zero}}}
+use Rattle.std.{proofs.Common.length-append, specs.{Option.option_map_or, Prelude.{T, sum_by, zero, ◌%◌, ◌^◌}}}
 use Rattle.std.proofs.lemmas.List.{drop_more, get_or-map, length-map, map-append, take_more}
 use Rattle.std.proofs.lemmas.List.{length-drop, length-take, Folds.{Any-from_list_any, list_any_at}}
 
@@ -113,17 +114,19 @@ module _ {A : Type 0} where
         (rw (entries_are ys each_sorted, entries-shown bytes_cmp g, entries_are xs h) e)
 
   -- which leaves a table a table
-  pub still_tabled : (g : Channel → Channel) (marks : List Bool) (xs ys : List (Slot (Room A) A))
+  pub still_tabled : (weight : Room A → ℕ) (g : Channel → Channel) (marks : List Bool)
+      (xs ys : List (Slot (Room A) A)) {bytes bytes2 : ℕ}
       → T (fin.is_sorted bytes_cmp (map entry_of xs))
-      × AreMarked marks (fin.from_sorted (map entry_of xs))
+      × AreNoted weight marks bytes (fin.from_sorted (map entry_of xs))
       → map room_entry ys ≡ each_changed g (map room_entry xs)
+      → bytes2 ≡ sum_by (entry_bytes weight) (map entry_of ys) % 2 ^ 64
       → T (fin.is_sorted bytes_cmp (map entry_of ys))
-      × AreMarked marks (fin.from_sorted (map entry_of ys))
-  still_tabled g marks xs ys h e = (
-    each_sorted g xs ys h.0 e,
-    marked_shown channel_of g marks (fin.from_sorted (map entry_of xs))
-        (fin.from_sorted (map entry_of ys)) h.1 (each_is g xs ys h.0 e),
-  )
+      × AreNoted weight marks bytes2 (fin.from_sorted (map entry_of ys))
+  still_tabled weight g marks xs ys h e counted =
+      let sorted = each_sorted g xs ys h.0 e in
+      let marked = marked_shown channel_of g marks (fin.from_sorted (map entry_of xs))
+      (fin.from_sorted (map entry_of ys)) h.1.0 (each_is g xs ys h.0 e) in
+      (sorted, (marked, rw (map_weighs weight (map entry_of ys) sorted) counted))
 
 -- ---- who is seen
 

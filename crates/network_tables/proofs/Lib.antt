@@ -4,6 +4,7 @@ pub mod Retaining
 pub mod HeadLemmas
 pub mod TableLemmas
 pub mod ShownLemmas
+pub mod BytesLemmas
 pub mod MarkLemmas
 pub mod SwapLemmas
 pub mod NumberedLemmas

@@ -9,6 +9,17 @@ use Rattle.network_tables.specs.Numbered.{seen_in, value_at, value_out, with_val
 use Rattle.network_tables.specs.{Table.{swapped_in, swapped_out}, declared.numbered.Keyed.Keyed}
 use Rattle.{slab.specs.Slab.{ContainsKey, Slab, Updates, get}, std.proofs.lemmas.Bool.cases_eq}
 use Rattle.std.specs.{FinMap.Entries.below_all, Prelude.{◌≢◌, T}}
+use Rattle.std.proofs.lemmas.{List.Sums.{sum_by-cons}, Option.{get_or_from_slice_get}}
+use Rattle.std.specs.{List.{cons_option, slice_get, sum_by}, Option.{option_map_or}}
+use Words.{◌+◌, ◌<◌, length, nat_list_cmp_total, suc, take}
+use Rattle.network_tables.{proofs.BytesLemmas.{none_weigh}, specs.Table.{map_bytes}}
+use Rattle.{network_tables.proofs.Sorted.{find_at}, std.specs.Prelude.{zero, ◌%◌, ◌^◌}}
+
+slice_get_within : {Y : Type 0} (ys : List Y) (i : ℕ) (y : Y) → slice_get ys i ≡ Some y
+    → i < length ys
+slice_get_within [] i y is = absurd (grind arith)
+slice_get_within (z ∷ ys) zero y is = omega arith
+slice_get_within (z ∷ ys) (suc i) y is = let later = slice_get_within ys i y is in omega arith
 
 -- a key below all others is none of them
 gone : {X : Type 0} (k : Text) (es : List (Text × X)) → T (below_all bytes_cmp k es)
@@ -17,7 +28,7 @@ gone k [] h = refl
 gone k (e ∷ es) h = grind (arith, gone k es)
 
 module _ {X A : Type 0} where
-  abbrev paired : Slab (Keyed X A) → Text × ℕ → Option (Text × X)
+  abbrev pub paired : Slab (Keyed X A) → Text × ℕ → Option (Text × X)
   paired cells e = option_map (λ x. (e.0, x)) (value_at cells e.1)
 
   below_joined : (cells : Slab (Keyed X A)) (k : Text) (es : List (Text × ℕ))
@@ -49,6 +60,48 @@ module _ {X A : Type 0} where
       let at = fin.get-entries index q in
       cc (fin.get-from_sorted bytes_cmp _ q (sorted_joined cells es sorted))
 
+  pub entries_joined : (index : fin.FinMap bytes_cmp ℕ) (cells : Slab (Keyed X A))
+      → fin.entries (joined index cells) ≡ filter_map (paired cells) (fin.entries index)
+  unfolding joined
+  entries_joined index cells =
+      fin.entries-from_sorted bytes_cmp _
+      (sorted_joined cells (fin.entries index) (fin.entries_sorted index))
+
+  -- ---- the bytes of the values, counted from cell to cell
+
+  module _ (f : Text × X → ℕ) (cells : Slab (Keyed X A)) where
+    abbrev pub counted : List (Text × ℕ) → ℕ
+    counted es = sum_by f (filter_map (paired cells) es)
+
+    one_cell : (e : Text × ℕ) (es : List (Text × ℕ))
+        → counted (e ∷ es) ≡ option_map_or f (paired cells e) 0 + counted es
+    one_cell e es = by_value (paired cells e)
+      where
+        by_value : (x : Option (Text × X))
+            → sum_by f (cons_option x (filter_map (paired cells) es))
+            ≡ option_map_or f x 0 + counted es
+        by_value None = omega arith
+        by_value (Some x) = sum_by-cons f x (filter_map (paired cells) es)
+
+    pub next_cell : (es : List (Text × ℕ)) (i : ℕ) (e : Text × ℕ) → slice_get es i ≡ Some e
+        → counted (take (suc i) es) ≡ counted (take i es) + option_map_or f (paired cells e) 0
+    next_cell [] i e is = absurd (grind arith)
+    next_cell (e ∷ es) zero d is = grind (arith, one_cell)
+    next_cell (e ∷ es) (suc i) d is =
+        let here = one_cell e (take (suc i) es) in
+        let before = one_cell e (take i es) in
+        grind (arith, here, before, next_cell es i d)
+
+    past : (es : List (Text × ℕ)) (i : ℕ) → slice_get es i ≡ None → take (suc i) es ≡ take i es
+    past [] zero is = refl
+    past [] (suc i) is = refl
+    past (e ∷ es) zero is = absurd (grind arith)
+    past (e ∷ es) (suc i) is = grind (arith, past es i)
+
+    pub past_cells : (es : List (Text × ℕ)) (i : ℕ) → slice_get es i ≡ None
+        → take (i + 1) es ≡ take i es
+    past_cells es i is = let one : i + 1 ≡ suc i = omega arith in rw one (past es i is)
+
   -- nothing is held
   pub none_joined : (index : fin.FinMap bytes_cmp ℕ) (cells : Slab (Keyed X A)) → index ≡ fin.empty
       → joined index cells ≡ fin.empty
@@ -62,11 +115,21 @@ module _ {X A : Type 0} where
     known = λ n known e. grind (arith, none n);
   }
 
+  pub none_weighs : (weight : X → ℕ) (index : fin.FinMap bytes_cmp ℕ) (cells : Slab (Keyed X A))
+      → index ≡ fin.empty → 0 ≡ map_bytes weight (joined index cells) % 2 ^ 64
+  none_weighs weight index cells is = rw (none_joined index cells is) (none_weigh weight)
+
   -- all is as before
   module _ (index index2 : fin.FinMap bytes_cmp ℕ) (cells cells2 : Slab (Keyed X A))
       (is : index2 ≡ index) (alike : (n : ℕ) → get cells2 n ≡ get cells n) where
     pub kept_joined : joined index2 cells2 ≡ joined index cells
     kept_joined = same_by_keys (λ q. grind (arith, get_joined, alike))
+
+    pub kept_tied : AreTied index cells → AreTied index2 cells2
+    kept_tied tied = record {
+      held = λ key n e. grind (arith, tied.held key n, alike n);
+      known = λ n known e. grind (arith, tied.known n known, alike n);
+    }
 
   -- ---- by the number of a key
   module _ {index : fin.FinMap bytes_cmp ℕ} {cells : Slab (Keyed X A)}
@@ -78,6 +141,34 @@ module _ {X A : Type 0} where
     pub got : (k : Text) (n : ℕ) (known : Keyed X A) → Some n ≡ fin.get index k
         → Some known ≡ get cells n → Some known.value ≡ fin.get (joined index cells) k
     got k n known e is = grind (arith, get_joined)
+
+    pub key_of_cell : (k : Text) (n : ℕ) (known : Keyed X A) → Some n ≡ fin.get index k
+        → Some known ≡ get cells n → known.key.items ≡ k
+    key_of_cell k n known e is = let at = tied.held k n (sym e) in grind arith
+
+    -- what the cell at a place of the index adds to a sum
+    pub adds_cell : (f : Text × X → ℕ) (i : ℕ) (e : Text × ℕ) (known : Keyed X A)
+        → Some e ≡ slice_get (fin.entries index) i → Some known ≡ get cells e.1
+        → counted f cells (take (i + 1) (fin.entries index))
+        ≡ counted f cells (take i (fin.entries index)) + f (known.key.items, known.value)
+    adds_cell f i e known at is =
+        let es = fin.entries index in
+        let there = get_or_from_slice_get es i e e (sym at) in
+        let found = find_at nat_list_cmp_total es (fin.entries_sorted index) i e
+        (slice_get_within es i e (sym at)) in
+        let number : Some e.1 ≡ fin.get index e.0 = grind (arith, fin.get-entries index e.0) in
+        let key = key_of_cell e.0 e.1 known number is in
+        let next = next_cell f cells es i e (sym at) in
+        let one : i + 1 ≡ suc i = omega arith in
+        rw one (grind arith)
+
+    pub adds_none : (f : Text × X → ℕ) (i : ℕ) (e : Text × ℕ)
+        → Some e ≡ slice_get (fin.entries index) i → None ≡ get cells e.1
+        → counted f cells (take (i + 1) (fin.entries index))
+        ≡ counted f cells (take i (fin.entries index))
+    adds_none f i e at is =
+        let next = next_cell f cells (fin.entries index) i e (sym at) in
+        let one : i + 1 ≡ suc i = omega arith in rw one (grind arith)
 
     pub holds : (k : Text) (n : ℕ) → Some n ≡ fin.get index k → ContainsKey cells n
     holds k n e = ap is_some (there k n (sym e)).1
@@ -145,13 +236,17 @@ module _ {X A : Type 0} where
       pub swapped_there : fin.contains_key (joined index cells) k ≡ true
       swapped_there = let is = there k n (sym number) in grind (arith, get_joined)
 
-      pub swapped_joined : joined index cells2 ≡ swapped_in (joined index cells) k value
-      swapped_joined =
+      pub swapped_put : joined index cells2 ≡ fin.insert (joined index cells) k value
+      swapped_put =
           let is = there k n (sym number) in
-          let put : joined index cells2 ≡ fin.insert (joined index cells) k value =
           same_by_keys (λ q.
-          grind (look_ups, get_joined, apart q k, updates.changed, updates.others)) in
-          grind (arith, put, swapped_there)
+          grind (look_ups, get_joined, apart q k, updates.changed, updates.others))
+
+      pub swapped_joined : joined index cells2 ≡ swapped_in (joined index cells) k value
+      swapped_joined = grind (arith, swapped_put, swapped_there)
+
+      pub swapped_old : Some (value_out (get cells n) value) ≡ fin.get (joined index cells) k
+      swapped_old = let is = there k n (sym number) in grind (arith, get_joined)
 
       pub swapped_value : value_out (get cells n) value ≡ swapped_out (joined index cells) k value
       swapped_value = let is = there k n (sym number) in grind (arith, get_joined)

@@ -2,6 +2,8 @@
 use Rattle.std.specs.FinMap as fin
 use Rattle.{irc_support.specs.Text.Text, net_view.proofs.Keys.{bytes_exact, same_by_keys}}
 use Rattle.{net_view.specs.{Names.bytes_cmp, Table.is_equal}, network_tables.specs.Marks.AreMarked}
+use Rattle.network_tables.specs.Table.{AreNoted, map_bytes}
+use Rattle.std.specs.Prelude.{◌%◌, ◌^◌}
 use Rattle.{network_tables.proofs.Places.free_place, std.specs.Cmp.Lexicographic.nat_list_cmp_total}
 use Rattle.{network_tables.proofs.Sorted.AreOf, std.proofs.Common.{◌<◌, arith, length, remove}}
 use Rattle.network_tables.proofs.Sorted.{IsPlace, find_at, find_between, inserted, removed, written}
@@ -51,6 +53,9 @@ module _ {E K X : Type 0} {R : K → K → Ordering} (order : IsKeyOrder R) (f :
 
     is_key : (d : E) → (get_or es i (f d)).0 ≡ key
     is_key d = rw (at d) (order.exact _ key (found d))
+
+    pub key_is : (e : E) → e ≡ get_or xs i e → (f e).0 ≡ key
+    key_is e is = order.exact _ key (rw (← is) at (found e))
 
     pub got : (e : E) → e ≡ get_or xs i e → Some (f e).1 ≡ fin.get all key
     got e is =
@@ -114,10 +119,11 @@ removed_none_of {K = K} {R = R} order m k e =
     sym (fin.same_map o order.exact _ m (λ q. grind (arith, fin.get-remove o m k q, tied q)))
 
 -- what leaves a table a table
-pub tabled_by : {X : Type 0} {es : List (Text × X)} {m : fin.FinMap bytes_cmp X} (marks : List Bool)
-    → AreOf es m → AreMarked marks m
-    → T (fin.is_sorted bytes_cmp es) × AreMarked marks (fin.from_sorted es)
-tabled_by marks are marked = (are.sorted, rw are.is marked)
+pub tabled_by : {X : Type 0} {es : List (Text × X)} {m : fin.FinMap bytes_cmp X} (weight : X → ℕ)
+    (marks : List Bool) {bytes : ℕ} → AreOf es m → AreMarked marks m
+    → bytes ≡ map_bytes weight m % 2 ^ 64
+    → T (fin.is_sorted bytes_cmp es) × AreNoted weight marks bytes (fin.from_sorted es)
+tabled_by weight marks are marked weighs = (are.sorted, (rw are.is marked, rw are.is weighs))
 
 -- ---- what is retained
 

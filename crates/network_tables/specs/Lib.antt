@@ -7,3 +7,4 @@ pub mod Modes
 pub mod Shown
 pub mod People
 pub mod Rooms
+pub mod Weights

@@ -1,5 +1,5 @@
 -- Values by key, each in a cell that has a number.
-use Rattle.std.specs.Prelude.{◌≡◌, ℕ, ◌≤◌, Bool, if◌then◌else◌}
+use Rattle.std.specs.Prelude.{◌≡◌, ℕ, ◌≤◌, ◌%◌, ◌^◌, Bool, if◌then◌else◌}
 use Rattle.std.specs.List.{filter_map}
 use Rattle.std.specs.Option.{option_map, unwrap_or}
 use Rattle.std.specs.FinMap as fin
@@ -7,7 +7,7 @@ use Rattle.std.proofs.Common.{Option, Some, None}
 use Rattle.slab.specs.Slab.{Slab, get, HasRoomFor}
 use Rattle.irc_support.specs.Text.{Text}
 use Rattle.net_view.specs.Names.{bytes_cmp}
-use Rattle.network_tables.specs.Table.{Tabled}
+use Rattle.network_tables.specs.Table.{Tabled, map_bytes}
 use Rattle.network_tables.specs.declared.numbered.Keyed.{Keyed}
 
 -- the value in a cell
@@ -29,12 +29,13 @@ pub record AreTied {X A : Type 0} (index : fin.FinMap bytes_cmp ℕ) (cells : Sl
   pub known : (n : ℕ) (known : Keyed X A) → get cells n ≡ Some known → fin.get index
       known.key.items ≡ Some n
 
--- and there is room in both
-pub record IsNumbered {X A : Type 0} (index : Tabled ℕ) (cells : Slab (Keyed X A)) (spare : ℕ) :
-    Type 0 where
+-- and there is room in both, and this many bytes, modulo 2^64
+pub record IsNumbered {X A : Type 0} (weight : X → ℕ) (index : Tabled ℕ) (cells : Slab (Keyed X A))
+    (spare bytes : ℕ) : Type 0 where
   pub tied : AreTied index.all cells
   pub index_room : spare ≤ index.spare
   pub cell_room : HasRoomFor cells spare
+  pub weighs : bytes ≡ map_bytes weight (joined index.all cells) % 2 ^ 64
 
 -- what a cell holds with another value
 abbrev pub with_value_in : {X A : Type 0} → X → Option (Keyed X A) → Option (Keyed X A)

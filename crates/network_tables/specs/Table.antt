@@ -1,5 +1,5 @@
 -- Entries in the order of their keys.
-use Rattle.std.specs.Prelude.{ℕ, T, Bool, List, map, if◌then◌else◌}
+use Rattle.std.specs.Prelude.{ℕ, T, Bool, List, length, map, sum_by, if◌then◌else◌, ◌≡◌, ◌+◌, ◌%◌, ◌^◌}
 use Rattle.std.specs.Coded.{Coded, code_by, coded×, coded_ℕ, coded_list}
 use Rattle.std.specs.Option.{unwrap_or}
 use Rattle.std.specs.Borrow.{Bor}
@@ -32,10 +32,23 @@ tabled entries = record {
   spare = entries.spare;
 }
 
--- in the order of their keys, each with its mark up
-abbrev pub IsTabled : {X A : Type 0} → Shelf (Slot X A) → List Bool → Type 0
-IsTabled entries marks =
-    T (fin.is_sorted bytes_cmp (map entry_of entries.items)) × AreMarked marks (tabled entries).all
+-- those of an entry: of its key, and of its value
+abbrev pub entry_bytes : {X : Type 0} → (X → ℕ) → Text × X → ℕ
+entry_bytes weight e = length e.0 + weight e.1
+
+-- those of all entries
+abbrev pub map_bytes : {X : Type 0} → (X → ℕ) → fin.FinMap bytes_cmp X → ℕ
+map_bytes weight m = sum_by (entry_bytes weight) (fin.entries m)
+
+-- each with its mark up, and this many bytes, modulo 2^64
+abbrev pub AreNoted : {X : Type 0} → (X → ℕ) → List Bool → ℕ → fin.FinMap bytes_cmp X → Type 0
+AreNoted weight marks bytes all = AreMarked marks all × (bytes ≡ map_bytes weight all % 2 ^ 64)
+
+-- and in the order of their keys
+abbrev pub IsTabled : {X A : Type 0} → (X → ℕ) → Shelf (Slot X A) → List Bool → ℕ → Type 0
+IsTabled weight entries marks bytes =
+    T (fin.is_sorted bytes_cmp (map entry_of entries.items))
+    × AreNoted weight marks bytes (tabled entries).all
 
 -- a value in the place of another, if there is one
 abbrev pub swapped_in : {X : Type 0} → fin.FinMap bytes_cmp X → Text → X → fin.FinMap bytes_cmp X

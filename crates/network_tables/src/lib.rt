@@ -9,6 +9,7 @@ mod room;
 mod slot;
 mod sought;
 mod table;
+mod table_value;
 mod text;
 
 pub use modes::Modes;
@@ -24,4 +25,5 @@ pub use slot::Entry;
 pub use sought::{Sought, name_head};
 pub use std::alloc::AllocError as OutOfMemory;
 pub use table::Table;
-pub use text::{bytes, copy_of, copy_of_told};
+pub use table_value::TableValue;
+pub use text::{bytes, copy_of, copy_of_told, text_weight};

@@ -1,19 +1,21 @@
 //! The modes of a channel.
 
-ghost use Rattle.std.specs.Prelude.{◌≡◌, IfOk, OnOk, length, map, slice_get};
+ghost use Rattle.std.specs.Prelude.{◌≡◌, ◌%◌, ◌^◌, IfOk, OnOk, length, map, slice_get, sum_by};
 ghost use Rattle.std.specs.Option.{option_map};
 ghost use Rattle.std.specs.Ordering.{nat_cmp};
 ghost use Rattle.std.specs.List.Sorted.{IsBinarySearchResult, IsSearchInRange};
 ghost use Rattle.std.specs.FinMap as fin;
 ghost use Rattle.network_tables.specs.Modes.{mode_of};
 ghost use Rattle.net_view.specs.Readers.{mode_parts};
+ghost use Rattle.network_tables.specs.Weights.{mode_bytes, modes_bytes};
 
 use crate::OutOfMemory;
 use crate::table::{insert_at, item_at, remove_at, write_at};
-use crate::text::{bytes, copy_of};
+use crate::text::{bytes, copy_of, text_weight};
 use std::alloc::Allocator;
 use std::cmp::Ordering;
 use std::marker::Model;
+use weights::{MODE, more};
 
 /// A mode that is on.
 #[derive(Drop)]
@@ -74,6 +76,27 @@ fn modes_copy<A: Allocator + Copy>(
         })?;
     }
     Ok(copy)
+}
+
+/// How many bytes modes keep.
+fn modes_weight<A: Allocator>(modes: &[Mode<A>]) -> u64
+    ensures { result ≡ sum_by mode_bytes (map mode_of modes.now) % 2 ^ 64 }
+{
+    let mut bytes = 0;
+    for mode in modes {
+        bytes = more(bytes, more(MODE, text_weight(&mode.param)));
+    }
+    bytes
+}
+
+impl<A: Allocator> Modes<A> {
+    /// How many bytes the modes keep.
+    #[tactic(auto, using(crate::proofs::TableLemmas::entry_places))]
+    pub fn bytes(&self) -> u64
+        ensures { result ≡ modes_bytes self.now % 2 ^ 64 }
+    {
+        modes_weight(&self.modes)
+    }
 }
 
 impl<A: Allocator + Copy> Modes<A> {

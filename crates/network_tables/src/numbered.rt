@@ -1,21 +1,23 @@
 //! Values by key, each in a cell that has a number.
 
-ghost use Rattle.std.specs.Prelude.{◌≡◌, ℕ, ◌+◌, ◌<◌, ◌≤◌, None, IsSome, OnOk};
+ghost use Rattle.std.specs.Prelude.{◌≡◌, ℕ, ◌+◌, ◌<◌, ◌≤◌, ◌%◌, ◌^◌, None, IsSome, OnOk};
 ghost use Rattle.std.specs.Option.{option_map};
 ghost use Rattle.std.specs.FinMap as fin;
 ghost use Rattle.slab.specs.Slab.{ContainsKey, HasRoomFor, Updates, get as cell};
-ghost use Rattle.network_tables.specs.Numbered.{AreTied, with_value_in, value_out};
+ghost use Rattle.network_tables.specs.Numbered.{AreTied, joined, with_value_in, value_out};
 ghost use Rattle.network_tables.specs.Sought.{sought_key};
-ghost use Rattle.network_tables.specs.Table.{swapped_in, swapped_out};
+ghost use Rattle.network_tables.specs.Table.{entry_bytes, map_bytes, swapped_in, swapped_out};
 
 use crate::OutOfMemory;
 use crate::slot::Entry;
 use crate::sought::{Sought, order};
 use crate::table::Table;
+use crate::table_value::TableValue;
 use slab::Slab;
 use std::alloc::Allocator;
 use std::marker::Model;
 use std::mem;
+use weights::{less, more};
 
 /// What a cell holds: a value, and the key that says whose it is.
 #[derive(Drop)]
@@ -36,13 +38,15 @@ pub struct Fresh<V, A: Allocator> {
 /// has the number from before finds it in one step, and in a search if the cell holds another by
 /// now.
 #[derive(Drop)]
-pub struct Numbered<V, A: Allocator> {
+pub struct Numbered<V: TableValue, A: Allocator> {
     pub(crate) index: Table<usize, A>,
     pub(crate) cells: Slab<Keyed<V, A>, A>,
     pub(crate) spare: usize,
+    // how many bytes the keys and values keep
+    pub(crate) bytes: u64,
 }
 
-impl<V, A: Allocator> Model for Numbered<V, A> {
+impl<V: TableValue, A: Allocator> Model for Numbered<V, A> {
     ghost use Rattle.network_tables.specs.Table.{Tabled, tabled_code};
     ghost use Rattle.network_tables.specs.Numbered.{joined, IsNumbered};
 
@@ -52,7 +56,7 @@ impl<V, A: Allocator> Model for Numbered<V, A> {
 
     ghost view = { λ t. record { all = joined t.index.all t.cells; spare = t.spare } };
 
-    ghost invariant = { λ t. IsNumbered t.index t.cells t.spare };
+    ghost invariant = { λ t. IsNumbered V.weight t.index t.cells t.spare t.bytes };
 }
 
 /// The number of the cell of what is looked for. It is first looked for in the cell in which it
@@ -90,7 +94,33 @@ fn swap_in<V, A: Allocator>(cells: &mut Slab<Keyed<V, A>, A>, number: usize, val
     }
 }
 
-impl<V, A: Allocator> Numbered<V, A> {
+/// How many bytes a key and its value keep.
+pub(crate) fn known_weight<V: TableValue, A: Allocator>(known: &Keyed<V, A>) -> u64
+    ensures { result ≡ entry_bytes V.weight (known.now.key.items, known.now.value) % 2 ^ 64 }
+{
+    more(known.key.len() as u64, known.value.weight())
+}
+
+/// How many bytes all keys and values keep, counted anew.
+pub(crate) fn cells_weight<V: TableValue, A: Allocator>(
+    index: &Table<usize, A>,
+    cells: &Slab<Keyed<V, A>, A>,
+) -> u64
+    requires { AreTied index.now.all cells.now }
+    ensures { result ≡ map_bytes V.weight (joined index.now.all cells.now) % 2 ^ 64 }
+{
+    let mut bytes = 0;
+    for place in 0..index.len() {
+        if let Some((_key, number)) = index.at(place) {
+            if let Some(known) = cells.get(*number) {
+                bytes = more(bytes, known_weight(known));
+            }
+        }
+    }
+    bytes
+}
+
+impl<V: TableValue, A: Allocator> Numbered<V, A> {
     /// A table without values.
     #[tactic(auto, using(crate::proofs::NumberedLemmas::none_joined, crate::proofs::NumberedLemmas::none_tied))]
     pub fn new(alloc: A) -> Numbered<V, A>
@@ -102,7 +132,15 @@ impl<V, A: Allocator> Numbered<V, A> {
             index: Table::new(alloc),
             cells: Slab::new(alloc),
             spare: 0,
+            bytes: 0,
         }
+    }
+
+    /// How many bytes the keys and values keep. One step.
+    pub fn bytes(&self) -> u64
+        ensures { result ≡ map_bytes V.weight self.now.all % 2 ^ 64 }
+    {
+        self.bytes
     }
 
     /// The value that is looked for.
@@ -135,7 +173,7 @@ impl<V, A: Allocator> Numbered<V, A> {
     }
 }
 
-impl<V: Drop, A: Allocator> Numbered<V, A> {
+impl<V: TableValue + Drop, A: Allocator> Numbered<V, A> {
     /// Makes room for more values.
     pub fn reserve(&mut self, more: usize) -> Result<(), OutOfMemory>
     where
@@ -162,7 +200,9 @@ impl<V: Drop, A: Allocator> Numbered<V, A> {
     {
         match number_of(&self.index, &self.cells, *near, sought) {
             Some(number) => {
+                let came = value.weight();
                 swap_in(&mut self.cells, number, value);
+                self.bytes = more(less(self.bytes, value.weight()), came);
                 *near = Some(number);
                 true
             }
@@ -179,6 +219,7 @@ impl<V: Drop, A: Allocator> Numbered<V, A> {
         ensures room { self.old.spare ≤ self.new.spare + 1 }
     {
         let Fresh { known, mut number } = fresh;
+        self.bytes = more(self.bytes, known_weight(&known));
         let cell = self.cells.insert_reserved(known);
         number.value = cell;
         self.index.insert(number);
@@ -196,6 +237,7 @@ impl<V: Drop, A: Allocator> Numbered<V, A> {
     {
         let number = self.index.remove(sought)?;
         let known = self.cells.remove(number.value);
+        self.bytes = less(self.bytes, known_weight(&known));
         self.spare = self.spare.saturating_add(1);
         Some((known, number))
     }
@@ -214,6 +256,7 @@ impl<V: Drop, A: Allocator> Numbered<V, A> {
         ensures { self.new.all ≡ fin.empty }
     {
         self.spare = 0;
+        self.bytes = 0;
         self.index.clear();
         self.cells.clear();
         self.cells.shrink_to_fit();

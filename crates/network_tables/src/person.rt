@@ -11,19 +11,23 @@ ghost use Rattle.network_tables.specs.Sought.{sought_key};
 ghost use Rattle.std.specs.List.{filter};
 ghost use Rattle.net_view.specs.Step.{is_seen};
 ghost use Rattle.network_tables.specs.Rooms.{rooms_of};
-ghost use Rattle.network_tables.specs.People.{people_of, changed_at};
+ghost use Rattle.network_tables.specs.People.{people_of, changed_at, known_of};
+ghost use Rattle.network_tables.specs.Weights.{person_bytes};
 ghost use Rattle.network_tables.specs.Numbered.{seen_in};
 
 use crate::OutOfMemory;
-use crate::numbered::{Fresh, Keyed, Numbered};
+use crate::numbered::{Fresh, Keyed, Numbered, cells_weight};
 use crate::room::Rooms;
 use crate::slot::{Slot, new_entry};
 use crate::sought::Sought;
-use crate::table::Table;
+use crate::table::{Table, slots_weight};
+use crate::table_value::TableValue;
+use crate::text::text_weight;
 use block_list::Blocks;
 use irc_names::CaseMapping;
 use slab::Slab;
 use std::alloc::Allocator;
+use weights::{PERSON, more};
 
 /// What is known of a person in sight.
 #[derive(Drop)]
@@ -32,6 +36,18 @@ pub struct Person<A: Allocator> {
     pub nick: Vec<u8, A>,
     pub account: Option<Vec<u8, A>>,
     pub away: Option<Vec<u8, A>>,
+}
+
+impl<A: Allocator> TableValue for Person<A> {
+    ghost weight = { λ p. person_bytes (known_of p) };
+
+    fn weight(&self) -> u64 {
+        let named = more(PERSON, self.nick.len() as u64);
+        more(
+            more(named, text_weight(&self.account)),
+            text_weight(&self.away),
+        )
+    }
 }
 
 /// The persons in sight, by the keys of their nicks.
@@ -182,6 +198,7 @@ pub fn retain_seen<A: Allocator>(people: &mut People<A>, rooms: &Rooms<A>)
     people.spare = 0;
     retain_numbers(&mut people.index, rooms);
     retain_cells(&mut people.cells, rooms);
+    people.bytes = cells_weight(&people.index, &people.cells);
 }
 
 /// Keeps the numbers of those persons.
@@ -189,6 +206,7 @@ fn retain_numbers<A: Allocator>(index: &mut Table<usize, A>, rooms: &Rooms<A>)
     ensures { index.new.all ≡ fin.retain_keys index.old.all (is_seen (rooms_of rooms.now.all)) }
 {
     retain_in(&mut index.entries, rooms);
+    index.bytes = slots_weight(&index.entries);
 }
 
 /// The same of the slots.

@@ -14,18 +14,21 @@ ghost use Rattle.network_tables.specs.People.{changed_at};
 ghost use Rattle.network_tables.specs.Rooms.{channel_of, rooms_of, with_modes, room_entry};
 ghost use Rattle.network_tables.specs.Rooms.{each_changed, is_in, moved_in, moved_channel};
 ghost use Rattle.network_tables.specs.Rooms.{copy_for, copies_of};
+ghost use Rattle.network_tables.specs.Weights.{channel_bytes};
 
 use crate::OutOfMemory;
 use crate::modes::Modes;
 use crate::slot::{Entry, Slot, new_entry};
 use crate::sought::{Sought, head};
-use crate::table::Table;
-use crate::text::copy_of;
+use crate::table::{Table, slots_weight};
+use crate::table_value::TableValue;
+use crate::text::{copy_of, text_weight};
 use block_list::Blocks;
 use irc_names::CaseMapping;
 use irc_support::Ranks;
 use std::alloc::Allocator;
 use std::collections::VecDeque;
+use weights::{CHANNEL, more};
 
 /// The members of a channel, by the keys of their nicks, each with the ranks held there.
 pub type Members<A> = Table<Ranks, A>;
@@ -49,6 +52,16 @@ impl<A: Allocator> Drop for Room<A> {
             modes: _modes,
             members: _members,
         } = self;
+    }
+}
+
+impl<A: Allocator> TableValue for Room<A> {
+    ghost weight = { λ room. channel_bytes (channel_of room) };
+
+    fn weight(&self) -> u64 {
+        let named = more(CHANNEL, self.name.len() as u64);
+        let titled = more(named, text_weight(&self.topic));
+        more(more(titled, self.modes.bytes()), self.members.bytes())
     }
 }
 
@@ -330,6 +343,7 @@ impl<A: Allocator> Table<Room<A>, A> {
             ≡ shown (without_member (sought_key who.entry)) (rooms_of self.old.all) }
     {
         unseat_each(&mut self.entries, who);
+        self.bytes = slots_weight(&self.entries);
     }
 
     /// Makes copies of a key, one for each of the channels in which somebody is a member, in this
@@ -359,6 +373,7 @@ impl<A: Allocator> Table<Room<A>, A> {
             ≡ shown (moved_channel taken (sought_key old.entry) new.now) (rooms_of self.old.all) }
     {
         rename_each(&mut self.entries, old, taken, new, copies);
+        self.bytes = slots_weight(&self.entries);
     }
 
     /// Whether somebody is a member of one of the channels.

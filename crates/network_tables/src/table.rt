@@ -1,6 +1,6 @@
 //! Values by key.
 
-ghost use Rattle.std.specs.Prelude.{◌≡◌, ◌+◌, ◌<◌, ◌≤◌, length, slice_get, slice_set, IsSome};
+ghost use Rattle.std.specs.Prelude.{◌≡◌, ◌+◌, ◌<◌, ◌≤◌, ◌%◌, ◌^◌, length, map, slice_get, slice_set, sum_by, IsSome};
 ghost use Rattle.std.specs.Prelude.{IfOk, vec_len, vec_capacity, OnOk, OnErr};
 ghost use Rattle.std.specs.List.{insert, remove};
 ghost use Rattle.std.specs.List.Sorted.{IsBinarySearchResult, IsSearchInRange};
@@ -10,16 +10,19 @@ ghost use Rattle.net_view.specs.Names.{bytes_cmp};
 ghost use Rattle.network_tables.specs.Table.{entry_now, swapped_in, swapped_out};
 ghost use Rattle.network_tables.specs.Sought.{sought_key};
 ghost use Rattle.network_tables.specs.Head.{head_of, AreBytesTo};
+ghost use Rattle.network_tables.specs.Table.{entry_bytes, entry_of, map_bytes};
 
 use crate::OutOfMemory;
 use crate::marks::{is_up, marks_of, put_up};
 use crate::slot::{Entry, Slot};
 use crate::sought::{Sought, head, key_head, order, order_behind};
+use crate::table_value::TableValue;
 use block_list::Blocks;
 use std::alloc::Allocator;
 use std::cmp::Ordering;
 use std::marker::Model;
 use std::mem;
+use weights::{less, more};
 
 /// How many entries a table has at least that has marks.
 const FEWEST_MARKED: usize = 64;
@@ -30,15 +33,17 @@ const FEWEST_NEW: usize = 256;
 
 /// Values by key, in the order of the keys, byte by byte.
 #[derive(Drop)]
-pub struct Table<V, A: Allocator> {
+pub struct Table<V: TableValue, A: Allocator> {
     pub(crate) entries: Blocks<Slot<V, A>, A>,
     // those of all entries are up; none in a table that is small
     pub(crate) marks: Vec<bool, A>,
     // how many entries came since they were made, at most the greatest count
     came: usize,
+    // how many bytes the entries keep
+    pub(crate) bytes: u64,
 }
 
-impl<V, A: Allocator> Model for Table<V, A> {
+impl<V: TableValue, A: Allocator> Model for Table<V, A> {
     ghost use Rattle.network_tables.specs.Table.{Tabled, tabled_code, tabled, IsTabled};
 
     ghost Value = { Tabled V };
@@ -47,7 +52,7 @@ impl<V, A: Allocator> Model for Table<V, A> {
 
     ghost view = { λ t. tabled t.entries };
 
-    ghost invariant = { λ t. IsTabled t.entries t.marks.items };
+    ghost invariant = { λ t. IsTabled V.weight t.entries t.marks.items t.bytes };
 }
 
 /// How an entry compares to what is looked for, whose head is this.
@@ -150,9 +155,28 @@ pub(crate) fn remove_at<T: Drop, A: Allocator>(items: &mut Vec<T, A>, place: usi
     let _ = items.remove(place);
 }
 
-impl<V, A: Allocator> Table<V, A> {
+/// How many bytes an entry keeps: its key, and its value.
+pub(crate) fn entry_weight<V: TableValue, A: Allocator>(entry: &Entry<V, A>) -> u64
+    ensures { result ≡ entry_bytes V.weight (entry.now.key.items, entry.now.value) % 2 ^ 64 }
+{
+    more(entry.key.len() as u64, entry.value.weight())
+}
+
+/// How many bytes all entries keep, counted anew.
+pub(crate) fn slots_weight<V: TableValue, A: Allocator>(slots: &Blocks<Slot<V, A>, A>) -> u64
+    ensures { result
+        ≡ sum_by (entry_bytes V.weight) (map entry_of slots.now.items) % 2 ^ 64 }
+{
+    let mut bytes = 0;
+    for place in 0..slots.len() {
+        bytes = more(bytes, entry_weight(&slots.at(place).entry));
+    }
+    bytes
+}
+
+impl<V: TableValue, A: Allocator> Table<V, A> {
     /// A table without entries.
-    #[tactic(auto, using(crate::proofs::TableLemmas::none_sorted))]
+    #[tactic(auto, using(crate::proofs::TableLemmas::none_sorted, crate::proofs::BytesLemmas::none_weigh))]
     pub fn new(alloc: A) -> Table<V, A>
     where
         A: Copy,
@@ -162,7 +186,15 @@ impl<V, A: Allocator> Table<V, A> {
             entries: Blocks::new(alloc),
             marks: Vec::new(alloc),
             came: 0,
+            bytes: 0,
         }
+    }
+
+    /// How many bytes the entries keep: their keys, and their values. One step.
+    pub fn bytes(&self) -> u64
+        ensures { result ≡ map_bytes V.weight self.now.all % 2 ^ 64 }
+    {
+        self.bytes
     }
 
     /// How many entries there are.
@@ -254,7 +286,7 @@ impl<V, A: Allocator> Table<V, A> {
     }
 }
 
-impl<V: Drop, A: Allocator> Table<V, A> {
+impl<V: TableValue + Drop, A: Allocator> Table<V, A> {
     /// Makes room for more entries.
     pub fn reserve(&mut self, more: usize) -> Result<(), OutOfMemory>
     where
@@ -292,10 +324,18 @@ impl<V: Drop, A: Allocator> Table<V, A> {
         put_up(&mut self.marks, head);
         self.came = self.came.saturating_add(1);
         let found = place_near(&self.entries, near, Sought::Key(&entry.key));
+        let bytes = entry_weight(&entry);
         let slot = Slot { head, entry };
         match found {
-            Ok(place) => *self.entries.at_mut(place) = slot,
-            Err(place) => self.entries.insert(place, slot),
+            Ok(place) => {
+                let gone = entry_weight(&self.entries.at(place).entry);
+                self.bytes = more(less(self.bytes, gone), bytes);
+                *self.entries.at_mut(place) = slot;
+            }
+            Err(place) => {
+                self.bytes = more(self.bytes, bytes);
+                self.entries.insert(place, slot);
+            }
         }
     }
 
@@ -309,7 +349,9 @@ impl<V: Drop, A: Allocator> Table<V, A> {
     {
         match place_near(&self.entries, near, sought) {
             Ok(place) => {
+                let came = value.weight();
                 mem::swap(&mut self.entries.at_mut(place).entry.value, value);
+                self.bytes = more(less(self.bytes, value.weight()), came);
                 true
             }
             Err(_) => false,
@@ -341,7 +383,11 @@ impl<V: Drop, A: Allocator> Table<V, A> {
             return None;
         }
         match place_of(&self.entries, head, sought) {
-            Ok(place) => Some(self.entries.remove(place).entry),
+            Ok(place) => {
+                let gone = self.entries.remove(place);
+                self.bytes = less(self.bytes, entry_weight(&gone.entry));
+                Some(gone.entry)
+            }
             Err(_) => None,
         }
     }
@@ -354,10 +400,11 @@ impl<V: Drop, A: Allocator> Table<V, A> {
     }
 
     /// Takes out all entries.
-    #[tactic(auto, using(crate::proofs::TableLemmas::none_sorted, crate::proofs::MarkLemmas::none_marked))]
+    #[tactic(auto, using(crate::proofs::TableLemmas::none_sorted, crate::proofs::MarkLemmas::none_marked, crate::proofs::BytesLemmas::none_weigh))]
     pub fn clear(&mut self)
         ensures { self.new.all ≡ fin.empty }
     {
         self.entries.clear();
+        self.bytes = 0;
     }
 }

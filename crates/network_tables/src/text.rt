@@ -1,7 +1,8 @@
 //! Texts that may be absent.
 
-ghost use Rattle.std.specs.Prelude.{◌≡◌, IfOk};
+ghost use Rattle.std.specs.Prelude.{◌≡◌, ◌%◌, ◌^◌, IfOk};
 ghost use Rattle.std.specs.Option.{option_map};
+ghost use Rattle.weights.specs.Sums.{maybe_bytes};
 
 use crate::OutOfMemory;
 use std::alloc::Allocator;
@@ -14,6 +15,16 @@ pub fn bytes<A: Allocator>(text: &Option<Vec<u8, A>>) -> Option<&[u8]>
     match text {
         Some(text) => Some(text.as_slice()),
         None => None,
+    }
+}
+
+/// How many bytes a text keeps, if there is one.
+pub fn text_weight<A: Allocator>(text: &Option<Vec<u8, A>>) -> u64
+    ensures { result ≡ maybe_bytes (option_map (λ t. t.items) text.now) % 2 ^ 64 }
+{
+    match text {
+        Some(text) => text.len() as u64,
+        None => 0,
     }
 }
 

@@ -4,3 +4,4 @@ pub mod Moding
 pub mod Listing
 pub mod FromLines
 pub mod Coded
+pub mod Weights

@@ -6,6 +6,7 @@ use irc_support::Support;
 use net_view::{Channel, Item, Member, NetworkView};
 use std::alloc::{Allocator, Global};
 use std::marker::Model;
+use weights::Weighed;
 
 /// A `TableView` in the memory of the program.
 ///
@@ -43,6 +44,16 @@ impl QuickView {
     {
         let view = TableView::new(alloc)?;
         Ok(QuickView { view })
+    }
+}
+
+impl Weighed for QuickView {
+    ghost use Rattle.quick_view.specs.Weights.{view_bytes};
+
+    ghost weight = { view_bytes };
+
+    fn weight(&self) -> u64 {
+        self.view.weight()
     }
 }
 

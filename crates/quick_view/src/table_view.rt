@@ -7,9 +7,10 @@ use crate::state::State;
 use irc_names::is_nameable;
 use irc_support::Support;
 use net_view::{Channel, Item, Member, NetworkView, StateCommand};
-use network_tables::{Sought, bytes};
+use network_tables::{Sought, bytes, text_weight};
 use std::alloc::{Allocator, Global};
 use std::marker::Model;
+use weights::{Weighed, more};
 
 /// A view by tables in the order of keys: persons by the keys of their nicks, channels by those of
 /// their names, and in each channel the members. It keeps no line.
@@ -56,6 +57,18 @@ impl<A: Allocator + Copy> TableView<A> {
     {
         let state = State::new(alloc)?;
         Ok(TableView { state })
+    }
+}
+
+impl<A: Allocator> Weighed for TableView<A> {
+    ghost use Rattle.quick_view.specs.Weights.{view_bytes};
+
+    ghost weight = { view_bytes };
+
+    fn weight(&self) -> u64 {
+        let state = &self.state;
+        let ours = more(text_weight(&state.own), state.support.weight());
+        more(more(ours, state.rooms.bytes()), state.people.bytes())
     }
 }
 

@@ -1,5 +1,6 @@
 pub mod Words
 pub mod TapeLast
+pub mod TapeBytes
 pub mod TapeTake
 pub mod LastLine
 pub mod NextKey

@@ -6,3 +6,4 @@ pub mod Letters
 pub mod Places
 pub mod NameCount
 pub mod Whole
+pub mod Weights

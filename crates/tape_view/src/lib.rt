@@ -1,6 +1,7 @@
 //! A view that keeps the state lines of a network, and answers by looking back through them.
 #![tactic(auto)]
 
+mod bytes;
 mod facts;
 mod kept;
 mod members;

@@ -2,6 +2,7 @@
 
 ghost use Rattle.std.specs.Prelude.{◌≡◌, [], IfOk};
 
+use crate::bytes::kept_bytes;
 use crate::facts::Fact;
 use crate::kept::{Kept, fixed_after, marks_of, own_in, ready_in, take_settings};
 use crate::name_count::with_named;
@@ -13,6 +14,7 @@ use irc_support::Support;
 use net_view::{Channel, Item, Member, NetworkView, OutOfMemory, StateCommand, Telling, told_as};
 use std::alloc::{Allocator, Global};
 use std::marker::Model;
+use weights::{Weighed, more};
 
 /// A view that keeps the state lines in a list, and searches them backwards. A loss of the
 /// connection is a mark beside the last kept line.
@@ -227,5 +229,16 @@ impl<A: Allocator + Copy> NetworkView for TapeView<A> {
             return None;
         }
         self.tape().fact(nick, Fact::Account)
+    }
+}
+
+impl<A: Allocator> Weighed for TapeView<A> {
+    ghost use Rattle.tape_view.specs.Weights.{tape_bytes};
+
+    ghost weight = { tape_bytes };
+
+    /// Counted anew at each call: it goes over all kept lines.
+    fn weight(&self) -> u64 {
+        more(kept_bytes(&self.kept), self.support.weight())
     }
 }

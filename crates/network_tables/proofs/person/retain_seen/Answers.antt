@@ -4,12 +4,17 @@ use Rattle.network_tables.proofs.NumberedLemmas.{retained_joined, retained_tied}
 use Rattle.network_tables.{proofs.ShownLemmas.retain-shown, specs.People.known_of}
 use Rattle.std.{proofs.Common.arith, specs.Cmp.Lexicographic.nat_list_cmp_total}
 
+pub cells_weight-people-inside-requires : goal.cells_weight-people-inside-requires
+cells_weight-people-inside-requires g c =
+    retained_tied c.people.invariant.tied _ _ c.retain_numbers.ensures c.retain_cells.ensures.cells
+
 pub invariant_of-people : goal.invariant_of-people
 invariant_of-people g c = record {
   tied = retained_tied c.people.invariant.tied _ _ c.retain_numbers.ensures
       c.retain_cells.ensures.cells;
   index_room = omega arith;
   cell_room = c.retain_cells.ensures.room;
+  weighs = c.cells_weight-people-inside.ensures;
 }
 
 pub returns : goal.returns

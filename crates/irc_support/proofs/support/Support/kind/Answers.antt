@@ -13,5 +13,5 @@ unfolding kind_of
 returns g c =
     let fits : c.args.letter < 256 = c.ranges.letter.fits in
     let none : is_some (rank_of_letter c.args.self.now c.args.letter) ≡ false = cc in
-    rw none (c.self.invariant.3 c.args.letter fits
+    rw none (c.self.invariant.4 c.args.letter fits
     ∙ ap (λ settings. kind_in (mode_lists settings) c.args.letter) c.self.view_is)

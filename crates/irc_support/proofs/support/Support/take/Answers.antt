@@ -8,8 +8,9 @@ invariant_of-self-2 g c =
     let done = c.in_ok-pending.ensures before c.self.invariant.2 in (
       c.prefix_in-self-inside.ensures,
       c.mapping_in-self-inside.ensures,
-      rw (c.make.ensures, c.in_ok-reserve.ensures.entries, ← done)
+      rw (c.make-self-inside.ensures.after, c.in_ok-reserve.ensures.entries, ← done)
           (AreApart-fold c.in_ok-edits.field-0.items before c.self.invariant.2),
+      c.make-self-inside.ensures.bytes,
       c.kinds_in-self-inside.ensures,
     )
 
@@ -19,5 +20,5 @@ returns-clause-taken g c =
     let yes : has_command c.args.line.now (codes "005") ≡ true = cc in
     let before = tokens_in c.self.inside.tokens.entries in
     let done = c.in_ok-pending.ensures before c.self.invariant.2 in
-    rw (yes, c.make.ensures, c.in_ok-reserve.ensures.entries, ← done, c.self.view_is)
+    rw (yes, c.make-self-inside.ensures.after, c.in_ok-reserve.ensures.entries, ← done, c.self.view_is)
     (c.in_ok-edits.ensures c.args.self.now)

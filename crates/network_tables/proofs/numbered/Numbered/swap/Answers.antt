@@ -1,6 +1,8 @@
 use Rattle.network_tables.proofs.numbered.Numbered.swap.Goals as goal
-use Rattle.network_tables.proofs.NumberedLemmas.{holds, none_got, swapped_joined, swapped_there}
-use Rattle.network_tables.proofs.NumberedLemmas.{swapped_tied, swapped_value}
+use Rattle.network_tables.proofs.BytesLemmas.{valued}
+use Rattle.network_tables.proofs.NumberedLemmas.{holds, none_got, swapped_joined, swapped_old}
+use Rattle.network_tables.proofs.NumberedLemmas.{swapped_put, swapped_there, swapped_tied}
+use Rattle.network_tables.proofs.NumberedLemmas.{swapped_value}
 use Rattle.{network_tables.specs.Sought.sought_key, std.proofs.Common.{refl, rules, sym}}
 
 pub swap_in-requires : goal.swap_in-requires
@@ -11,6 +13,13 @@ invariant_of-self g c = record {
   tied = swapped_tied c.self.invariant.tied _ _ c.in-Some.ensures c.swap_in.ensures.cells;
   index_room = c.self.invariant.index_room;
   cell_room = c.swap_in.ensures.room c.self.inside.spare c.self.invariant.cell_room;
+  weighs =
+      let tied = c.self.invariant.tied in
+      let cells = c.swap_in.ensures.cells in
+      rw (swapped_put tied _ _ c.in-Some.ensures cells) (valued _ _ _ c.self.invariant.weighs _ _
+      (swapped_old tied _ _ c.in-Some.ensures cells)
+      (rw c.swap_in.ensures.value at c.weight.ensures) c.weight-came.ensures
+      c.less.ensures c.more-self-inside.ensures);
 }
 
 pub returns-in-Some : goal.returns-in-Some

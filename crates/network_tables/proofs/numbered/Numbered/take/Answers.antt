@@ -1,5 +1,7 @@
 use Rattle.network_tables.proofs.numbered.Numbered.take.Goals as goal
-use Rattle.network_tables.proofs.NumberedLemmas.{got, holds, none_got, taken_joined, taken_tied}
+use Rattle.network_tables.proofs.BytesLemmas.{went}
+use Rattle.network_tables.proofs.NumberedLemmas.{got, holds, key_of_cell, none_got, taken_joined}
+use Rattle.network_tables.proofs.NumberedLemmas.{taken_tied}
 use Rattle.network_tables.{proofs.TableLemmas.{by_bytes, removed_none_of}, specs.Sought.sought_key}
 use Rattle.std.proofs.Common.{arith, refl, rules, sym}
 
@@ -12,6 +14,7 @@ invariant_of-self g c =
       tied = rw (c.remove.ensures.all, ← same) old.tied;
       index_room = omega (arith, room, old.index_room);
       cell_room = old.cell_room;
+      weighs = rw (c.remove.ensures.all, ← same) old.weighs;
     }
 
 pub returns-in_err-number : goal.returns-in_err-number
@@ -37,10 +40,14 @@ invariant_of-self-2 g c =
     let old = c.self.invariant in
     let cells = c.remove-known.ensures in
     let spare = c.saturating_add-self-inside.ensures in
+    let key = key_of_cell old.tied _ _ _ number (sym cells.value) in
     record {
       tied = taken_tied old.tied _ number c.remove.ensures.all cells.updates;
       index_room = omega (arith, left, old.index_room, spare);
       cell_room = omega (arith, old.cell_room, cells.len, cells.capacity, spare);
+      weighs = rw (taken_joined old.tied _ number c.remove.ensures.all cells.updates)
+          (went _ _ _ old.weighs _ (got old.tied _ _ _ number (sym cells.value))
+          (rw key at c.known_weight.ensures) c.less-self-inside.ensures);
     }
 
 pub returns-clause-value : goal.returns-clause-value

@@ -3,7 +3,8 @@ use Rattle.network_tables.proofs.EachLemmas.{each_is, still_tabled}
 
 pub invariant_of-self : goal.invariant_of-self
 invariant_of-self g c =
-    still_tabled _ _ _ _ c.self.invariant c.unseat_each.ensures
+    still_tabled _ _ _ _ _ c.self.invariant c.unseat_each.ensures
+    c.slots_weight-self-inside.ensures
 
 pub returns : goal.returns
 returns g c =
