@@ -4,6 +4,7 @@
 
 mod entry;
 mod keeping;
+mod kept;
 pub mod laws;
 mod marks;
 mod names;

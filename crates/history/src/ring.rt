@@ -2,7 +2,7 @@
 
 ghost use Rattle.std.specs.Prelude.{ℕ, ◌≡◌, ◌↔◌, ◌<◌, ◌≤◌, ◌&&◌, IfOk, IsErrOf, IsTrue, None, OnErr, Some};
 ghost use Rattle.std.specs.Prelude.{◌++◌, ◌∷◌, [], OnOk, filter, length, map, nat_eq, option_map};
-ghost use Rattle.std.specs.Prelude.{not, slice_get, false, true};
+ghost use Rattle.std.specs.Prelude.{not, slice_get, false, true, ◌%◌, ◌^◌};
 ghost use Rattle.std.specs.List.{AllByRecursion};
 ghost use Rattle.std.specs.NonZero.{non_zero_usize_get};
 ghost use Rattle.std.specs.Option.{option_map_or, unwrap_or};
@@ -12,14 +12,15 @@ ghost use Rattle.history.specs.Messages.{AreWrittenMessages, CanComeAgain, is_ca
 ghost use Rattle.history.specs.Messages.{is_with_person, number_after, persons_held, rings_with};
 ghost use Rattle.history.specs.Messages.{staying_of, target_key, targets_held, with_message};
 ghost use Rattle.history.specs.Rings.{all_taken, taken};
+ghost use Rattle.history.specs.Weights.{history_bytes};
 
 use crate::OutOfMemory;
 use crate::entry::Entry;
+use crate::kept::Kept;
 use crate::targets::Targets;
 use circular_buffer::HeapCircularBuffer;
 use irc_names::CaseMapping;
 use std::alloc::{Allocator, Global};
-use std::collections::BTreeMap;
 use std::marker::Model;
 use std::num::NonZeroUsize;
 use std::ops::Bound;
@@ -77,7 +78,7 @@ impl From<OutOfMemory> for PushError {
 /// Messages are kept by their numbers, and each person or target has a ring of the numbers of its own.
 #[derive(Drop)]
 pub struct History<A: Allocator = Global> {
-    kept: BTreeMap<u64, Entry<A>, A>,
+    kept: Kept<A>,
     targets: Targets<A>,
     persons: Targets<A>,
     // how many messages of one ring there may be
@@ -94,11 +95,11 @@ impl<A: Allocator> Model for History<A> {
 
     ghost view = { λ h. record {
       capacity = h.capacity;
-      kept = h.kept.entries;
+      kept = h.kept;
       next = h.next;
     } };
 
-    ghost invariant = { λ h. IsTied h.capacity h.kept.entries h.next h.targets h.persons };
+    ghost invariant = { λ h. IsTied h.capacity h.kept h.next h.targets h.persons };
 }
 
 /// The number after this one; `None` after the last one.
@@ -109,34 +110,27 @@ fn number_after(number: u64) -> Option<u64>
 }
 
 /// Takes out the message of a number, if one is given.
-fn take_out<A: Allocator + Drop>(kept: &mut BTreeMap<u64, Entry<A>, A>, number: Option<u64>)
-    ensures { kept.new.entries
-        ≡ option_map_or (λ j. taken j kept.old.entries) number kept.old.entries }
+fn take_out<A: Allocator + Drop>(kept: &mut Kept<A>, number: Option<u64>)
+    ensures { kept.new ≡ option_map_or (λ j. taken j kept.old) number kept.old }
 {
     if let Some(number) = number {
-        let _message = kept.remove(&number);
+        kept.remove(number);
     }
 }
 
 /// Takes out the messages of these numbers.
-fn take_all_out<A: Allocator + Drop>(
-    kept: &mut BTreeMap<u64, Entry<A>, A>,
-    numbers: &HeapCircularBuffer<u64, A>,
-)
-    ensures { kept.new.entries ≡ all_taken numbers.now.items kept.old.entries }
+fn take_all_out<A: Allocator + Drop>(kept: &mut Kept<A>, numbers: &HeapCircularBuffer<u64, A>)
+    ensures { kept.new ≡ all_taken numbers.now.items kept.old }
 {
     for number in numbers.iter() {
-        let _message = kept.remove(number);
+        kept.remove(*number);
     }
 }
 
 /// Takes out the messages of a target that is forgotten, if one is.
-fn forget<A: Allocator + Drop>(
-    kept: &mut BTreeMap<u64, Entry<A>, A>,
-    numbers: Option<HeapCircularBuffer<u64, A>>,
-)
-    ensures { kept.new.entries ≡ all_taken
-        (unwrap_or (option_map (λ ring. ring.items) numbers) []) kept.old.entries }
+fn forget<A: Allocator + Drop>(kept: &mut Kept<A>, numbers: Option<HeapCircularBuffer<u64, A>>)
+    ensures { kept.new ≡ all_taken
+        (unwrap_or (option_map (λ ring. ring.items) numbers) []) kept.old }
 {
     if let Some(numbers) = numbers {
         take_all_out(kept, &numbers);
@@ -146,31 +140,31 @@ fn forget<A: Allocator + Drop>(
 /// Keeps one message more in the ring of this key, beside the rings of the other kind, and takes out
 /// what goes for it. After an error all is as it was.
 fn keep<A: Allocator + Copy + Drop>(
-    kept: &mut BTreeMap<u64, Entry<A>, A>,
+    kept: &mut Kept<A>,
     targets: &mut Targets<A>,
     others: &Targets<A>,
     key: Vec<u8, A>,
     number: u64,
     entry: Entry<A>,
 ) -> Result<(), OutOfMemory>
-    requires below { AllByRecursion (λ m. m.0 < number) kept.old.entries }
+    requires below { AllByRecursion (λ m. m.0 < number) kept.old }
     requires tied { targets.old ≡ rings_with (is_with_person (number, entry))
-        targets.old.capacity kept.old.entries }
+        targets.old.capacity kept.old }
     requires others { others.now ≡ rings_with (not (is_with_person (number, entry)))
-        targets.old.capacity kept.old.entries }
+        targets.old.capacity kept.old }
     requires key { key.items ≡ target_key (number, entry) }
-    ensures ok { OnOk result (kept.new.entries
-        ≡ staying_of targets.old.capacity (kept.old.entries ++ (number, entry) ∷ [])) }
+    ensures ok { OnOk result (kept.new
+        ≡ staying_of targets.old.capacity (kept.old ++ (number, entry) ∷ [])) }
     ensures tied { OnOk result (targets.new ≡ rings_with (is_with_person (number, entry))
-        targets.old.capacity kept.new.entries) }
+        targets.old.capacity kept.new) }
     ensures others { OnOk result (others.now ≡ rings_with (not (is_with_person (number, entry)))
-        targets.old.capacity kept.new.entries) }
-    ensures err { OnErr result (kept.new.entries ≡ kept.old.entries) }
+        targets.old.capacity kept.new) }
+    ensures err { OnErr result (kept.new ≡ kept.old) }
     ensures same { OnErr result (targets.new ≡ targets.old) }
 {
     let _count = targets.count();
     let _others = others.count();
-    kept.insert(number, entry)?;
+    kept.push(number, entry)?;
     match targets.note(key, number) {
         Ok((oldest, forgotten)) => {
             take_out(kept, oldest);
@@ -178,7 +172,7 @@ fn keep<A: Allocator + Copy + Drop>(
             Ok(())
         }
         Err(e) => {
-            let _message = kept.remove(&number);
+            kept.remove(number);
             Err(e)
         }
     }
@@ -188,22 +182,20 @@ fn keep<A: Allocator + Copy + Drop>(
 /// was.
 fn keep_in_ring<A: Allocator + Copy + Drop>(
     alloc: A,
-    kept: &mut BTreeMap<u64, Entry<A>, A>,
+    kept: &mut Kept<A>,
     targets: &mut Targets<A>,
     persons: &mut Targets<A>,
     number: u64,
     entry: Entry<A>,
 ) -> Result<(), OutOfMemory>
-    requires below { AllByRecursion (λ m. m.0 < number) kept.old.entries }
-    requires targets { targets.old ≡ rings_with false targets.old.capacity kept.old.entries }
-    requires persons { persons.old ≡ rings_with true targets.old.capacity kept.old.entries }
-    ensures ok { OnOk result (kept.new.entries
-        ≡ staying_of targets.old.capacity (kept.old.entries ++ (number, entry) ∷ [])) }
-    ensures targets { OnOk result (targets.new
-        ≡ rings_with false targets.old.capacity kept.new.entries) }
-    ensures persons { OnOk result (persons.new
-        ≡ rings_with true targets.old.capacity kept.new.entries) }
-    ensures err { OnErr result (kept.new.entries ≡ kept.old.entries) }
+    requires below { AllByRecursion (λ m. m.0 < number) kept.old }
+    requires targets { targets.old ≡ rings_with false targets.old.capacity kept.old }
+    requires persons { persons.old ≡ rings_with true targets.old.capacity kept.old }
+    ensures ok { OnOk result (kept.new
+        ≡ staying_of targets.old.capacity (kept.old ++ (number, entry) ∷ [])) }
+    ensures targets { OnOk result (targets.new ≡ rings_with false targets.old.capacity kept.new) }
+    ensures persons { OnOk result (persons.new ≡ rings_with true targets.old.capacity kept.new) }
+    ensures err { OnErr result (kept.new ≡ kept.old) }
     ensures same_targets { OnErr result (targets.new ≡ targets.old) }
     ensures same_persons { OnErr result (persons.new ≡ persons.old) }
 {
@@ -243,7 +235,7 @@ impl<A: Allocator + Copy + Drop> History<A> {
         let targets = Targets::new(alloc, capacity)?;
         let persons = Targets::new(alloc, capacity)?;
         Ok(History {
-            kept: BTreeMap::new(alloc),
+            kept: Kept::new(alloc),
             targets,
             persons,
             capacity,
@@ -320,14 +312,22 @@ impl<A: Allocator> History<A> {
     pub fn len(&self) -> usize
         ensures { result ≡ length self.now.kept }
     {
-        self.kept.len()
+        self.kept.messages().len()
     }
 
     /// Whether none is kept: whether none was taken yet.
     pub fn is_empty(&self) -> bool
         ensures { result ≡ nat_eq (length self.now.kept) 0 }
     {
-        self.kept.is_empty()
+        self.kept.messages().is_empty()
+    }
+
+    /// The bytes that the messages take that are kept, modulo 2^64: those of their texts, and
+    /// [`weights::ENTRY`] for each message. One step, however many there are.
+    pub fn bytes(&self) -> u64
+        ensures { result ≡ history_bytes self.now % 2 ^ 64 }
+    {
+        self.kept.bytes()
     }
 
     /// Of how many targets messages are kept, persons that have a ring aside; at most 128.
@@ -351,7 +351,7 @@ impl<A: Allocator> History<A> {
         ensures { option_map (λ entry. entry.now) result
             ≡ option_map (λ m. m.1) (slice_get self.now.kept i) }
     {
-        let (_, entry) = self.kept.iter().nth(i)?;
+        let (_, entry) = self.kept.messages().iter().nth(i)?;
         Some(entry)
     }
 
@@ -359,7 +359,7 @@ impl<A: Allocator> History<A> {
     pub fn number_of(&self, i: usize) -> Option<u64>
         ensures { result ≡ option_map (λ m. m.0) (slice_get self.now.kept i) }
     {
-        let (number, _) = self.kept.iter().nth(i)?;
+        let (number, _) = self.kept.messages().iter().nth(i)?;
         Some(*number)
     }
 
@@ -381,7 +381,7 @@ impl<A: Allocator> History<A> {
             None => Bound::Unbounded,
         };
         let mut missed = Vec::new(alloc);
-        for (_, entry) in self.kept.range((above, Bound::Unbounded)) {
+        for (_, entry) in self.kept.messages().range((above, Bound::Unbounded)) {
             missed.push(entry)?;
         }
         Ok(missed)
@@ -393,7 +393,7 @@ impl<A: Allocator> History<A> {
     {
         let _count = self.targets.count();
         let _persons = self.persons.count();
-        let _order = self.kept.iter();
+        let _order = self.kept.messages().iter();
     }
 
     /// All messages with their numbers, oldest first. One growing allocation.
@@ -403,7 +403,7 @@ impl<A: Allocator> History<A> {
     {
         self.can_come_again();
         let mut all = Vec::new(alloc);
-        for item in self.kept.iter() {
+        for item in self.kept.messages().iter() {
             all.push((*item.0, item.1))?;
         }
         Ok(all)
@@ -424,7 +424,7 @@ impl<A: Allocator> History<A> {
             None => Bound::Unbounded,
         };
         let mut above = Vec::new(alloc);
-        for item in self.kept.range((from, Bound::Unbounded)) {
+        for item in self.kept.messages().range((from, Bound::Unbounded)) {
             above.push((*item.0, item.1))?;
         }
         Ok(above)
@@ -434,7 +434,7 @@ impl<A: Allocator> History<A> {
     pub fn last_number(&self) -> Option<u64>
         ensures { result ≡ option_map (λ m. m.0) (last_item self.now.kept) }
     {
-        let (number, _) = self.kept.last_key_value()?;
+        let (number, _) = self.kept.messages().last_key_value()?;
         Some(*number)
     }
 }

@@ -17,3 +17,4 @@ pub mod Upkeep
 pub mod LostChannels
 pub mod InMemory
 pub mod StateParts
+pub mod Weights

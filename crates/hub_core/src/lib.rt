@@ -24,6 +24,7 @@ mod said;
 mod session;
 mod state_parts;
 mod upkeep;
+mod weighing;
 mod wishes;
 
 pub use attach::{AttachError, NoSession};

@@ -16,12 +16,14 @@ ghost use Rattle.network_tables.specs.Shown.{shown};
 ghost use Rattle.hub_core.specs.LostChannels.{channels_of_view, is_settled, joining, keyed};
 ghost use Rattle.hub_core.specs.LostChannels.{key_of_channel, lost_by, lost_then, put_all};
 ghost use Rattle.hub_core.specs.LostChannels.{is_named, settles, still};
+ghost use Rattle.hub_core.specs.Weights.{joining_bytes};
 
 use irc_line::Line;
 use irc_names::CaseMapping;
 use net_view::{Item, NetworkView, OutOfMemory, Telling, told};
-use network_tables::{Entry, Sought, Table, copy_of};
+use network_tables::{Entry, Sought, Table, TableValue, copy_of, text_weight};
 use std::alloc::Global;
+use weights::{NAME, more};
 
 /// A channel that we were on when a connection was lost.
 #[derive(Drop)]
@@ -30,6 +32,15 @@ pub struct LostChannel {
     pub name: Vec<u8>,
     /// Its key, the parameter of its mode `k`, if it had one (RFC 2811, section 4.2.10).
     pub key: Option<Vec<u8>>,
+}
+
+impl TableValue for LostChannel {
+    ghost weight = { λ channel. joining_bytes (joining channel) };
+
+    fn weight(&self) -> u64 {
+        let named = more(NAME, self.name.len() as u64);
+        more(named, text_weight(&self.key))
+    }
 }
 
 /// The channels that are to be joined again, by the keys of their names.

@@ -1,8 +1,7 @@
 use Rattle.history.proofs.keeping.Keeping.ring_said.Goals as goal
-use Rattle.history.proofs.KeptLines.{no_said_ring, said_ring_is}
-use Rattle.history.proofs.Words.{true, ◌≡◌}
-use Rattle.history.specs.{Entry.is_message, Keeping.kept_by}
-use Rattle.std.proofs.Common.{ap, rules, sym, ◌∙◌, ◌∷◌}
+use Rattle.history.proofs.KeptLines.{no_said_ring}
+use Rattle.history.specs.{Keeping.kept_by}
+use Rattle.std.proofs.Common.{sym, ◌∙◌}
 
 pub returns-then-not-is_message : goal.returns-then-not-is_message
 returns-then-not-is_message g c =

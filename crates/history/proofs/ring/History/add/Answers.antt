@@ -1,7 +1,7 @@
 use Rattle.history.proofs.ring.History.add.Goals as goal
 use Rattle.history.{proofs.{KeptBehind.below_next, LastMessages.all_kept}, specs.Entry.EntryParts}
 use Rattle.history.specs.{Entry.IsWrittenEntry, Messages.AreWrittenMessages}
-use Rattle.std.proofs.Common.{ap, arith, rules, subst, sym, ℕ, ◌∙◌}
+use Rattle.std.proofs.Common.{arith, subst, sym, ℕ}
 
 pub invariant_of-self-2 : goal.invariant_of-self-2
 invariant_of-self-2 g c = record {

@@ -8,7 +8,7 @@ returns-clause-written g c kept =
     lent_all IsWrittenEntry c.loop-entry.missed.items (grind (arith, all, append-nil))
 
 pub loop-entry-init : goal.loop-entry-init
-loop-entry-init g c = grind (arith, missed-above c.args.mark c.self.inside.kept.entries)
+loop-entry-init g c = grind (arith, missed-above c.args.mark c.self.inside.kept)
 
 pub loop-entry-preserved : goal.loop-entry-preserved
 loop-entry-preserved g c = grind (arith, common_steps)

@@ -5,7 +5,7 @@ use Rattle.std.proofs.{Common.{ap, arith, length, reverse, true, ◌∙◌}, lem
 pub returns-clause-count : goal.returns-clause-count
 returns-clause-count g c =
     c.count.ensures.count ∙ ap (λ r. length r.rings) c.self.invariant.persons
-    ∙ length-map (targets target_key (reverse (kept_with true c.self.inside.kept.entries))) _
+    ∙ length-map (targets target_key (reverse (kept_with true c.self.inside.kept))) _
     ∙ ap persons_held c.self.view_is
 
 pub returns-clause-few : goal.returns-clause-few
