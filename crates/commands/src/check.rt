@@ -9,7 +9,7 @@ ghost use Rattle.commands.specs.Check.{IsCauseOf, report_of};
 use crate::fault::Fault;
 use crate::kept::report_kept;
 use crate::warning::{
-    warn_of_empty_passwords, warn_of_plain_text, warn_of_readers, warn_of_salts,
+    warn_of_empty_passwords, warn_of_memory, warn_of_plain_text, warn_of_readers, warn_of_salts,
     warn_of_unknown_keys,
 };
 use bnc_config::Config;
@@ -66,8 +66,8 @@ pub fn settings_text<R: AllocGlobal + Files>(rt: &R, path: &str) -> Result<Vec<u
 }
 
 /// Checks the settings file at a path, and reports on standard output, also what is kept of each
-/// network. On standard error it warns of a file that others can read, of unknown keys, of short
-/// salts, and of passwords that are empty or go in plain text.
+/// network. On standard error it warns of a file that others can read, of unknown keys, of little
+/// memory, of short salts, and of passwords that are empty or go in plain text.
 pub fn check_file<R: AllocGlobal + Files + Print + Eprint>(
     rt: &R,
     path: &str,
@@ -84,6 +84,7 @@ pub fn check_file<R: AllocGlobal + Files + Print + Eprint>(
     warn_of_unknown_keys(rt, text.as_slice());
     match Config::read(rt.alloc(), text.as_slice()) {
         Ok(config) => {
+            warn_of_memory(rt, &config);
             warn_of_salts(rt, &config);
             warn_of_empty_passwords(rt, &config);
             warn_of_plain_text(rt, &config);

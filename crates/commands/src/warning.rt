@@ -50,6 +50,17 @@ pub fn warn_of_empty_passwords(rt: &impl Eprint, config: &Config) {
     }
 }
 
+/// Warns on standard error of a memory of less than a sixteenth of the history: each network keeps up to
+/// 128 times as many messages as the history says, of some 500 bytes as a rule.
+pub fn warn_of_memory(rt: &impl Eprint, config: &Config) {
+    let least = config.history() / 16;
+    if (config.memory() as usize) < least {
+        let _ = eprintln!(rt;
+            "bnc: warning: memory is less than a sixteenth of history, {least} MiB"
+        );
+    }
+}
+
 /// Warns on standard error of each key of a settings file's text that no setting has.
 pub fn warn_of_unknown_keys<R: AllocGlobal + Eprint>(rt: &R, text: &[u8]) {
     if let Ok(keys) = unknown_keys(rt.alloc(), text) {

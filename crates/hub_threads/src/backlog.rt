@@ -95,6 +95,14 @@ impl Backlog {
         self.front.is_none() && self.batch.is_empty() && self.held.is_none()
     }
 
+    /// Whether a packet of more than 1 MiB is being written.
+    pub(crate) fn has_bulk(&self) -> bool {
+        match &self.front {
+            Some(front) => front.is_bulky(),
+            None => false,
+        }
+    }
+
     /// Moves the packet that is held to where it is written from, if there is room for it. Whether
     /// none is held then.
     pub(crate) fn settle(&mut self) -> bool

@@ -1,12 +1,14 @@
 //! What a worker sleeps on.
 
 use crate::OutOfMemory;
+use crate::bulk::is_bulky;
 use crate::turns::Turns;
 use std::alloc::Global;
 use std::sync::atomic::{AtomicBool, AtomicU64, Ordering};
 use std::sync::{Arc, Wait};
 use std::thread::Parker;
 use std::time::Duration;
+use welcome::Packet;
 
 /// How many milliseconds a nap lasts at most.
 const NAP: u64 = 1;
@@ -29,6 +31,8 @@ pub struct Bell {
     // the worker is the writer of a session: how many packets it has written, when it last had nothing
     // left to write
     written: AtomicU64,
+    // the worker is the writer of a session: how many packets of more than 1 MiB wait for it
+    bulk: AtomicU64,
 }
 
 /// A bell, shared by any number of hands.
@@ -46,6 +50,7 @@ pub fn shared_bell(alloc: Global) -> Result<SharedBell, OutOfMemory> {
             steps: AtomicU64::new(0),
             is_ready: AtomicBool::new(false),
             written: AtomicU64::new(0),
+            bulk: AtomicU64::new(0),
         },
     )?)
 }
@@ -133,6 +138,35 @@ impl Bell {
     /// How many packets the writer had written when it last had nothing left to write.
     pub(crate) fn written(&self) -> u64 {
         self.written.load(Ordering::SeqCst)
+    }
+
+    /// Counts a packet that the writer is about to be sent, if it has more than 1 MiB.
+    pub(crate) fn add_bulk(&self, packet: &Packet) {
+        if is_bulky(packet) {
+            self.bulk.fetch_add(1, Ordering::SeqCst);
+        }
+    }
+
+    /// Takes that back for a packet that was not sent.
+    pub(crate) fn take_bulk_back(&self, packet: &Packet) {
+        if is_bulky(packet) {
+            self.note_bulk_written();
+        }
+    }
+
+    /// Says that the writer has written such a packet.
+    pub(crate) fn note_bulk_written(&self) {
+        self.bulk.fetch_sub(1, Ordering::SeqCst);
+    }
+
+    /// Says that the writer writes no more.
+    pub(crate) fn clear_bulk(&self) {
+        self.bulk.store(0, Ordering::SeqCst);
+    }
+
+    /// Whether packets of more than 1 MiB wait for the writer.
+    pub(crate) fn has_bulk(&self) -> bool {
+        self.bulk.load(Ordering::SeqCst) > 0
     }
 
     /// Says whether the pump that sleeps on it waits for room in an outlet, so that a writer that

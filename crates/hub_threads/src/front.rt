@@ -3,6 +3,7 @@
 ghost use Rattle.std.specs.Prelude.{◌≤◌, length};
 ghost use Rattle.irc_line.specs.Writing.{bytes_of};
 
+use crate::bulk::is_bulky;
 use crate::write_call::{Call, write_call};
 use std::io::Write;
 use welcome::Packet;
@@ -27,6 +28,11 @@ impl Front {
         ensures { left_in (Some result) ≡ bytes_of packet }
     {
         Front { packet, at: 0 }
+    }
+
+    /// Whether the packet has more than 1 MiB.
+    pub(crate) fn is_bulky(&self) -> bool {
+        is_bulky(&self.packet)
     }
 
     /// Writes of what is left, in one call. Answers what is left then, and what became of the call.

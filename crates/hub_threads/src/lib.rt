@@ -3,6 +3,7 @@
 
 mod backlog;
 mod bell;
+mod bulk;
 mod ending;
 mod front;
 mod gate;
@@ -27,6 +28,7 @@ mod writer;
 mod writing;
 
 pub use bell::{Bell, SharedBell, shared_bell};
+pub use bulk::Bulk;
 pub use ending::{Ended, end_session, end_session_at};
 pub use gate::{Clock, FreeGate, Gate, Point};
 pub use hub_ends::OutOfMemory;

@@ -59,6 +59,7 @@ impl Drop for OutletEnd {
         drop(consumer);
         drop(buffer);
         writer.set_ready(false);
+        writer.clear_bulk();
         drop(writer);
         drop(sign);
         pump.ring();
@@ -205,6 +206,14 @@ impl OutletEnd {
             }
             Call::Blocked | Call::Failed => self.writer.set_ready(false),
             Call::Interrupted => {}
+        }
+    }
+
+    /// Reports that a packet of more than 1 MiB is written, if it was in front before a write call and
+    /// is no more.
+    pub(crate) fn note_bulk(&self, was_in_front: bool, is_in_front: bool) {
+        if was_in_front && !is_in_front {
+            self.writer.note_bulk_written();
         }
     }
 

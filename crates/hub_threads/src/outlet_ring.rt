@@ -5,13 +5,15 @@ ghost use Rattle.irc_line.specs.Lines.{counted};
 ghost use Rattle.rtrb.specs.Ring.{sent};
 ghost use Rattle.hub_threads.specs.Queues.{closed_in};
 
+use crate::OutOfMemory;
 use crate::bell::SharedBell;
+use crate::bulk::Bulk;
 use crate::queued::{Counted, Queued};
 use hub_ends::{Outlet, SessionId};
 use receipts::{Left, Notes, Parting, Sent, left_by};
 use rtrb::{Producer, PushError};
 use std::alloc::Global;
-use std::sync::{Mutex, Wait};
+use std::sync::{Arc, Mutex, Wait};
 use welcome::Packet;
 
 /// The end that a hub sends packets into. Dropping it wakes the writer.
@@ -142,6 +144,11 @@ impl RingOutlet {
         left_by(parting, &self.notes.lock(rt))
     }
 
+    /// What tells whether packets of more than 1 MiB wait for its writer.
+    pub(crate) fn bulk(&self) -> Result<Bulk, OutOfMemory> {
+        Ok(Bulk::of(Arc::try_clone(&self.writer)?))
+    }
+
     /// How many items the other end is known to have taken.
     fn taken(&self) -> u64 {
         let held = self
@@ -200,6 +207,8 @@ impl RingOutlet {
         if self.closed.is_some() {
             return Err(packet);
         }
+        // before the writer may have it, which counts it down
+        self.writer.add_bulk(&packet);
         match self.producer.push(Queued::Lines(packet)) {
             Ok(()) => {
                 self.count = self.count.saturating_add(1);
@@ -207,7 +216,10 @@ impl RingOutlet {
                 self.call_writer();
                 Ok(())
             }
-            Err(PushError::Full(Queued::Lines(packet))) => Err(packet),
+            Err(PushError::Full(Queued::Lines(packet))) => {
+                self.writer.take_bulk_back(&packet);
+                Err(packet)
+            }
             Err(PushError::Full(Queued::Closing { .. })) => unreachable!(),
         }
     }

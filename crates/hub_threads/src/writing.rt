@@ -101,8 +101,10 @@ fn write_once<W: Write, G: Gate>(
     ensures end { items_of end.new ≡ items_of end.old }
 {
     gate.pass(Point::BeforeWrite);
+    let had_bulk = backlog.has_bulk();
     let call = backlog.write(out);
     end.note_call(call);
+    end.note_bulk(had_bulk, backlog.has_bulk());
     if slowness.is_too_much(call, end.is_cut()) {
         return false;
     }

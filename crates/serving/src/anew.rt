@@ -1,11 +1,13 @@
-//! A network that is begun anew after memory ran out for what it sent.
+//! A network that is begun anew, since it keeps too much or memory ran out for what it sent.
 
 use crate::journaling::begin_again;
+use crate::limits::millis;
 use crate::link::{Link, network_with_link};
 use crate::profiles::profile_of;
 use crate::shared::Shared;
 use crate::slot::Slot;
 use crate::station::Station;
+use crate::stopping::REST;
 use hub_threads::Network;
 use journal_writer::Disk;
 use net_view::NetworkView;
@@ -20,6 +22,30 @@ use steward::{Answer, Event};
 /// After how many seconds a start that was refused is tried again.
 const PAUSE: u64 = 1;
 
+/// Why a network is begun anew.
+#[derive(Clone, Copy, Debug, PartialEq, Eq)]
+pub enum Cause {
+    /// It keeps more bytes than it may.
+    Outgrown {
+        /// How many it keeps.
+        bytes: u64,
+        /// How many it may.
+        budget: u64,
+    },
+    /// There was no memory for what it sent, three times in succession.
+    NoMemory,
+}
+
+impl Cause {
+    /// How many bytes it counts as to keep, which are above its budget.
+    fn bytes(self) -> u64 {
+        match self {
+            Cause::Outgrown { bytes, .. } => bytes,
+            Cause::NoMemory => u64::MAX,
+        }
+    }
+}
+
 /// What makes a network that has received nothing, with its link.
 pub trait Start<V: NetworkView + Drop> {
     /// Makes one. `AllocError` if an allocation fails.
@@ -33,19 +59,27 @@ pub(crate) struct OfSettings<'a, R: Wait + Clock + Disk> {
     pub(crate) alloc: Global,
     pub(crate) shared: &'a Shared,
     pub(crate) station: &'a Station,
+    pub(crate) cause: Cause,
 }
 
 impl<R: Wait + Clock + Disk> Start<QuickView> for OfSettings<'_, R> {
     fn start(&self) -> Result<(Network<QuickView>, Link), AllocError> {
-        let again = begin_again(self.rt, self.alloc, self.shared, self.station);
+        let OfSettings {
+            rt,
+            alloc,
+            shared,
+            station,
+            cause,
+        } = *self;
+        let again = begin_again(rt, alloc, shared, station, cause);
         if let Some(network) = again {
             return Ok(network);
         }
-        let roster = self.shared.roster(self.rt)?;
-        let packets = self.shared.limits().packets;
+        let roster = shared.roster(rt)?;
+        let packets = shared.limits().packets;
         let config = roster.config();
-        let profile = profile_of(self.alloc, config)?;
-        network_with_link(self.alloc, config.history(), packets, profile)
+        let profile = profile_of(alloc, config)?;
+        network_with_link(alloc, config.history(), packets, profile)
     }
 }
 
@@ -79,11 +113,10 @@ pub fn begin_anew<V: NetworkView + Drop, S: Start<V>, R: Wait + Clock>(
     }
 }
 
-/// Shuts the connections of a network's clients and its own, as for a network that keeps more than
-/// it may. Answers whether it is to be begun anew: it is not once the service ends.
-fn is_given_up<R: Wait + Clock>(rt: &R, shared: &Shared, network: u64) -> bool {
+/// Has each client of a network sent its last line, and shuts the network's connection, since it keeps
+/// this many bytes. Answers whether it is to be begun anew: it is not once the service ends.
+fn is_given_up<R: Wait + Clock>(rt: &R, shared: &Shared, network: u64, bytes: u64) -> bool {
     for _ in rt.forever() {
-        let bytes = u64::MAX;
         match shared.decide(rt, Event::Keeps { network, bytes }) {
             Answer::Tell { .. } => {}
             answer => return answer == Answer::BeginAnew { network },
@@ -92,20 +125,43 @@ fn is_given_up<R: Wait + Clock>(rt: &R, shared: &Shared, network: u64) -> bool {
     unreachable!()
 }
 
-/// Begins a network of the program anew: its connection and those of its clients are shut, and a new
-/// one takes its place. `false` if the service ends.
+/// Waits until the clients of a network that were sent their last lines have gone. Those that have not
+/// when their time is up are hung up, because they hold what the network kept.
+fn see_off<R: Wait + Clock>(rt: &R, shared: &Shared, network: u64) {
+    let grace = millis(shared.limits().grace());
+    let end = shared.ticks(rt).saturating_add(grace);
+    for _ in rt.forever() {
+        let helm = shared.helm().lock(rt);
+        if !helm.has_parting(network) {
+            return;
+        }
+        if shared.ticks(rt) >= end {
+            return helm.shut_parting(network);
+        }
+        drop(helm);
+        thread::sleep(rt, Duration::from_millis(REST));
+    }
+    unreachable!()
+}
+
+/// Begins a network of the program anew, for this cause: each of its clients is sent
+/// `ERROR :too much memory`, its connection and theirs are shut, and a new one takes its place. `false`
+/// if the service ends.
 pub fn begin_network_anew<S: Start<QuickView>, R: Wait + Clock>(
     rt: &R,
     alloc: Global,
     shared: &Shared,
     station: &Station,
+    cause: Cause,
     start: &S,
 ) -> bool {
     // before its connection is given up, so that nobody dials or enters the network that goes
     station.slot().clear(rt);
-    if !is_given_up(rt, shared, station.number()) {
+    let network = station.number();
+    if !is_given_up(rt, shared, network, cause.bytes()) {
         return false;
     }
+    see_off(rt, shared, network);
     begin_anew(rt, alloc, station.slot(), start);
     true
 }

@@ -21,6 +21,9 @@ pub enum Farewell {
     Removed,
     /// The network is dialled again, by other settings.
     Changed,
+    /// The network is begun anew, since it keeps too much or there is no memory for what it sends; or
+    /// too many long bursts of it wait for their writers.
+    TooMuch,
 }
 
 /// The number of a connection to which no last line is to be sent.
@@ -33,6 +36,7 @@ impl Farewell {
             Farewell::Stops => "bnc stops",
             Farewell::Removed => "removed",
             Farewell::Changed => "settings changed",
+            Farewell::TooMuch => "too much memory",
         }
     }
 
@@ -42,6 +46,7 @@ impl Farewell {
             Farewell::Stops => 1,
             Farewell::Removed => 2,
             Farewell::Changed => 3,
+            Farewell::TooMuch => 4,
         }
     }
 
@@ -51,6 +56,7 @@ impl Farewell {
             1 => Some(Farewell::Stops),
             2 => Some(Farewell::Removed),
             3 => Some(Farewell::Changed),
+            4 => Some(Farewell::TooMuch),
             _ => None,
         }
     }

@@ -3,7 +3,8 @@
 
 use crate::connection::{Connection, Farewell};
 use crate::hearing::Ear;
-use crate::judging::Decision;
+use crate::judging::{Decision, Judged};
+use crate::limits::millis;
 use crate::refusals::tell_refusal;
 use crate::session_event::SessionEvent;
 use crate::shared::Shared;
@@ -50,6 +51,17 @@ pub(crate) enum LastLine {
     Said(Farewell),
     /// It was closed without one.
     Closed,
+}
+
+/// What came of a login that waited until it may get a long burst.
+#[derive(Clone, Copy, PartialEq, Eq)]
+pub(crate) enum Turn {
+    /// It may get its burst.
+    Now,
+    /// It waited for too long.
+    TooLate,
+    /// It is to be sent its last line, or has gone.
+    Over,
 }
 
 impl<R: Wait + Clock> Guest<'_, R> {
@@ -154,6 +166,55 @@ impl<R: Wait + Clock> Guest<'_, R> {
             }
         }
         unreachable!()
+    }
+
+    /// Waits until it may get its burst, if that may be a long one: only some of a network wait for
+    /// their writers at once. It does not get it if it is to be sent its last line, has gone, or waited
+    /// for too long.
+    pub(crate) fn waits_for_burst(&self, station: &Station) -> Turn {
+        let wait = millis(self.shared.limits().burst_wait);
+        let end = self.shared.ticks(self.rt).saturating_add(wait);
+        for _ in self.rt.forever() {
+            if !station.may_burst_long(self.rt) || station.bursts().enter(self.rt, self.number) {
+                return Turn::Now;
+            }
+            if self.shared.ticks(self.rt) >= end {
+                return Turn::TooLate;
+            }
+            if self.connection.is_shut() || self.has_gone() {
+                return Turn::Over;
+            }
+        }
+        unreachable!()
+    }
+
+    /// The network that it was let in to, if it was.
+    fn station(&self) -> Option<&Station> {
+        match self.decision.judged() {
+            Some(Judged::LetIn(station)) => Some(station),
+            _ => None,
+        }
+    }
+
+    /// Notes that it has a session: from then on it counts as one that waits for its writer only as long
+    /// as its burst does.
+    pub(crate) fn note_burst(&self) {
+        let (Some(station), Some((network, id))) = (self.station(), self.ear.session()) else {
+            return;
+        };
+        if !station.bursts().has_place(self.rt, self.number) {
+            return;
+        }
+        if let Ok(Some(bulk)) = network.bulk_of(self.rt, id) {
+            station.bursts().note(self.rt, self.number, bulk);
+        }
+    }
+
+    /// Notes that nothing more is written to it.
+    pub(crate) fn end_burst(&self) {
+        if let Some(station) = self.station() {
+            station.bursts().leave(self.rt, self.number);
+        }
     }
 
     /// Writes its last line; a client that has gone does not get it.

@@ -3,7 +3,7 @@
 
 use crate::connection::Connection;
 use crate::journals::Journals;
-use crate::limits::Limits;
+use crate::limits::{Limits, budget_of};
 use crate::numbers::{Before, Numbers};
 use crate::plan::Plan;
 use crate::roster::Roster;
@@ -50,7 +50,7 @@ impl Helm {
         wait: u64,
         journals: Arc<Journals>,
     ) -> Result<Helm, AllocError> {
-        let terms = limits.terms(wait);
+        let terms = limits.terms(wait, budget_of(&config));
         let roster = Roster::without_networks(alloc, config, limits.retry, journals);
         let times = limits.times(limits.retry);
         Ok(Helm {
@@ -94,6 +94,21 @@ impl Helm {
         Standing {
             since: self.tables.online_since(number),
             sessions: count_inside(&self.steward.door.clients, number),
+        }
+    }
+
+    /// Whether clients of a network are still there that were sent their last lines.
+    pub(crate) fn has_parting(&self, number: u64) -> bool {
+        let mut clients = self.steward.door.clients.iter();
+        clients.any(|one| one.stage == Stage::Parting(number))
+    }
+
+    /// Shuts the connections of these clients.
+    pub(crate) fn shut_parting(&self, number: u64) {
+        for one in &self.steward.door.clients {
+            if one.stage == Stage::Parting(number) {
+                self.tables.hang_up(one.number);
+            }
         }
     }
 

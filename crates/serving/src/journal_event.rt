@@ -23,11 +23,6 @@ pub enum JournalEvent<'a> {
     Written,
     /// The network ends, or the service, and not all is written.
     Unwritten,
-    /// The network was begun anew after memory ran out for what it sent.
-    BegunAnew {
-        /// Whether with the messages that its journal holds, or with its marks and channels alone.
-        with_messages: bool,
-    },
     /// The network was removed, and its file is still there.
     Stays {
         /// Its path.
@@ -66,12 +61,6 @@ impl fmt::Display for JournalEvent<'_> {
             }
             JournalEvent::Written => f.write_str("journal written again"),
             JournalEvent::Unwritten => f.write_str("journal not written to its end"),
-            JournalEvent::BegunAnew {
-                with_messages: true,
-            } => f.write_str("out of memory, begun anew with what its journal holds"),
-            JournalEvent::BegunAnew {
-                with_messages: false,
-            } => f.write_str("out of memory, begun anew: the messages kept are gone"),
             JournalEvent::Stays { path } => {
                 write!(f, "removed; its journal stays: {}", Words(path.as_bytes()))
             }

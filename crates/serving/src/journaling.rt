@@ -3,11 +3,13 @@
 ghost use Rattle.std.specs.Prelude.{IfOk};
 ghost use Rattle.journal.specs.Recalls.{CanBegin};
 
+use crate::anew::Cause;
 use crate::host::Host;
 use crate::journal_event::JournalEvent;
 use crate::kept_journal::{AGAIN, KeptJournal};
 use crate::link::{Link, network_again};
 use crate::looking_again::LookingAgain;
+use crate::network_event::{NetworkEvent, Recalled};
 use crate::profiles::profile_of;
 use crate::shared::Shared;
 use crate::station::Station;
@@ -131,21 +133,29 @@ fn network_from<R: Wait + Clock + Disk>(
     Ok(network)
 }
 
-/// A network that is begun anew with what its journal holds; `None` if it has none. If that can't be
-/// read, also for lack of memory, the network goes on without it, and the log says why.
+/// A network that is begun anew with what its journal holds; `None` if it has none. One that kept too
+/// much has none of its messages, and neither has one that was begun anew within the last ten minutes.
+/// If the journal can't be read, also for lack of memory, the network goes on without it, and the log
+/// says why.
 pub(crate) fn begin_again<R: Wait + Clock + Disk>(
     rt: &R,
     alloc: Global,
     shared: &Shared,
     station: &Station,
+    cause: Cause,
 ) -> Option<(Network<QuickView>, Link)> {
     let mut journal = station.journal().lock(rt);
     let kept = (*journal).as_mut()?;
-    let with_messages = !kept.was_begun_anew(shared.ticks(rt));
+    let with_messages = cause == Cause::NoMemory && !kept.was_begun_anew(shared.ticks(rt));
     match network_from(rt, alloc, shared, &mut kept.journal, with_messages) {
         Ok(network) => {
-            let event = JournalEvent::BegunAnew { with_messages };
-            tell(rt, shared, station, &event);
+            let recalled = if with_messages {
+                Recalled::All
+            } else {
+                Recalled::NoMessages
+            };
+            let event = NetworkEvent::BegunAnew { cause, recalled };
+            shared.log().tell(rt, &station.who(), &event);
             Some(network)
         }
         Err(why) => {

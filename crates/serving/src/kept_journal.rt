@@ -2,8 +2,8 @@
 
 use journal_writer::Journal;
 
-/// For how many milliseconds after a network was begun anew with all messages of its journal it is
-/// begun anew without them.
+/// For how many milliseconds after a network was begun anew it is begun anew without the messages of
+/// its journal.
 const SOON: u64 = 600_000;
 
 /// After how many milliseconds something is written again that was not.

@@ -1,13 +1,27 @@
 //! How long things may take, and how many there may be.
 
+use bnc_config::Config;
 use hub_threads::Turns;
 use keep::Watch;
 use std::time::Duration;
 use steward::{Terms, Times};
 
+/// How many bytes a MiB has.
+const MIB: u64 = 1_048_576;
+
 /// A time in milliseconds.
 pub(crate) fn millis(time: Duration) -> u64 {
     u64::try_from(time.as_millis()).unwrap_or(u64::MAX)
+}
+
+/// How many bytes a network may keep by these settings.
+pub(crate) fn budget_of(config: &Config) -> u64 {
+    u64::from(config.memory()).saturating_mul(MIB)
+}
+
+/// How many MiB these bytes are, without what is left over.
+pub(crate) fn mebibytes(bytes: u64) -> u64 {
+    bytes / MIB
 }
 
 /// How long things may take, and how many there may be: of the program by [`Limits::of_program`],
@@ -66,13 +80,12 @@ pub struct Limits {
     pub stop: Duration,
     /// How many turns a pump makes at a time.
     pub turns: Turns,
-    /// How many bytes are in reserve for the other networks when one has taken all memory.
-    pub reserve: usize,
-    /// How many bytes a network that takes much leaves beside them.
-    pub spare: usize,
     /// How many packets may wait for a network, and how many items of it for its hub; 0 counts as
     /// 1.
     pub packets: usize,
+    /// How long a login waits at most for its burst, while several long ones of its network wait for
+    /// their writers.
+    pub burst_wait: Duration,
     /// From a change of what a network keeps to the writing of its journal.
     pub unwritten: Duration,
     /// How long before a client was heard something must have been written to it, so that it surely
@@ -112,9 +125,8 @@ impl Limits {
             pace: 100,
             stop: Duration::from_secs(2),
             turns: Turns::Endless,
-            reserve: 8_388_608,
-            spare: 60_000,
             packets: 256,
+            burst_wait: Duration::from_secs(10),
             unwritten: Duration::from_millis(200),
             receipt: Duration::from_secs(5),
         }
@@ -135,16 +147,21 @@ impl Limits {
         Times::new(millis(retry), millis(self.most), millis(self.gap))
     }
 
-    /// How long last lines may take, and for how many milliseconds a login waits while channels
-    /// are joined. A network has no budget yet: it is begun anew if it finds no memory.
-    pub(crate) fn terms(&self, wait: u64) -> Terms {
+    /// How long the clients of a network that is given up may take until they have their last lines.
+    pub(crate) fn grace(&self) -> Duration {
+        self.stop / 2
+    }
+
+    /// How long last lines may take, for how many milliseconds a login waits while channels are
+    /// joined, and how many bytes a network may keep.
+    pub(crate) fn terms(&self, wait: u64, budget: u64) -> Terms {
         Terms {
             answer: millis(self.wrong_password),
-            grace: millis(self.stop / 2),
+            grace: millis(self.grace()),
             quit: millis(self.stop / 2),
             rest: millis(self.stop / 4),
             wait,
-            budget: u64::MAX - 1,
+            budget,
         }
     }
 }

@@ -1,7 +1,9 @@
 //! What the log says of a network.
 
+use crate::anew::Cause;
 use crate::connection::Farewell;
 use crate::last_words::LastWords;
+use crate::limits::mebibytes;
 use crate::shown::{Shown, Words};
 use std::{fmt, io};
 use upstream::DialFault;
@@ -73,6 +75,17 @@ impl GivenUp {
     }
 }
 
+/// What a network that is begun anew has of what it kept.
+#[derive(Clone, Copy, Debug, PartialEq, Eq)]
+pub enum Recalled {
+    /// What its journal holds.
+    All,
+    /// The marks and channels that its journal holds, and no messages.
+    NoMessages,
+    /// Nothing.
+    Nothing,
+}
+
 /// What the log says of a network's connections and of its hub. It has no passwords and no messages.
 #[derive(Drop)]
 pub enum NetworkEvent<'a> {
@@ -99,8 +112,13 @@ pub enum NetworkEvent<'a> {
     NotServed,
     /// A pump ran out of memory again and again, and goes on.
     PumpWithoutMemory,
-    /// A pump ran out of memory for too long, so its network is begun anew.
-    BegunAnew,
+    /// The network is begun anew.
+    BegunAnew {
+        /// Why.
+        cause: Cause,
+        /// With what.
+        recalled: Recalled,
+    },
     /// The numbers of messages are used up, so nothing more is taken from the network.
     PumpSpent,
 }
@@ -126,6 +144,31 @@ impl fmt::Display for Ending<'_> {
     }
 }
 
+impl fmt::Display for Cause {
+    fn fmt<W: fmt::Write>(&self, f: &mut fmt::Formatter<W>) -> fmt::Result {
+        match self {
+            Cause::Outgrown { bytes, budget } => {
+                let budget = mebibytes(*budget);
+                write!(
+                    f,
+                    "keeps {bytes} bytes, more than its budget of {budget} MiB"
+                )
+            }
+            Cause::NoMemory => f.write_str("out of memory"),
+        }
+    }
+}
+
+impl fmt::Display for Recalled {
+    fn fmt<W: fmt::Write>(&self, f: &mut fmt::Formatter<W>) -> fmt::Result {
+        f.write_str(match self {
+            Recalled::All => "begun anew with what its journal holds",
+            Recalled::NoMessages => "begun anew: the messages kept are gone",
+            Recalled::Nothing => "begun anew: the messages and marks kept are gone",
+        })
+    }
+}
+
 impl fmt::Display for NetworkEvent<'_> {
     fn fmt<W: fmt::Write>(&self, f: &mut fmt::Formatter<W>) -> fmt::Result {
         match self {
@@ -148,9 +191,7 @@ impl fmt::Display for NetworkEvent<'_> {
                 f.write_str("not served: out of memory or threads; reload tries again")
             }
             NetworkEvent::PumpWithoutMemory => f.write_str("out of memory, tries again"),
-            NetworkEvent::BegunAnew => {
-                f.write_str("out of memory, begun anew: the messages and marks kept are gone")
-            }
+            NetworkEvent::BegunAnew { cause, recalled } => { write!(f, "{cause}, {recalled}") }
             NetworkEvent::PumpSpent => f.write_str("message numbers spent, takes no more"),
         }
     }

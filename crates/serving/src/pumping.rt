@@ -1,15 +1,14 @@
 //! The thread that takes what a network sends into its hub.
 
-use crate::anew::{OfSettings, begin_network_anew};
+use crate::anew::{Cause, OfSettings, begin_network_anew};
 use crate::clock::SystemClock;
 use crate::host::Host;
 use crate::journaling::write_journal;
-use crate::network_event::NetworkEvent;
-use crate::reserve::Reserve;
+use crate::network_event::{NetworkEvent, Recalled};
 use crate::shared::Shared;
 use crate::slot::Slot;
-use crate::sparing::Sparing;
 use crate::station::Station;
+use crate::weighing::Weighing;
 use hub_core::{HubError, Pumped};
 use hub_threads::{
     FreeGate, Network, Permission, Permit, PumpEnd, REFUSALS, REFUSED_REST, Turns, pump_loop,
@@ -20,6 +19,7 @@ use std::rt::Clock;
 use std::sync::Wait;
 use std::thread;
 use std::time::{Duration, Instant};
+use weights::Weighed;
 
 /// For how many seconds the log says nothing more about a network for which there is no memory.
 const QUIET_SECONDS: u64 = 60;
@@ -38,36 +38,54 @@ fn is_due<R: Clock>(rt: &R, logged: Option<Instant>) -> bool {
     }
 }
 
-/// The pump of the network in a slot, which counts how often it ran out of memory.
+/// The pump of the network in a slot. It counts how often it ran out of memory, and looks at times how
+/// many bytes its network keeps.
 #[derive(Drop)]
 pub struct Pump<'a, V: NetworkView + Drop> {
     slot: &'a Slot<V>,
-    sparing: Sparing<'a>,
+    weighing: Weighing,
     turns: Turns,
     rest: u64,
     // how often it ran out of memory with no item taken in between
     refused: u32,
 }
 
-/// This many turns, until the slot is closed; a network that waits for memory takes nothing.
+/// This many turns, until the slot is closed or the network keeps too much.
 #[derive(Drop)]
-struct Sparingly<'a, 'b, V: NetworkView + Drop, R> {
+struct WhileItMay<'a, V: NetworkView + Drop, R> {
     rt: &'a R,
     slot: &'a Slot<V>,
-    sparing: &'a mut Sparing<'b>,
+    network: &'a Network<V>,
+    weighing: &'a mut Weighing,
     turns: Turns,
 }
 
-impl<V: NetworkView + Drop, R: Wait + Clock> Permit for Sparingly<'_, '_, V, R> {
+impl<V: NetworkView + Weighed + Drop, R: Wait> WhileItMay<'_, V, R> {
+    /// Looks how many bytes the network keeps, before the pump sleeps. If they are too many it does not.
+    fn look_before_sleep(&mut self) {
+        self.weighing.look(self.rt, self.network);
+        if !self.weighing.is_over() {
+            return;
+        }
+        if let Ok(bell) = self.network.pump_bell() {
+            bell.ring();
+        }
+    }
+}
+
+impl<V: NetworkView + Weighed + Drop, R: Wait> Permit for WhileItMay<'_, V, R> {
     fn may_take(&mut self) -> Permission {
         if self.slot.is_closed() || self.turns.may_take() == Permission::End {
             return Permission::End;
         }
-        self.sparing.note_taken(self.slot.taken_beside());
-        if self.sparing.may_take(self.rt) {
-            Permission::Take
+        self.weighing.note_taken(self.slot.taken_beside());
+        if self.weighing.is_due() {
+            self.weighing.look(self.rt, self.network);
+        }
+        if self.weighing.is_over() {
+            Permission::End
         } else {
-            Permission::Rest
+            Permission::Take
         }
     }
 
@@ -75,10 +93,14 @@ impl<V: NetworkView + Drop, R: Wait + Clock> Permit for Sparingly<'_, '_, V, R> 
         match outcome {
             Ok(Pumped::Taken { .. }) => {
                 self.slot.note_change();
-                self.sparing.note_taken(1);
+                self.weighing.note_taken(1);
             }
-            Err(HubError::OutOfMemory) => self.sparing.note_refused(self.rt),
-            Ok(Pumped::Nothing) | Err(HubError::Spent) => {}
+            Ok(Pumped::Nothing) => {
+                if self.weighing.has_news() {
+                    self.look_before_sleep();
+                }
+            }
+            Err(HubError::OutOfMemory | HubError::Spent) => {}
         }
     }
 
@@ -87,26 +109,20 @@ impl<V: NetworkView + Drop, R: Wait + Clock> Permit for Sparingly<'_, '_, V, R> 
     }
 }
 
-impl<'a, V: NetworkView + Drop> Pump<'a, V> {
+impl<'a, V: NetworkView + Weighed + Drop> Pump<'a, V> {
     /// A pump that makes this many turns at a time, and rests for `rest` milliseconds after a
-    /// refusal. When its network takes much, it leaves `spare` bytes besides the reserve.
-    pub fn new(
-        slot: &'a Slot<V>,
-        reserve: &'a Reserve,
-        spare: usize,
-        turns: Turns,
-        rest: u64,
-    ) -> Pump<'a, V> {
+    /// refusal. Its network may keep `budget` bytes.
+    pub fn new(slot: &'a Slot<V>, budget: u64, turns: Turns, rest: u64) -> Pump<'a, V> {
         Pump {
             slot,
-            sparing: Sparing::new(reserve, spare),
+            weighing: Weighing::new(budget),
             turns,
             rest,
             refused: 0,
         }
     }
 
-    /// Pumps this network, this many times or until its slot is closed.
+    /// Pumps this network, this many times, or until its slot is closed or it keeps too much.
     fn turn<R: Wait + Clock>(
         &mut self,
         rt: &R,
@@ -114,19 +130,20 @@ impl<'a, V: NetworkView + Drop> Pump<'a, V> {
         network: &Network<V>,
         turns: Turns,
     ) -> PumpEnd {
-        let permit = Sparingly {
+        let permit = WhileItMay {
             rt,
             slot: self.slot,
-            sparing: &mut self.sparing,
+            network,
+            weighing: &mut self.weighing,
             turns,
         };
         let clock = SystemClock::of(rt);
         pump_loop(rt, alloc, network, &FreeGate, &clock, permit, self.rest)
     }
 
-    /// Pumps for its turns, or until there is no memory or no number. After it ran out of
-    /// memory, only for the number of turns that may be refused: it runs out again only if no item
-    /// was taken.
+    /// Pumps for its turns, or until there is no memory or no number, or the network keeps too
+    /// much. After it ran out of memory, only for the number of turns that may be refused: it runs
+    /// out again only if no item was taken.
     pub fn run<R: Wait + Clock>(&mut self, rt: &R, alloc: Global) -> PumpEnd {
         let Some(network) = self.slot.network(rt) else {
             thread::sleep(rt, Duration::from_millis(self.rest));
@@ -145,16 +162,19 @@ impl<'a, V: NetworkView + Drop> Pump<'a, V> {
         ended
     }
 
-    /// Whether the network is to be begun anew: it ran out of memory three times in succession,
-    /// with no item taken in between. The count begins anew then, and the network that
-    /// comes does not wait for memory.
-    pub fn gives_up<R: Wait>(&mut self, rt: &R) -> bool {
+    /// Why the network is to be begun anew, if it is: it keeps too much, or it ran out of memory
+    /// three times in succession, with no item taken in between. All begins anew then.
+    pub fn gives_up(&mut self) -> Option<Cause> {
+        if let Some(bytes) = self.weighing.take_excess() {
+            self.refused = 0;
+            let budget = self.weighing.budget();
+            return Some(Cause::Outgrown { bytes, budget });
+        }
         if self.refused < PATIENCE {
-            return false;
+            return None;
         }
         self.refused = 0;
-        self.sparing.go_on(rt);
-        true
+        Some(Cause::NoMemory)
     }
 }
 
@@ -174,25 +194,33 @@ fn tell_memory<R: Wait + Clock>(
     Instant::now(rt).ok()
 }
 
-/// Begins a network anew, by the current settings.
-fn begin_by_settings<R: Host>(rt: &R, alloc: Global, shared: &Shared, station: &Station) {
+/// Begins a network anew for this cause, by the current settings.
+fn begin_by_settings<R: Host>(
+    rt: &R,
+    alloc: Global,
+    shared: &Shared,
+    station: &Station,
+    cause: Cause,
+) {
     let start = OfSettings {
         rt,
         alloc,
         shared,
         station,
+        cause,
     };
     // what its journal does not hold yet would be lost with it
     let _ = write_journal(rt, alloc, shared, station);
-    let is_begun = begin_network_anew(rt, alloc, shared, station, &start);
+    let is_begun = begin_network_anew(rt, alloc, shared, station, cause, &start);
     // logged now, since a line of the log needs memory too
     let mut journal = station.journal().lock(rt);
     match (*journal).as_mut() {
         // the log has that already
         Some(kept) => kept.note_begun_anew(shared.ticks(rt)),
         None if is_begun => {
-            let log = shared.log();
-            log.tell(rt, &station.who(), &NetworkEvent::BegunAnew);
+            let recalled = Recalled::Nothing;
+            let event = NetworkEvent::BegunAnew { cause, recalled };
+            shared.log().tell(rt, &station.who(), &event);
         }
         None => {}
     }
@@ -200,17 +228,11 @@ fn begin_by_settings<R: Host>(rt: &R, alloc: Global, shared: &Shared, station: &
 
 /// Pumps a network until no network is dialled any more, this one is closed, or its numbers are
 /// spent. If there is no memory it goes on, and the log says so at most once a minute; after the
-/// third time the network is begun anew.
+/// third time the network is begun anew, and so is one that keeps too much.
 pub(crate) fn keep_pumping<R: Host>(rt: &R, alloc: Global, shared: &Shared, station: &Station) {
     let limits = shared.limits();
     let slot = station.slot();
-    let mut pump = Pump::new(
-        slot,
-        shared.reserve(),
-        limits.spare,
-        limits.turns,
-        REFUSED_REST,
-    );
+    let mut pump = Pump::new(slot, shared.budget(), limits.turns, REFUSED_REST);
     let mut logged = None;
     for _ in rt.forever() {
         match pump.run(rt, alloc) {
@@ -224,8 +246,8 @@ pub(crate) fn keep_pumping<R: Host>(rt: &R, alloc: Global, shared: &Shared, stat
         if slot.is_closed() {
             return;
         }
-        if pump.gives_up(rt) {
-            begin_by_settings(rt, alloc, shared, station);
+        if let Some(cause) = pump.gives_up() {
+            begin_by_settings(rt, alloc, shared, station, cause);
         }
         if shared.is_over() {
             return;

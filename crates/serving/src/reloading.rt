@@ -143,6 +143,7 @@ fn tell_restarts<R: Wait + Clock>(rt: &R, shared: &Shared, new: &Config) {
         ("proxies", has_same_proxies(old, new)),
         ("history", old.history() == new.history()),
         ("kept", old.kept() == new.kept()),
+        ("memory", old.memory() == new.memory()),
         ("metrics", old.metrics() == new.metrics()),
         ("messages", keep_the_same(old.messages(), new.messages())),
         ("playback", play_alike(old.playback(), new.playback())),

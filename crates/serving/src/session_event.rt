@@ -1,5 +1,6 @@
 //! What the log says of a client's session.
 
+use crate::connection::Farewell;
 use crate::shown::Held;
 use client_caps::Caps;
 use hub_core::AttachError;
@@ -23,6 +24,8 @@ pub enum SessionEvent<'a> {
     },
     /// A session was not attached.
     NotAttached(AttachError),
+    /// A client got this last line before it had a session.
+    NoSession(Farewell),
     /// A session was cut by the hub; its writer runs on to its own end.
     Cut {
         /// How many bytes were written to its client so far.
@@ -56,6 +59,7 @@ impl fmt::Display for SessionEvent<'_> {
                 write!(f, "changed its capabilities, {}", Held(*caps))
             }
             SessionEvent::NotAttached(error) => write!(f, "not attached: {error}"),
+            SessionEvent::NoSession(farewell) => write!(f, "not attached: {}", farewell.text()),
             SessionEvent::Cut { bytes } => {
                 write!(f, "session cut: it took too little; {bytes} bytes written")
             }

@@ -2,12 +2,11 @@
 
 use crate::helm::Helm;
 use crate::journals::Journals;
-use crate::limits::Limits;
+use crate::limits::{Limits, budget_of};
 use crate::log::Log;
 use crate::metrics::Metrics;
 use crate::plan::Plan;
 use crate::refusals::{ADDRESSES, PAUSE};
-use crate::reserve::Reserve;
 use crate::roster::Roster;
 use crate::station::Begun;
 use crate::ticks::Ticks;
@@ -29,8 +28,6 @@ pub struct Shared {
     log: Log,
     journals: Arc<Journals>,
     metrics: Metrics,
-    // memory for the networks that take little
-    reserve: Reserve,
     // how many networks are still dialled
     dialled: AtomicU64,
     // for how many milliseconds a login waits while channels are joined
@@ -77,7 +74,6 @@ impl Shared {
             log: Log::new(alloc)?,
             journals,
             metrics: Metrics::new(None),
-            reserve: Reserve::new(alloc, limits.reserve),
             dialled: AtomicU64::new(0),
             wait,
             first,
@@ -170,9 +166,9 @@ impl Shared {
         self.ticks.now(clock)
     }
 
-    /// Memory for the networks that take little.
-    pub(crate) fn reserve(&self) -> &Reserve {
-        &self.reserve
+    /// How many bytes a network may keep.
+    pub(crate) fn budget(&self) -> u64 {
+        budget_of(&self.first)
     }
 
     /// Begins the end of the service: from now on nobody is accepted, and no network dialled.

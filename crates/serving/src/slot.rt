@@ -10,7 +10,7 @@ use std::sync::atomic::{AtomicBool, AtomicU64, Ordering};
 use std::sync::{Arc, Mutex, Wait};
 
 /// How many items the thread that reads a network takes into the hub itself at most, before the pump
-/// looks whether its network takes much.
+/// looks how much its network keeps.
 const BESIDE: u64 = 32;
 
 /// What a slot holds.
@@ -22,8 +22,8 @@ struct Standing<V: NetworkView + Drop> {
     link: Option<Link>,
 }
 
-/// The slot of a network. The network in it is begun anew if allocations are refused for too long;
-/// its link is then that of a network that is gone. A slot is closed once nobody dials its network
+/// The slot of a network. The network in it is begun anew if it keeps too much, or if allocations are
+/// refused for too long; its link is then that of a network that is gone. A slot is closed once nobody dials its network
 /// any more.
 #[derive(Drop)]
 pub struct Slot<V: NetworkView + Drop> {

@@ -1,5 +1,6 @@
 //! A network that is served, by its names, until the settings no longer have it.
 
+use crate::bursts::Bursts;
 use crate::joining::Joining;
 use crate::journals::Journals;
 use crate::kept_journal::KeptJournal;
@@ -17,6 +18,9 @@ use std::thread::Parker;
 use std::time::Duration;
 use steward::Channels;
 
+/// Above how many bytes that a network keeps a burst of it counts as long: it may have as many.
+const LONG: u64 = 1_048_576;
+
 /// A network that is served. It is known by its user's name and its own, and stays the same while
 /// its settings change.
 #[derive(Drop)]
@@ -31,6 +35,8 @@ pub struct Station {
     journal: Mutex<Option<KeptJournal>>,
     // the channels that are joined after the registration
     joining: Mutex<Joining>,
+    // the long bursts that wait for their writers
+    bursts: Bursts,
     // at which its clients may speak, all together
     pace: Pace,
     // how the last dial ended, and how often others ended alike after it
@@ -70,6 +76,7 @@ impl Begun {
             slot: Slot::new(alloc, hub)?.with_journals(journals),
             journal: Mutex::new(None),
             joining: Mutex::new(Joining::new(alloc)),
+            bursts: Bursts::new(alloc)?,
             pace: Pace::new(limits.burst, limits.pace),
             repeats: Mutex::new(Repeats::new()),
             nick_tries: Mutex::new(NickTries::new()),
@@ -128,6 +135,19 @@ impl Station {
             joining.leave_out(network.lock(rt).view());
         }
         joining.channels(now)
+    }
+
+    /// Whether it keeps so much that the burst of a client may have more than 1 MiB.
+    pub(crate) fn may_burst_long<R: Wait>(&self, rt: &R) -> bool {
+        match self.slot.network(rt) {
+            Some(network) => network.lock(rt).kept_bytes() > LONG,
+            None => false,
+        }
+    }
+
+    /// Its long bursts that wait for their writers.
+    pub(crate) fn bursts(&self) -> &Bursts {
+        &self.bursts
     }
 
     /// At which pace its clients may speak, all together.

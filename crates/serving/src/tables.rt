@@ -49,7 +49,8 @@ fn farewell_of(why: Why) -> Option<Farewell> {
         Why::Stops => Some(Farewell::Stops),
         Why::Removed => Some(Farewell::Removed),
         Why::Changed => Some(Farewell::Changed),
-        Why::Anew | Why::Full | Why::NotServed => None,
+        Why::Anew => Some(Farewell::TooMuch),
+        Why::Full | Why::NotServed => None,
     }
 }
 
@@ -199,7 +200,7 @@ impl Tables {
     }
 
     /// Shuts a client's connection.
-    fn hang_up(&self, client: u64) {
+    pub(crate) fn hang_up(&self, client: u64) {
         if let Some(connection) = self.client(client) {
             connection.hang_up();
         }
@@ -207,10 +208,8 @@ impl Tables {
 
     /// Ends a client's session. Its own thread writes the last line, if there is one.
     fn part(&self, client: u64, why: Why) {
-        match (farewell_of(why), self.client(client)) {
-            (Some(farewell), Some(connection)) => connection.part(farewell),
-            (None, _) if why == Why::Anew => self.hang_up(client),
-            _ => {}
+        if let (Some(farewell), Some(connection)) = (farewell_of(why), self.client(client)) {
+            connection.part(farewell);
         }
     }
 

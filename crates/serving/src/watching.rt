@@ -6,7 +6,7 @@ ghost use Rattle.std.specs.Prelude.{◌≡◌, IsSome};
 use crate::claimed::Claimed;
 use crate::client_input::{ClientInput, Others, unsaid};
 use crate::connection::Farewell;
-use crate::guest::{Guest, LastLine};
+use crate::guest::{Guest, LastLine, Turn};
 use crate::judging::{Judged, TurnedAway};
 use crate::leaving::seen_by;
 use crate::session_event::SessionEvent;
@@ -146,6 +146,39 @@ impl<'a, R: Wait + Clock + Copy + Drop> Watching<'a, R> {
         }
     }
 
+    /// Sends a client its last line for whose burst there was no place in time, unless another line was
+    /// ordered.
+    fn refuse_burst(&mut self)
+        ensures { self.new.session ≡ self.old.session }
+    {
+        if self.last_line() == LastLine::Own {
+            let farewell = Farewell::TooMuch;
+            let time = self.guest.shared.limits().stop;
+            self.guest.connection.say_last("ERROR", farewell, time);
+            self.last = Some(LastLine::Said(farewell));
+        }
+    }
+
+    /// Waits until the client may attach: while channels are joined, and for its turn if its burst may
+    /// be long.
+    fn wait_to_attach(&mut self, station: &Station) -> Result<(), AttachError>
+        ensures { self.new.session ≡ self.old.session }
+    {
+        if self.guest.waits_for_channels(station) {
+            match self.guest.waits_for_burst(station) {
+                Turn::Now => return Ok(()),
+                Turn::TooLate => {
+                    self.refuse_burst();
+                    return Err(AttachError::OutOfMemory);
+                }
+                Turn::Over => {}
+            }
+        }
+        // it ends as a session
+        self.why = Some(Leave::EndOfInput);
+        Err(AttachError::NotReady)
+    }
+
     /// The network that the client may enter, at the pace of its clients.
     fn enter(
         &mut self,
@@ -163,11 +196,7 @@ impl<'a, R: Wait + Clock + Copy + Drop> Watching<'a, R> {
                 return Err(AttachError::NotReady);
             }
         };
-        if !self.guest.waits_for_channels(station) {
-            // it ends as a session
-            self.why = Some(Leave::EndOfInput);
-            return Err(AttachError::NotReady);
-        }
+        self.wait_to_attach(station)?;
         let network = station.slot().network(self.guest.rt);
         let network = network.ok_or(AttachError::OutOfMemory)?;
         if self.guest.set_timeouts().is_err() {
@@ -226,7 +255,6 @@ impl<'a, R: Wait + Clock + Copy + Drop> Watching<'a, R> {
     /// Why a session ended that its client left, or that ended with its network.
     fn cause_of_end(&self, last: LastLine) -> &'static str {
         match (last, self.why) {
-            (LastLine::Closed, _) => "network begun anew",
             (LastLine::Said(farewell), Some(Leave::EndOfInput | Leave::ReadFault)) =>
                 farewell.text(),
             (_, Some(why)) => cause_of_leave(why),
@@ -254,6 +282,15 @@ impl<'a, R: Wait + Clock + Copy + Drop> Watching<'a, R> {
         });
     }
 
+    /// Logs why the client was not attached: for the line that it was sent, if that was ordered.
+    fn tell_refused(&self, error: AttachError, last: LastLine) {
+        self.guest.shared.metrics().note_refusal();
+        match last {
+            LastLine::Said(farewell) => self.tell(&SessionEvent::NoSession(farewell)),
+            LastLine::Own | LastLine::Closed => self.tell(&SessionEvent::NotAttached(error)),
+        }
+    }
+
     /// Logs how a session ended.
     fn tell_ended<W: Write>(&self, ended: &Ended<W>, last: LastLine) {
         if self.why == Some(Leave::Cut) {
@@ -274,6 +311,7 @@ impl<'a, R: Wait + Clock + Copy + Drop> Watching<'a, R> {
         served: &Result<Served<W>, OutOfMemory>,
     ) {
         let mut watching = self;
+        watching.guest.end_burst();
         watching.guest.shared.journals().ring();
         if !is_whole(served) {
             // nothing is to be glued to half a line
@@ -283,10 +321,7 @@ impl<'a, R: Wait + Clock + Copy + Drop> Watching<'a, R> {
         match served {
             Ok(Served::NoLogin) => watching.end_login(input, last),
             Ok(Served::Refused(_)) if watching.why.is_some() => watching.tell_waited(last),
-            Ok(Served::Refused(error)) => {
-                watching.guest.shared.metrics().note_refusal();
-                watching.tell(&SessionEvent::NotAttached(*error))
-            }
+            Ok(Served::Refused(error)) => watching.tell_refused(*error, last),
             Ok(Served::Cut) => {
                 let bytes = watching.count.so_far();
                 watching.guest.shared.metrics().note_cut();
@@ -356,6 +391,7 @@ impl<'a, R: Wait + Clock + Copy + Drop> Watcher<QuickView, Arc<Station>, ClientI
     fn attached(&mut self, id: SessionId) {
         self.session = Some(id);
         self.guest.ear.attached(id);
+        self.guest.note_burst();
         self.guest.shared.journals().ring();
     }
 
