@@ -63,9 +63,8 @@ pub fn limits(accepts: u64, dials: u64) -> Limits {
         pace: 1_000_000,
         stop: Duration::from_secs(5),
         turns: Turns::AtMost(100),
-        reserve: 65_536,
-        spare: 1_024,
         packets: 256,
+        burst_wait: Duration::from_secs(10),
         unwritten: Duration::from_millis(20),
         receipt: Duration::from_secs(5),
     }
@@ -76,14 +75,14 @@ pub fn settings(alloc: Global, address: SocketAddr) -> Result<Config, Fail> {
     settings_of(alloc, BC, &[("net", address, "ann")])
 }
 
-/// Starts the threads that serve the network at this address. What all threads share, and these.
-fn serve_network<R: Host + Net<Listener = TcpListener, Stream = TcpStream>>(
+/// Starts the threads that serve the networks of these settings. What all threads share, and these.
+fn serve_networks<R: Host + Net<Listener = TcpListener, Stream = TcpStream>>(
     rt: R,
     alloc: Global,
     limits: Limits,
-    address: SocketAddr,
+    config: Config,
 ) -> Result<(Arc<Shared>, Vec<JoinHandle<()>>), Fail> {
-    let (shared, links) = Shared::new(&rt, alloc, settings(alloc, address)?, limits)?;
+    let (shared, links) = Shared::new(&rt, alloc, config, limits)?;
     let shared = Arc::new(alloc, shared)?;
     let threads = start_networks(rt, alloc, &shared, links)?;
     Ok((shared, threads))
@@ -113,7 +112,19 @@ pub fn start_unlogged<R: Host + Net<Listener = TcpListener, Stream = TcpStream>>
     limits: Limits,
 ) -> Result<Bouncer, Fail> {
     let network = TcpListener::bind(&rt, "127.0.0.1:0")?;
-    let (shared, mut threads) = serve_network(rt, alloc, limits, network.local_addr()?)?;
+    let config = settings(alloc, network.local_addr()?)?;
+    start_by(rt, alloc, limits, network, config)
+}
+
+/// The same by these settings, whose first network is at this listener.
+pub fn start_by<R: Host + Net<Listener = TcpListener, Stream = TcpStream>>(
+    rt: R,
+    alloc: Global,
+    limits: Limits,
+    network: TcpListener,
+    config: Config,
+) -> Result<Bouncer, Fail> {
+    let (shared, mut threads) = serve_networks(rt, alloc, limits, config)?;
     let (address, door) = serve_clients(rt, alloc, &shared, &mut threads)?;
     Ok(Bouncer {
         network,
@@ -184,7 +195,7 @@ impl Bouncer {
 }
 
 /// The network's part in a registration up to the welcome.
-fn register(alloc: Global, network: &mut Peer) -> Result<(), Fail> {
+pub fn register(alloc: Global, network: &mut Peer) -> Result<(), Fail> {
     network.hears(alloc, "CAP LS 302\r\nNICK ann\r\nUSER ann 0 * :Ann A\r\n")?;
     network.say(":s CAP * LS :multi-prefix sasl\r\n")?;
     network.hears(alloc, "CAP REQ multi-prefix\r\n")?;

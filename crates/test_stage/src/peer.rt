@@ -12,6 +12,9 @@ const WAIT: u64 = 10;
 /// How many bytes of a connection are read at most.
 const MOST: usize = 65_536;
 
+/// How many bytes are read in one call at most, if they are counted.
+const PIECE: usize = 16_384;
+
 /// The test's end of a connection.
 #[derive(Drop)]
 pub struct Peer {
@@ -44,6 +47,11 @@ impl Peer {
         Ok(self.stream.write_all(text.as_bytes())?)
     }
 
+    /// Sends a text, and answers whether that could be done: the connection may be closed by now.
+    pub fn try_say(&mut self, text: &str) -> bool {
+        self.stream.write_all(text.as_bytes()).is_ok()
+    }
+
     /// Reads on until what was read ends with this text, and answers all of it.
     pub fn read_to(&mut self, alloc: Global, end: &str) -> Result<Vec<u8>, Fail> {
         let mut found = Vec::new(alloc);
@@ -66,6 +74,24 @@ impl Peer {
     pub fn hears(&mut self, alloc: Global, text: &str) -> Result<(), Fail> {
         let found = self.read_to(alloc, last_line(text))?;
         same(alloc, found.as_slice(), text)
+    }
+
+    /// Reads this many bytes, or to the connection's end, and answers what came.
+    pub fn takes(&mut self, alloc: Global, count: usize) -> Result<Vec<u8>, Fail> {
+        let mut found = Vec::new(alloc);
+        let mut piece = [0u8; PIECE];
+        for _ in 0..u64::MAX {
+            let left = count.saturating_sub(found.len()).min(PIECE);
+            if left == 0 {
+                break;
+            }
+            let read = self.stream.read(&mut piece[..left])?;
+            if read == 0 {
+                break;
+            }
+            found.extend_from_slice(&piece[..read])?;
+        }
+        Ok(found)
     }
 
     /// Reads to the connection's end, and answers what came.

@@ -7,6 +7,7 @@ ghost use Rattle.net_view.specs.StateLines.{may_need_memory};
 use irc_support::Support;
 use net_view::{Channel, Item, Member, NetworkView, OutOfMemory, is_state_line};
 use std::alloc::Allocator;
+use weights::Weighed;
 
 /// Another view, except that its first `times` TOPIC lines find no memory.
 #[derive(Drop)]
@@ -80,5 +81,13 @@ impl<V: NetworkView + Drop> NetworkView for Refusing<V> {
 
     fn account_of(&self, nick: &[u8]) -> Option<&[u8]> {
         self.view.account_of(nick)
+    }
+}
+
+impl<V: NetworkView + Weighed + Drop> Weighed for Refusing<V> {
+    ghost weight = { λ r. V.weight r.view };
+
+    fn weight(&self) -> u64 {
+        self.view.weight()
     }
 }

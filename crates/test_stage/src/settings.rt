@@ -16,8 +16,18 @@ pub type Named<'a> = (&'a str, SocketAddr, &'a str);
 
 /// The settings of ann alone, whose password has this digest, on these networks.
 pub fn settings_of(alloc: Global, digest: &str, networks: &[Named<'_>]) -> Result<Config, Fail> {
+    settings_with(alloc, "", digest, networks)
+}
+
+/// The same with these lines at the top.
+pub fn settings_with(
+    alloc: Global,
+    top: &str,
+    digest: &str,
+    networks: &[Named<'_>],
+) -> Result<Config, Fail> {
     let mut text = format!(in alloc;
-        "listen = \"127.0.0.1:6667\"\n[[user]]\nname = \"ann\"\nsalt = \"61\"\n\
+        "listen = \"127.0.0.1:6667\"\n{top}[[user]]\nname = \"ann\"\nsalt = \"61\"\n\
         password = \"{digest}\"\n"
     )?;
     for (name, address, nick) in networks {

@@ -9,6 +9,8 @@ mod journal_changes;
 #[cfg(test)]
 mod journals;
 #[cfg(test)]
+mod kept_bytes;
+#[cfg(test)]
 mod kept_messages;
 #[cfg(test)]
 mod kept_targets;

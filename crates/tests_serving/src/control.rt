@@ -290,7 +290,7 @@ fn obeyed<R: Host + Net<Listener = TcpListener, Stream = TcpStream>>(
 }
 
 /// Whether a text contains another.
-fn stands_in(text: &[u8], part: &[u8]) -> bool {
+pub(crate) fn stands_in(text: &[u8], part: &[u8]) -> bool {
     for start in 0..text.len() {
         if text[start..].starts_with(part) {
             return true;
@@ -323,8 +323,12 @@ fn settings_with(alloc: Global, key: &str) -> Result<Config, Fail> {
 
 /// What each of these reloads logs, one after another, of a key that the settings of the start have as
 /// `history = 9`.
-static RESTARTS: [(&str, &str); 4] = [
+static RESTARTS: [(&str, &str); 5] = [
     ("history = 9", ""),
+    (
+        "history = 9\nmemory = 9",
+        "bnc: reloaded: memory needs a restart\n",
+    ),
     ("history = 8", "bnc: reloaded: history needs a restart\n"),
     ("history = 8", "bnc: reloaded: history needs a restart\n"),
     ("history = 9", ""),

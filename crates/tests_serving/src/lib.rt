@@ -2,6 +2,8 @@
 #![tactic(auto)]
 
 #[cfg(test)]
+mod budget;
+#[cfg(test)]
 mod coming_back;
 #[cfg(test)]
 mod connections;

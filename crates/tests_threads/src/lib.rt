@@ -6,6 +6,8 @@
 #[cfg(test)]
 mod beside;
 #[cfg(test)]
+mod bulk;
+#[cfg(test)]
 mod diary;
 #[cfg(test)]
 mod ending;

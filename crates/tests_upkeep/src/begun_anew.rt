@@ -1,12 +1,10 @@
-//! Networks that are begun anew, since there was no memory for what they sent.
+//! Networks that are begun anew.
 
 use hub_core::Profile;
 use hub_threads::{Network, PumpEnd, Turns};
 use net_view::NetworkView;
 use quick_view::QuickView;
-use serving::{
-    Link, Pump, Reserve, Slot, Start, begin_anew, begin_network_anew, network_with_link,
-};
+use serving::{Cause, Link, Pump, Slot, Start, begin_anew, begin_network_anew, network_with_link};
 use std::alloc::{AllocError, Global};
 use std::net::{Net, TcpListener, TcpStream};
 use std::process::Abort;
@@ -22,8 +20,10 @@ use test_bouncer::host::Host;
 use test_bouncer::refusal::turned_away;
 use test_bouncer::room::{PHONE, PLAIN, Room, come, gather, leave, let_in};
 use test_stage::ann::LOGIN;
+use test_stage::peer::{Peer, same};
 use test_stage::refusing::Refusing;
 use test_stage::stage::{BURST, JOINED, attach, empty_stage, is_sent, put};
+use weights::Weighed;
 
 /// How many turns a pump of these tests makes at a time: more than an item may be refused.
 const TURNS: Turns = Turns::AtMost(1_010);
@@ -70,14 +70,14 @@ fn channels<V: NetworkView + Drop, R: Wait>(rt: &R, slot: &Slot<V>) -> Option<us
     Some(count)
 }
 
-/// Pumps, and answers how it ended, and whether the network is to be begun anew.
-fn round<V: NetworkView + Drop, R: Wait + Clock>(
+/// Pumps, and answers how it ended, and why the network is to be begun anew, if it is.
+fn round<V: NetworkView + Weighed + Drop, R: Wait + Clock>(
     rt: &R,
     alloc: Global,
     pump: &mut Pump<'_, V>,
-) -> (PumpEnd, bool) {
+) -> (PumpEnd, Option<Cause>) {
     let ended = pump.run(rt, alloc);
-    (ended, pump.gives_up(rt))
+    (ended, pump.gives_up())
 }
 
 /// A topic is refused on and on: the pump ends three times because no memory is left, and the
@@ -87,9 +87,9 @@ fn given_up<R: AllocGlobal + Wait + Clock + Abort>(
     slot: &Slot<Refusing<QuickView>>,
     pump: &mut Pump<'_, Refusing<QuickView>>,
 ) -> Result<(), Fail> {
-    assert!(rt; round(rt, rt.alloc(), pump) == (PumpEnd::Memory, false));
-    assert!(rt; round(rt, rt.alloc(), pump) == (PumpEnd::Memory, false));
-    assert!(rt; round(rt, rt.alloc(), pump) == (PumpEnd::Memory, true));
+    assert!(rt; round(rt, rt.alloc(), pump) == (PumpEnd::Memory, None));
+    assert!(rt; round(rt, rt.alloc(), pump) == (PumpEnd::Memory, None));
+    assert!(rt; round(rt, rt.alloc(), pump) == (PumpEnd::Memory, Some(Cause::NoMemory)));
     assert!(rt; channels(rt, slot) == Some(1));
     let start = SecondTime {
         made: Mutex::new(Some(refusing(rt.alloc(), 0)?)),
@@ -109,7 +109,7 @@ fn serves<R: AllocGlobal + Wait + Clock + Abort>(
 ) -> Result<(), Fail> {
     assert!(rt; channels(rt, slot) == Some(0));
     put(rt.alloc(), &mut link.inlet, &JOINED)?;
-    assert!(rt; round(rt, rt.alloc(), pump) == (PumpEnd::Turns, false));
+    assert!(rt; round(rt, rt.alloc(), pump) == (PumpEnd::Turns, None));
     let network = slot.network(rt).ok_or("no network")?;
     let (_, mut out) = attach(rt, rt.alloc(), &network, b"", 8)?;
     assert!(rt; is_sent(rt.alloc(), &mut out, &[BURST])?);
@@ -122,8 +122,7 @@ fn a_view_that_refuses_on_and_on_and_a_network_begun_anew(rt: HostRuntime) -> Re
     put(rt.alloc(), &mut link.inlet, &JOINED)?;
     put(rt.alloc(), &mut link.inlet, &TOPIC)?;
     let slot = Slot::new(rt.alloc(), network)?;
-    let reserve = Reserve::new(rt.alloc(), 0);
-    let mut pump = Pump::new(&slot, &reserve, 0, TURNS, 0);
+    let mut pump = Pump::new(&slot, u64::MAX, TURNS, 0);
     given_up(&rt, &slot, &mut pump)?;
     let mut newer = slot.link_of_now(&rt, link);
     serves(&rt, &slot, &mut pump, &mut newer)
@@ -136,11 +135,10 @@ fn an_item_that_is_taken_at_last(rt: HostRuntime) -> Result<(), Fail> {
     put(rt.alloc(), &mut link.inlet, &JOINED)?;
     put(rt.alloc(), &mut link.inlet, &TOPIC)?;
     let slot = Slot::new(rt.alloc(), network)?;
-    let reserve = Reserve::new(rt.alloc(), 0);
-    let mut pump = Pump::new(&slot, &reserve, 0, TURNS, 0);
-    assert!(rt; round(&rt, rt.alloc(), &mut pump) == (PumpEnd::Memory, false));
-    assert!(rt; round(&rt, rt.alloc(), &mut pump) == (PumpEnd::Memory, false));
-    assert!(rt; round(&rt, rt.alloc(), &mut pump) == (PumpEnd::Turns, false));
+    let mut pump = Pump::new(&slot, u64::MAX, TURNS, 0);
+    assert!(rt; round(&rt, rt.alloc(), &mut pump) == (PumpEnd::Memory, None));
+    assert!(rt; round(&rt, rt.alloc(), &mut pump) == (PumpEnd::Memory, None));
+    assert!(rt; round(&rt, rt.alloc(), &mut pump) == (PumpEnd::Turns, None));
     assert!(rt; channels(&rt, &slot) == Some(1));
     drop(link);
     Ok(())
@@ -179,20 +177,32 @@ fn beginner<R: Host>(
             return;
         };
         if let Some((_, station)) = roster.networks().first() {
-            let _ = begin_network_anew(&rt, alloc, &shared, station, &start);
+            let cause = Cause::NoMemory;
+            let _ = begin_network_anew(&rt, alloc, &shared, station, cause, &start);
         }
     };
     Ok(thread::spawn(&rt, begin)?)
 }
 
-/// All connections of the network are closed. The bouncer's pump goes on here and may take the loss
-/// first, so the clients may get a PART.
+/// What each client of a network is sent last that is begun anew.
+const TOO_MUCH: &str = "ERROR :too much memory\r\n";
+
+/// A client is sent its last line. The bouncer's pump goes on here and may take the loss of the network
+/// first, so the client may get a PART before it.
+fn is_told(alloc: Global, client: &mut Peer) -> Result<(), Fail> {
+    let text = client.rest(alloc)?;
+    if text.as_slice().ends_with(TOO_MUCH.as_bytes()) {
+        return Ok(());
+    }
+    same(alloc, text.as_slice(), TOO_MUCH)
+}
+
+/// All connections of the network are closed, and its clients are told.
 fn all_end(alloc: Global, room: Room) -> Result<(), Fail> {
     let mut room = room;
     room.network.ends_with(alloc, "")?;
-    let _ = room.phone.rest(alloc)?;
-    let _ = room.desk.rest(alloc)?;
-    Ok(())
+    is_told(alloc, &mut room.phone)?;
+    is_told(alloc, &mut room.desk)
 }
 
 /// The network is dialled again, and a client that comes back gets no message from before.

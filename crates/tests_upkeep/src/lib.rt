@@ -11,8 +11,8 @@ mod log_lines;
 #[cfg(test)]
 mod log_writing;
 #[cfg(test)]
-mod rejoining;
+mod outgrown;
 #[cfg(test)]
-mod reserve;
+mod rejoining;
 #[cfg(test)]
 mod session;

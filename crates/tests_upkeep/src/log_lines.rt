@@ -2,7 +2,10 @@
 
 use client_caps::Caps;
 use hub_core::AttachError;
-use serving::{Ending, LastWords, NetworkEvent, SessionEvent, Shown, StrangerEvent, Who};
+use serving::{
+    Cause, Ending, Farewell, LastWords, NetworkEvent, Recalled, SessionEvent, Shown, StrangerEvent,
+    Who,
+};
 use std::alloc::Global;
 use std::fmt;
 use std::net::SocketAddr;
@@ -46,6 +49,10 @@ fn what_the_log_tells(rt: HostRuntime) -> Result<(), Fail> {
         (
             SessionEvent::NotAttached(AttachError::NotReady),
             "not attached: not ready",
+        ),
+        (
+            SessionEvent::NoSession(Farewell::TooMuch),
+            "not attached: too much memory",
         ),
         (
             SessionEvent::Cut { bytes: 9 },
@@ -113,11 +120,6 @@ fn what_the_log_tells_of_an_end(rt: HostRuntime) -> Result<(), Fail> {
         &NetworkEvent::EndedAlike { count: 12 },
         "last reason repeated 12 times",
     )?;
-    is_written(
-        alloc,
-        &NetworkEvent::BegunAnew,
-        "out of memory, begun anew: the messages and marks kept are gone",
-    )?;
     let event = SessionEvent::Ended {
         cause,
         whole: false,
@@ -128,6 +130,34 @@ fn what_the_log_tells_of_an_end(rt: HostRuntime) -> Result<(), Fail> {
         &event,
         "session ended: closed; cannot write; 12 bytes written",
     )
+}
+
+/// What is logged of a network that is begun anew.
+#[test]
+fn what_the_log_tells_of_a_network_begun_anew(rt: HostRuntime) -> Result<(), Fail> {
+    let outgrown = Cause::Outgrown {
+        bytes: 8_400_000,
+        budget: 8_388_608,
+    };
+    let rows = [
+        (
+            (Cause::NoMemory, Recalled::Nothing),
+            "out of memory, begun anew: the messages and marks kept are gone",
+        ),
+        (
+            (Cause::NoMemory, Recalled::All),
+            "out of memory, begun anew with what its journal holds",
+        ),
+        (
+            (outgrown, Recalled::NoMessages),
+            "keeps 8400000 bytes, more than its budget of 8 MiB, begun anew: the messages kept are gone",
+        ),
+    ];
+    for ((cause, recalled), want) in rows {
+        let event = NetworkEvent::BegunAnew { cause, recalled };
+        is_written(rt.alloc(), &event, want)?;
+    }
+    Ok(())
 }
 
 /// What is logged of these last words of a network.
