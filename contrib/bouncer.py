@@ -1,5 +1,5 @@
-"""A running bnc with settings that change: reload, stop and a new start, for try_random.py and
-try_metrics.py."""
+"""A running bnc with settings that change: reload, stop and a new start, for try_random.py,
+try_metrics.py and try_budget.py."""
 
 import errno
 import hashlib

@@ -3,8 +3,8 @@
 # from nothing, runs the tests and has planted bugs refused. Then the programs that it built are
 # tried, side by side, since each of these trials waits more than it works: bnc on the cases, each
 # allocation refused in turn, a network and clients at random, clients that vanish, logins by SASL, what
-# else networks and proxies may ask, what is kept and played back, the figures, a journal over fifty
-# kills, and the demonstration. All of them are printed, and one that fails makes the gate fail. Last, if dist/ is
+# else networks and proxies may ask, a network that fills the memory, what is kept and played back, the
+# figures, a journal over fifty kills, and the demonstration. All of them are printed, and one that fails makes the gate fail. Last, if dist/ is
 # there, the program has to be the one that dist/ hands out, if its text and its kit are these.
 #
 # The planted bugs, each an edit in a crate's must-fail/, cost more than all else together, so they
@@ -27,7 +27,7 @@ contrib/files.sh > /dev/null
 # the groups, which take about as long as each other
 hub='hub_core welcome'
 lines='block_list client_caps irc_line irc_names irc_support net_view network_tables proxy_line
-    quick_view sasl tape_view'
+    quick_view sasl tape_view weights'
 journal='bnc_config figures first_settings frames history journal journal_files journal_writer
     profile_settings'
 sessions='commands hub_ends hub_runs hub_threads receipts sessions'
@@ -106,6 +106,7 @@ begin python3 contrib/try_random.py "$bnc" 1 20
 begin python3 contrib/try_vanished.py "$bnc"
 begin python3 contrib/try_sasl.py "$bnc"
 begin python3 contrib/try_networks.py "$bnc"
+begin python3 contrib/try_budget.py "$bnc"
 begin python3 contrib/try_profile.py "$bnc"
 begin python3 contrib/try_metrics.py "$bnc"
 begin python3 contrib/try_journal.py "$bnc" 1 50

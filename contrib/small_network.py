@@ -1,7 +1,7 @@
 """A small IRC network on the loopback range, bnc at it, and clients.
 
 For random_network.py, try_random.py, try_vanished.py, try_sasl.py, try_services.py, try_networks.py,
-try_metrics.py and demo.py.
+try_metrics.py, try_budget.py and demo.py.
 """
 
 import base64
