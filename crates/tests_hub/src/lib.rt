@@ -6,8 +6,6 @@
 #[cfg(test)]
 mod hub_rows;
 #[cfg(test)]
-mod kept_bytes;
-#[cfg(test)]
 mod late_attach;
 #[cfg(test)]
 mod once_refused;
